@@ -1,0 +1,10 @@
+pub mod Exactly
+pub mod Member
+pub mod Search
+pub mod Same
+pub mod Count
+pub mod Pairs
+pub mod Numbers
+pub mod Rounds
+pub mod Settle
+pub mod Chain
