@@ -16,3 +16,8 @@ pub mod ModelWalk
 pub mod Tests
 pub mod Declared
 pub mod LiteTests
+pub mod Clash
+pub mod Reply
+pub mod ReplyLaws
+pub mod ClashLaws
+pub mod LayoutLaws

@@ -198,6 +198,18 @@ module _ (𝓚 : Kind) (𝓣 : Tests 𝓚) where
             let g = ok .child-out B R (p .of) c in
             hung g (ok .down-out R s u i d) (r u v (end R) (record { from = m; to = l; of = sane .end-in B R (p .of) g }) k) (ok .up-out R v t i e)
 
+    -- a mark leads to a declared state
+    pub sheet-to : (n : ℕ) (s t : State) (B : Con) → s ∈ states → B ∈ concepts → T (sheet n s t B) → t ∈ states
+    unfolding sheet
+    sheet-to zero s t B m b h = rw (ok .states-same .is s t h) at m
+    sheet-to (suc n) s t B m b h = mean (round-out (sheet n) s t B h) (sheet-to n)
+      where
+        mean : Next (sheet n) s t B → ((s t : State) (B : Con) → s ∈ states → B ∈ concepts → T (sheet n s t B) → t ∈ states) → t ∈ states
+        mean (keeps k) r = r s t B m b k
+        mean (passes k) r = sane .test-in B s t (ok .test-out B s t b k)
+        mean (through u i k l) r = r u t B i b l
+        mean (under R u v i j l c d k e) r = sane .up-in R v t (ok .up-out R v t i e)
+
     place-in : (s t : State) (B : Con) → Place 𝓚 s t B → _∈_ {A = Spot} ((s, t), B) places
     unfolding places
     place-in s t B p = pairs-in (pairs-in (p .from) (p .to)) (p .of)
