@@ -2,6 +2,7 @@ pub mod Exactly
 pub mod Member
 pub mod Search
 pub mod Same
+pub mod Decide
 pub mod Count
 pub mod Pairs
 pub mod Numbers

@@ -21,3 +21,6 @@ pub mod Reply
 pub mod ReplyLaws
 pub mod ClashLaws
 pub mod LayoutLaws
+pub mod Calculate
+pub mod CalculateLaws
+pub mod OutcomeLaws

@@ -1,0 +1,164 @@
+-- Calculation: the answer to a library call, from the raw lent tables on, and what both areas hold after it.
+use mathlib.Core.Bool.{Bool, true, false, not}
+use mathlib.Core.List.{List}
+use Prim.Native.Nat.{ℕ, _*_, _/_, _%_}
+use lib.Dec.{leb, ltb, eqb}
+use lib.ListN.{length}
+use Rattle.kinds.specs.declared.ConceptName.{ConceptName}
+use Rattle.kinds.specs.declared.RoleName.{RoleName}
+use Rattle.kinds.specs.declared.Individual.{Individual}
+use Rattle.kinds.specs.declared.State.{State}
+use Rattle.kinds.specs.declared.SignedRole.{SignedRole}
+use Rattle.kinds.specs.declared.Concept.{Concept}
+use Rattle.kinds.specs.declared.Counts.{Counts}
+use Rattle.kinds.specs.declared.Answer.{Answer}
+use Rattle.kinds.specs.declared.Answer.the-variants.{No, Yes, Contradiction, AllowanceSpent, BadCount, BadTable, BadNumber, EqualEnds, BadAsk}
+use Rattle.kinds.specs.Kinds.{mostNames, mostRoles, mostIndividuals, mostStates}
+use Rattle.laws.specs.Search.{and, every, pick}
+use Rattle.meaning.specs.Collection.{Collection, Letter, role, test, Step, step}
+use Rattle.meaning.specs.Lite.{lite}
+use Rattle.meaning.specs.Lent.{Tables, Call, collectionOf, kinds, ruleWidth, conceptFactWidth, roleFactWidth, stepWidth, finalWidth, mostConceptRules, mostConceptExclusions, mostRoleRules, mostRoleExclusions, mostConceptFacts, mostRoleFacts, mostSteps, mostFinals}
+use Rattle.meaning.specs.Layout.{areaLength, zeros}
+use Rattle.meaning.specs.LayoutLaws.{stateDeclared, conceptDeclared, image}
+use Rattle.meaning.specs.Tests.{sheet, work}
+use Rattle.meaning.specs.LiteTests.{sameIndividual, liteTests}
+use Rattle.meaning.specs.Reply.{clash, reaches}
+
+unfoldable pub countsFit : Counts → Bool
+countsFit c =
+    let e = ltb (c .start .0) (c .states) in
+    let d = and (leb (c .states) mostStates) e in
+    let b = and (leb (c .individuals) mostIndividuals) d in
+    let a = and (leb (c .roles) mostRoles) b in
+    and (leb (c .names) mostNames) a
+
+unfoldable pub whole : ℕ → ℕ → List ℕ → Bool
+whole width most t = let b = leb (length t / width) most in and (eqb (length t % width) 0) b
+
+unfoldable pub tablesOk : Call → Bool
+tablesOk c =
+    let t = c .tables in
+    let j = eqb (length (c .spare)) areaLength in
+    let i = and (eqb (length (c .area)) areaLength) j in
+    let h = and (whole finalWidth mostFinals (t .finals)) i in
+    let g = and (whole stepWidth mostSteps (t .steps)) h in
+    let f = and (whole roleFactWidth mostRoleFacts (t .role-facts)) g in
+    let e = and (whole conceptFactWidth mostConceptFacts (t .concept-facts)) f in
+    let d = and (whole ruleWidth mostRoleExclusions (t .role-exclusions)) e in
+    let b = and (whole ruleWidth mostRoleRules (t .role-rules)) d in
+    let a = and (whole ruleWidth mostConceptExclusions (t .concept-exclusions)) b in
+    and (whole ruleWidth mostConceptRules (t .concept-rules)) a
+
+abbrev pub nameDeclared : Counts → ConceptName → Bool
+nameDeclared c A = ltb (A .0) (c .names)
+
+abbrev pub signedDeclared : Counts → SignedRole → Bool
+signedDeclared c R = ltb (R .0) (2 * c .roles)
+
+abbrev pub individualDeclared : Counts → Individual → Bool
+individualDeclared c a = ltb (a .0) (c .individuals)
+
+unfoldable pub conceptsDeclared : Counts → Concept × Concept → Bool
+conceptsDeclared c r = let b = conceptDeclared c (r .1) in and (conceptDeclared c (r .0)) b
+
+unfoldable pub rolesDeclared : Counts → SignedRole × SignedRole → Bool
+rolesDeclared c r = let b = signedDeclared c (r .1) in and (signedDeclared c (r .0)) b
+
+unfoldable pub conceptFactDeclared : Counts → ConceptName × Individual → Bool
+conceptFactDeclared c f = let b = individualDeclared c (f .1) in and (nameDeclared c (f .0)) b
+
+unfoldable pub roleFactDeclared : Counts → RoleName × Individual × Individual → Bool
+roleFactDeclared c f =
+    let b = individualDeclared c (f .2) in
+    let a = and (individualDeclared c (f .1)) b in
+    and (ltb (f .0 .0) (c .roles)) a
+
+abbrev pub letterDeclared : Counts → Letter → Bool
+letterDeclared c (role S) = signedDeclared c S
+letterDeclared c (test A) = nameDeclared c A
+
+abbrev pub stepDeclared : Counts → Step → Bool
+stepDeclared c (step s l t) = let b = stateDeclared c t in let a = and (letterDeclared c l) b in and (stateDeclared c s) a
+
+unfoldable pub numbersDeclared : Collection → Bool
+numbersDeclared 𝓒 =
+    let n = 𝓒 .counts in
+    let g = every (𝓒 .finals) (stateDeclared n) in
+    let f = and (every (𝓒 .steps) (stepDeclared n)) g in
+    let e = and (every (𝓒 .role-facts) (roleFactDeclared n)) f in
+    let d = and (every (𝓒 .concept-facts) (conceptFactDeclared n)) e in
+    let c = and (every (𝓒 .role-exclusions) (rolesDeclared n)) d in
+    let b = and (every (𝓒 .role-rules) (rolesDeclared n)) c in
+    let a = and (every (𝓒 .concept-exclusions) (conceptsDeclared n)) b in
+    and (every (𝓒 .concept-rules) (conceptsDeclared n)) a
+
+abbrev pub kindOk : ℕ → Bool
+kindOk k = leb k 1
+
+unfoldable pub numbersOk : Call → Bool
+numbersOk c = let b = every (kinds (c .tables .steps)) kindOk in and (numbersDeclared (collectionOf c)) b
+
+abbrev pub endsDiffer : RoleName × Individual × Individual → Bool
+endsDiffer f = not (sameIndividual (f .1) (f .2))
+
+unfoldable pub endsOk : Call → Bool
+endsOk c = every (collectionOf c .role-facts) endsDiffer
+
+unfoldable pub askOk : Call → Bool
+askOk c = let b = individualDeclared (c .counts) (c .second) in and (individualDeclared (c .counts) (c .first)) b
+
+-- the library's order, one test after another
+module _ (c : Call) where
+  abbrev pub needs : ℕ × (State → State → Concept → Bool)
+  needs = work (lite (collectionOf c)) (liteTests (collectionOf c))
+
+  unfoldable pub afterRounds : Answer
+  afterRounds = pick (reaches (collectionOf c) (needs .1) (c .first) (c .second)) (Yes (needs .0)) (No (needs .0))
+
+  unfoldable pub afterClash : Answer
+  afterClash = let r = afterRounds in pick (ltb (c .allowance) (needs .0)) (AllowanceSpent (c .allowance)) r
+
+  unfoldable pub afterAsk : Answer
+  afterAsk = let r = afterClash in pick (clash (collectionOf c)) Contradiction r
+
+  unfoldable pub afterEnds : Answer
+  afterEnds = let r = afterAsk in pick (askOk c) r BadAsk
+
+  unfoldable pub afterNumbers : Answer
+  afterNumbers = let r = afterEnds in pick (endsOk c) r EqualEnds
+
+  unfoldable pub afterTables : Answer
+  afterTables = let r = afterNumbers in pick (numbersOk c) r BadNumber
+
+  unfoldable pub afterCounts : Answer
+  afterCounts = let r = afterTables in pick (tablesOk c) r BadTable
+
+  unfoldable pub answer : Answer
+  answer = let r = afterCounts in pick (countsFit (c .counts)) r BadCount
+
+  -- the area that holds the sheet after n rounds
+  abbrev pub sheetArea : ℕ → List ℕ
+  sheetArea n = image (c .counts) (sheet (lite (collectionOf c)) (liteTests (collectionOf c)) n)
+
+  -- both areas after an answer: the sheet and zeros after 0, 1 and 3; as they came after all else
+  abbrev pub areaAfter : Answer → List ℕ
+  areaAfter (No rounds) = sheetArea rounds
+  areaAfter (Yes rounds) = sheetArea rounds
+  areaAfter Contradiction = c .area
+  areaAfter (AllowanceSpent allowance) = sheetArea allowance
+  areaAfter BadCount = c .area
+  areaAfter BadTable = c .area
+  areaAfter BadNumber = c .area
+  areaAfter EqualEnds = c .area
+  areaAfter BadAsk = c .area
+
+  abbrev pub spareAfter : Answer → List ℕ
+  spareAfter (No rounds) = zeros
+  spareAfter (Yes rounds) = zeros
+  spareAfter Contradiction = c .spare
+  spareAfter (AllowanceSpent allowance) = zeros
+  spareAfter BadCount = c .spare
+  spareAfter BadTable = c .spare
+  spareAfter BadNumber = c .spare
+  spareAfter EqualEnds = c .spare
+  spareAfter BadAsk = c .spare

@@ -1,0 +1,191 @@
+-- What is computed of a call is its outcome, and a call has no other: every input has an outcome, and only one.
+use mathlib.Core.Path.{_≡_, refl, sym, ap, _∙_}
+use mathlib.Core.Bool.{Bool, true, false, not}
+use mathlib.Core.Logic.{_↔_, _⊎_, inl, inr}
+use mathlib.Core.List.{List}
+use Prim.Native.Nat.{ℕ, _*_, _/_, _%_, _≤_, _<_}
+use native.Mathlib.Omega.{arith}
+use lib.Dec.{T, T-not, not-T, leb, leb→le, le→leb, ltb, ltb→lt, lt→ltb, eqb, eqb→eq, eqb-refl}
+use lib.ListN.{length}
+use borrow.Author.Tests.{lt-ltb, le-ltb, ltb-true, ltb-false}
+use Rattle.kinds.specs.declared.ConceptName.{ConceptName}
+use Rattle.kinds.specs.declared.RoleName.{RoleName}
+use Rattle.kinds.specs.declared.Individual.{Individual}
+use Rattle.kinds.specs.declared.State.{State}
+use Rattle.kinds.specs.declared.SignedRole.{SignedRole}
+use Rattle.kinds.specs.declared.Concept.{Concept}
+use Rattle.kinds.specs.declared.Counts.{Counts}
+use Rattle.kinds.specs.declared.Answer.{Answer}
+use Rattle.kinds.specs.declared.Answer.the-variants.{No, Yes, Contradiction, AllowanceSpent, BadCount, BadTable, BadNumber, EqualEnds, BadAsk}
+use Rattle.kinds.specs.Kinds.{mostNames, mostRoles, mostIndividuals, mostStates, CountsFit, StateDeclared, ConceptDeclared, IndividualDeclared}
+use Rattle.laws.specs.Member.{_∈_}
+use Rattle.laws.specs.Search.{and, every, pick, passes, fails, passed, failed}
+use Rattle.laws.specs.Exactly.{Exactly, exactly-same, below-exactly}
+use Rattle.laws.specs.Decide.{exactly, exactly-out, exactly-in, exactly-not, exactly-and, exactly-every, most-exactly, equal-exactly, same-exactly, not-exactly}
+use Rattle.meaning.specs.Collection.{Collection, Letter, role, test, Step, step, StepDeclared, LetterDeclared, ConceptsDeclared, RolesDeclared, ConceptFactDeclared, RoleFactDeclared, NumbersDeclared, WellFormed}
+use Rattle.meaning.specs.Kind.{Sane}
+use Rattle.meaning.specs.Sheet.{Mark, Needed}
+use Rattle.meaning.specs.SheetLaws.{mark-place, mark→loop, loop→mark, needed-once}
+use Rattle.meaning.specs.Tree.{Loop}
+use Rattle.meaning.specs.Lite.{lite, validConcepts, declaredStates}
+use Rattle.meaning.specs.Lent.{Tables, Call, collectionOf, kinds, Whole, CountsOk, TablesOk, NumbersOk, EndsOk, EndsDiffer, AskOk, Sound, ruleWidth, conceptFactWidth, roleFactWidth, stepWidth, finalWidth, mostConceptRules, mostConceptExclusions, mostRoleRules, mostRoleExclusions, mostConceptFacts, mostRoleFacts, mostSteps, mostFinals}
+use Rattle.meaning.specs.Layout.{areaLength, zeros, Lays}
+use Rattle.meaning.specs.LayoutLaws.{stateDeclared, conceptDeclared, conceptDeclared-in, conceptDeclared-out, image, image-lays, lays-once}
+use Rattle.meaning.specs.Outcome.{Outcome, bad-count, bad-table, bad-number, equal-ends, bad-ask, contradiction, spent, says-yes, says-no, Breaks, Reached, RoundsNeeded, HoldsSheet}
+use Rattle.meaning.specs.Declared.{state-in, state-out, concept-in, concept-out, lite-sane}
+use Rattle.meaning.specs.Tests.{sheet, work, mark-in, mark-out, sheet-to, works}
+use Rattle.meaning.specs.LiteTests.{sameIndividual, individual-same, liteTests, lite-decides}
+use Rattle.meaning.specs.Reply.{clash, reaches}
+use Rattle.meaning.specs.ReplyLaws.{reaches-is}
+use Rattle.meaning.specs.ClashLaws.{clash-is}
+use Rattle.meaning.specs.Calculate.{countsFit, whole, tablesOk, nameDeclared, signedDeclared, individualDeclared, conceptsDeclared, rolesDeclared, conceptFactDeclared, roleFactDeclared, letterDeclared, stepDeclared, numbersDeclared, kindOk, numbersOk, endsDiffer, endsOk, askOk, needs, afterRounds, afterClash, afterAsk, afterEnds, afterNumbers, afterTables, afterCounts, answer, sheetArea, areaAfter, spareAfter}
+
+-- test 4
+pub counts-test : (c : Counts) → Exactly (countsFit c) (CountsFit c)
+unfolding countsFit
+counts-test c =
+    exactly-same (exactly-and (most-exactly (c .names) mostNames) (exactly-and (most-exactly (c .roles) mostRoles) (exactly-and (most-exactly (c .individuals) mostIndividuals) (exactly-and (most-exactly (c .states) mostStates) (below-exactly (c .start .0) (c .states))))))
+    (λ h. record { names = h .0; roles = h .1 .0; individuals = h .1 .1 .0; states = h .1 .1 .1 .0; start = h .1 .1 .1 .1 })
+    (λ h. (h .names, (h .roles, (h .individuals, (h .states, h .start)))))
+
+-- test 5
+whole-test : (width most : ℕ) (t : List ℕ) → Exactly (whole width most t) (Whole width most t)
+unfolding whole
+whole-test width most t =
+    exactly-same (exactly-and (equal-exactly (length t % width) 0) (most-exactly (length t / width) most))
+    (λ h. record { unbroken = h .0; few = h .1 })
+    (λ h. (h .unbroken, h .few))
+
+pub tables-test : (c : Call) → Exactly (tablesOk c) (TablesOk c)
+unfolding tablesOk
+tables-test c =
+    let t = c .tables in
+    exactly-same
+    (exactly-and (whole-test ruleWidth mostConceptRules (t .concept-rules)) (exactly-and (whole-test ruleWidth mostConceptExclusions (t .concept-exclusions))
+    (exactly-and (whole-test ruleWidth mostRoleRules (t .role-rules)) (exactly-and (whole-test ruleWidth mostRoleExclusions (t .role-exclusions))
+    (exactly-and (whole-test conceptFactWidth mostConceptFacts (t .concept-facts)) (exactly-and (whole-test roleFactWidth mostRoleFacts (t .role-facts))
+    (exactly-and (whole-test stepWidth mostSteps (t .steps)) (exactly-and (whole-test finalWidth mostFinals (t .finals))
+    (exactly-and (equal-exactly (length (c .area)) areaLength) (equal-exactly (length (c .spare)) areaLength))))))))))
+    (λ h. record {
+      concept-rules = h .0;
+      concept-exclusions = h .1 .0;
+      role-rules = h .1 .1 .0;
+      role-exclusions = h .1 .1 .1 .0;
+      concept-facts = h .1 .1 .1 .1 .0;
+      role-facts = h .1 .1 .1 .1 .1 .0;
+      steps = h .1 .1 .1 .1 .1 .1 .0;
+      finals = h .1 .1 .1 .1 .1 .1 .1 .0;
+      area = h .1 .1 .1 .1 .1 .1 .1 .1 .0;
+      spare = h .1 .1 .1 .1 .1 .1 .1 .1 .1;
+    })
+    (λ h. (h .concept-rules, (h .concept-exclusions, (h .role-rules, (h .role-exclusions, (h .concept-facts, (h .role-facts, (h .steps, (h .finals, (h .area, h .spare))))))))))
+
+-- test 6
+module _ (c : Counts) where
+  concept-test : (C : Concept) → Exactly (conceptDeclared c C) (ConceptDeclared c C)
+  concept-test C = exactly (conceptDeclared c C) (conceptDeclared-out c C) (conceptDeclared-in c C)
+
+  concepts-test : (r : Concept × Concept) → Exactly (conceptsDeclared c r) (ConceptsDeclared c r)
+  unfolding conceptsDeclared
+  concepts-test r = exactly-and (concept-test (r .0)) (concept-test (r .1))
+
+  roles-test : (r : SignedRole × SignedRole) → Exactly (rolesDeclared c r) (RolesDeclared c r)
+  unfolding rolesDeclared
+  roles-test r = exactly-and (below-exactly (r .0 .0) (2 * c .roles)) (below-exactly (r .1 .0) (2 * c .roles))
+
+  concept-fact-test : (f : ConceptName × Individual) → Exactly (conceptFactDeclared c f) (ConceptFactDeclared c f)
+  unfolding conceptFactDeclared
+  concept-fact-test f = exactly-and (below-exactly (f .0 .0) (c .names)) (below-exactly (f .1 .0) (c .individuals))
+
+  role-fact-test : (f : RoleName × Individual × Individual) → Exactly (roleFactDeclared c f) (RoleFactDeclared c f)
+  unfolding roleFactDeclared
+  role-fact-test f =
+      exactly-same (exactly-and (below-exactly (f .0 .0) (c .roles)) (exactly-and (below-exactly (f .1 .0) (c .individuals)) (below-exactly (f .2 .0) (c .individuals))))
+      (λ h. (h .0, h .1 .0, h .1 .1)) (λ h. (h .0, (h .1, h .2)))
+
+  letter-test : (l : Letter) → Exactly (letterDeclared c l) (LetterDeclared c l)
+  letter-test (role S) = below-exactly (S .0) (2 * c .roles)
+  letter-test (test A) = below-exactly (A .0) (c .names)
+
+  step-test : (e : Step) → Exactly (stepDeclared c e) (StepDeclared c e)
+  step-test (step s l t) =
+      exactly-same (exactly-and (below-exactly (s .0) (c .states)) (exactly-and (letter-test l) (below-exactly (t .0) (c .states))))
+      (λ h. (h .0, h .1 .0, h .1 .1)) (λ h. (h .0, (h .1, h .2)))
+
+  state-test : (s : State) → Exactly (stateDeclared c s) (StateDeclared c s)
+  state-test s = below-exactly (s .0) (c .states)
+
+declared-test : (𝓒 : Collection) → Exactly (numbersDeclared 𝓒) (NumbersDeclared 𝓒)
+unfolding numbersDeclared
+declared-test 𝓒 =
+    let c = 𝓒 .counts in
+    exactly-same
+    (exactly-and (exactly-every (𝓒 .concept-rules) (conceptsDeclared c) (ConceptsDeclared c) (concepts-test c))
+    (exactly-and (exactly-every (𝓒 .concept-exclusions) (conceptsDeclared c) (ConceptsDeclared c) (concepts-test c))
+    (exactly-and (exactly-every (𝓒 .role-rules) (rolesDeclared c) (RolesDeclared c) (roles-test c))
+    (exactly-and (exactly-every (𝓒 .role-exclusions) (rolesDeclared c) (RolesDeclared c) (roles-test c))
+    (exactly-and (exactly-every (𝓒 .concept-facts) (conceptFactDeclared c) (ConceptFactDeclared c) (concept-fact-test c))
+    (exactly-and (exactly-every (𝓒 .role-facts) (roleFactDeclared c) (RoleFactDeclared c) (role-fact-test c))
+    (exactly-and (exactly-every (𝓒 .steps) (stepDeclared c) (StepDeclared c) (step-test c))
+    (exactly-every (𝓒 .finals) (stateDeclared c) (StateDeclared c) (state-test c)))))))))
+    (λ h. record {
+      concept-rules = h .0;
+      concept-exclusions = h .1 .0;
+      role-rules = h .1 .1 .0;
+      role-exclusions = h .1 .1 .1 .0;
+      concept-facts = h .1 .1 .1 .1 .0;
+      role-facts = h .1 .1 .1 .1 .1 .0;
+      steps = h .1 .1 .1 .1 .1 .1 .0;
+      finals = h .1 .1 .1 .1 .1 .1 .1;
+    })
+    (λ h. (h .concept-rules, (h .concept-exclusions, (h .role-rules, (h .role-exclusions, (h .concept-facts, (h .role-facts, (h .steps, h .finals))))))))
+
+pub numbers-test : (c : Call) → Exactly (numbersOk c) (NumbersOk c)
+unfolding numbersOk
+numbers-test c =
+    exactly-same (exactly-and (declared-test (collectionOf c)) (exactly-every (kinds (c .tables .steps)) kindOk (λ k. k ≤ 1) (λ k. most-exactly k 1)))
+    (λ h. record { declared = h .0; step-kinds = h .1 })
+    (λ h. (h .declared, h .step-kinds))
+
+-- test 7
+pub ends-test : (c : Call) → Exactly (endsOk c) (EndsOk c)
+unfolding endsOk
+ends-test c = exactly-every (collectionOf c .role-facts) endsDiffer EndsDiffer (λ f. not-exactly (same-exactly sameIndividual individual-same (f .1) (f .2)))
+
+-- test 8
+pub ask-test : (c : Call) → Exactly (askOk c) (AskOk c)
+unfolding askOk
+ask-test c = exactly-and (below-exactly (c .first .0) (c .counts .individuals)) (below-exactly (c .second .0) (c .counts .individuals))
+
+-- the sheet of a well-formed collection, as it is computed
+module _ (𝓒 : Collection) (ok : WellFormed 𝓒) where
+  place-declared : (n : ℕ) (s t : State) (B : Concept) → Mark (lite 𝓒) n s t B → StateDeclared (𝓒 .counts) s × StateDeclared (𝓒 .counts) t × ConceptDeclared (𝓒 .counts) B
+  place-declared n s t B m =
+      let p = mark-place (lite 𝓒) n s t B m in
+      (state-out (𝓒 .counts) s (p .from), state-out (𝓒 .counts) t (p .to), concept-out (𝓒 .counts) B (p .of))
+
+  pub sheet-lays : (n : ℕ) → Lays (Mark (lite 𝓒) n) (image (𝓒 .counts) (sheet (lite 𝓒) (liteTests 𝓒) n))
+  sheet-lays n =
+      image-lays (𝓒 .counts) (ok .counts) (sheet (lite 𝓒) (liteTests 𝓒) n) (Mark (lite 𝓒) n) (place-declared n)
+      (λ s t B m. mark-in (lite 𝓒) (liteTests 𝓒) (lite-decides 𝓒 (ok .numbers)) (lite-sane 𝓒 (ok .numbers)) n s t B m)
+      (λ s t B i j d h. mark-out (lite 𝓒) (liteTests 𝓒) (lite-decides 𝓒 (ok .numbers)) (lite-sane 𝓒 (ok .numbers)) n s t B (record { from = state-in (𝓒 .counts) s i; to = state-in (𝓒 .counts) t j; of = concept-in (𝓒 .counts) B d }) h)
+
+  abbrev worked : ℕ × (State → State → Concept → Bool)
+  worked = work (lite 𝓒) (liteTests 𝓒)
+
+  pub worked-needed : Needed (lite 𝓒) (worked .0)
+  worked-needed = works (lite 𝓒) (liteTests 𝓒) (lite-decides 𝓒 (ok .numbers)) (lite-sane 𝓒 (ok .numbers)) .0
+
+  worked-sheet : worked .1 ≡ sheet (lite 𝓒) (liteTests 𝓒) (worked .0)
+  worked-sheet = works (lite 𝓒) (liteTests 𝓒) (lite-decides 𝓒 (ok .numbers)) (lite-sane 𝓒 (ok .numbers)) .1
+
+  pub worked-out : (s t : State) (B : Concept) → s ∈ declaredStates (𝓒 .counts) → B ∈ validConcepts (𝓒 .counts) → T (worked .1 s t B) → Loop (lite 𝓒) B s t
+  worked-out s t B m b h =
+      let k : T (sheet (lite 𝓒) (liteTests 𝓒) (worked .0) s t B) = rw worked-sheet at h in
+      let j = sheet-to (lite 𝓒) (liteTests 𝓒) (lite-decides 𝓒 (ok .numbers)) (lite-sane 𝓒 (ok .numbers)) (worked .0) s t B m b k in
+      mark→loop (lite 𝓒) (worked .0) s t B (mark-out (lite 𝓒) (liteTests 𝓒) (lite-decides 𝓒 (ok .numbers)) (lite-sane 𝓒 (ok .numbers)) (worked .0) s t B (record { from = m; to = j; of = b }) k)
+
+  pub worked-in : (s t : State) (B : Concept) → s ∈ declaredStates (𝓒 .counts) → B ∈ validConcepts (𝓒 .counts) → Loop (lite 𝓒) B s t → T (worked .1 s t B)
+  worked-in s t B m b l =
+      rw worked-sheet
+      (mark-in (lite 𝓒) (liteTests 𝓒) (lite-decides 𝓒 (ok .numbers)) (lite-sane 𝓒 (ok .numbers)) (worked .0) s t B (loop→mark (lite 𝓒) (lite-sane 𝓒 (ok .numbers)) (worked .0) (worked-needed .holds) l b m))
