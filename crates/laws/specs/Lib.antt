@@ -6,6 +6,7 @@ pub mod Decide
 pub mod Count
 pub mod Pairs
 pub mod Numbers
+pub mod Select
 pub mod Rounds
 pub mod Settle
 pub mod Chain

@@ -17,7 +17,7 @@ use Rattle.kinds.specs.Kinds.{mostNames, mostRoles, mostIndividuals, mostStates
 use Rattle.laws.specs.Search.{and, every, pick}
 use Rattle.meaning.specs.Collection.{Collection, Letter, role, test, Step, step}
 use Rattle.meaning.specs.Lite.{lite}
-use Rattle.meaning.specs.Lent.{Tables, Call, collectionOf, kinds, ruleWidth, conceptFactWidth, roleFactWidth, stepWidth, finalWidth, mostConceptRules, mostConceptExclusions, mostRoleRules, mostRoleExclusions, mostConceptFacts, mostRoleFacts, mostSteps, mostFinals}
+use Rattle.meaning.specs.Lent.{Tables, Call, collection, collectionOf, kinds, ruleWidth, conceptFactWidth, roleFactWidth, stepWidth, finalWidth, mostConceptRules, mostConceptExclusions, mostRoleRules, mostRoleExclusions, mostConceptFacts, mostRoleFacts, mostSteps, mostFinals}
 use Rattle.meaning.specs.Layout.{areaLength, zeros}
 use Rattle.meaning.specs.LayoutLaws.{stateDeclared, conceptDeclared, image}
 use Rattle.meaning.specs.Tests.{sheet, work}
@@ -35,19 +35,22 @@ countsFit c =
 unfoldable pub whole : ℕ → ℕ → List ℕ → Bool
 whole width most t = let b = leb (length t / width) most in and (eqb (length t % width) 0) b
 
-unfoldable pub tablesOk : Call → Bool
-tablesOk c =
-    let t = c .tables in
-    let j = eqb (length (c .spare)) areaLength in
-    let i = and (eqb (length (c .area)) areaLength) j in
-    let h = and (whole finalWidth mostFinals (t .finals)) i in
-    let g = and (whole stepWidth mostSteps (t .steps)) h in
-    let f = and (whole roleFactWidth mostRoleFacts (t .role-facts)) g in
-    let e = and (whole conceptFactWidth mostConceptFacts (t .concept-facts)) f in
-    let d = and (whole ruleWidth mostRoleExclusions (t .role-exclusions)) e in
-    let b = and (whole ruleWidth mostRoleRules (t .role-rules)) d in
+unfoldable pub shapesOk : Tables → Bool
+shapesOk t =
+    let g = whole finalWidth mostFinals (t .finals) in
+    let f = and (whole stepWidth mostSteps (t .steps)) g in
+    let e = and (whole roleFactWidth mostRoleFacts (t .role-facts)) f in
+    let d = and (whole conceptFactWidth mostConceptFacts (t .concept-facts)) e in
+    let c = and (whole ruleWidth mostRoleExclusions (t .role-exclusions)) d in
+    let b = and (whole ruleWidth mostRoleRules (t .role-rules)) c in
     let a = and (whole ruleWidth mostConceptExclusions (t .concept-exclusions)) b in
     and (whole ruleWidth mostConceptRules (t .concept-rules)) a
+
+unfoldable pub areasOk : Call → Bool
+areasOk c = let b = eqb (length (c .spare)) areaLength in and (eqb (length (c .area)) areaLength) b
+
+unfoldable pub tablesOk : Call → Bool
+tablesOk c = let b = areasOk c in and (shapesOk (c .tables)) b
 
 abbrev pub nameDeclared : Counts → ConceptName → Bool
 nameDeclared c A = ltb (A .0) (c .names)
@@ -95,40 +98,43 @@ numbersDeclared 𝓒 =
 abbrev pub kindOk : ℕ → Bool
 kindOk k = leb k 1
 
-unfoldable pub numbersOk : Call → Bool
-numbersOk c = let b = every (kinds (c .tables .steps)) kindOk in and (numbersDeclared (collectionOf c)) b
+unfoldable pub numbersOk : Counts → Tables → Bool
+numbersOk c t = let b = every (kinds (t .steps)) kindOk in and (numbersDeclared (collection c t)) b
 
 abbrev pub endsDiffer : RoleName × Individual × Individual → Bool
 endsDiffer f = not (sameIndividual (f .1) (f .2))
 
-unfoldable pub endsOk : Call → Bool
-endsOk c = every (collectionOf c .role-facts) endsDiffer
+unfoldable pub endsOk : Collection → Bool
+endsOk 𝓒 = every (𝓒 .role-facts) endsDiffer
 
-unfoldable pub askOk : Call → Bool
-askOk c = let b = individualDeclared (c .counts) (c .second) in and (individualDeclared (c .counts) (c .first)) b
+unfoldable pub askOk : Counts → Individual → Individual → Bool
+askOk c a b = let r = individualDeclared c b in and (individualDeclared c a) r
 
--- the library's order, one test after another
-module _ (c : Call) where
-  abbrev pub needs : ℕ × (State → State → Concept → Bool)
-  needs = work (lite (collectionOf c)) (liteTests (collectionOf c))
+-- the rounds needed, and the closed sheet
+abbrev pub needs : Collection → ℕ × (State → State → Concept → Bool)
+needs 𝓒 = work (lite 𝓒) (liteTests 𝓒)
 
+-- the answer to a sound call: 2, 3, then 1 or 0
+module _ (𝓒 : Collection) (a b : Individual) (allowance : ℕ) where
   unfoldable pub afterRounds : Answer
-  afterRounds = pick (reaches (collectionOf c) (needs .1) (c .first) (c .second)) (Yes (needs .0)) (No (needs .0))
+  afterRounds = pick (reaches 𝓒 (needs 𝓒 .1) a b) (Yes (needs 𝓒 .0)) (No (needs 𝓒 .0))
 
   unfoldable pub afterClash : Answer
-  afterClash = let r = afterRounds in pick (ltb (c .allowance) (needs .0)) (AllowanceSpent (c .allowance)) r
+  afterClash = let r = afterRounds in pick (ltb allowance (needs 𝓒 .0)) (AllowanceSpent allowance) r
 
-  unfoldable pub afterAsk : Answer
-  afterAsk = let r = afterClash in pick (clash (collectionOf c)) Contradiction r
+  unfoldable pub soundAnswer : Answer
+  soundAnswer = let r = afterClash in pick (clash 𝓒) Contradiction r
 
+-- the library's order, one test after another: 4, 5, 6, 7, 8, and then the answer to a sound call
+module _ (c : Call) where
   unfoldable pub afterEnds : Answer
-  afterEnds = let r = afterAsk in pick (askOk c) r BadAsk
+  afterEnds = let r = soundAnswer (collectionOf c) (c .first) (c .second) (c .allowance) in pick (askOk (c .counts) (c .first) (c .second)) r BadAsk
 
   unfoldable pub afterNumbers : Answer
-  afterNumbers = let r = afterEnds in pick (endsOk c) r EqualEnds
+  afterNumbers = let r = afterEnds in pick (endsOk (collectionOf c)) r EqualEnds
 
   unfoldable pub afterTables : Answer
-  afterTables = let r = afterNumbers in pick (numbersOk c) r BadNumber
+  afterTables = let r = afterNumbers in pick (numbersOk (c .counts) (c .tables)) r BadNumber
 
   unfoldable pub afterCounts : Answer
   afterCounts = let r = afterTables in pick (tablesOk c) r BadTable

@@ -28,7 +28,7 @@ use Rattle.meaning.specs.Sheet.{Mark, Needed}
 use Rattle.meaning.specs.SheetLaws.{mark-place, mark→loop, loop→mark, needed-once}
 use Rattle.meaning.specs.Tree.{Loop}
 use Rattle.meaning.specs.Lite.{lite, validConcepts, declaredStates}
-use Rattle.meaning.specs.Lent.{Tables, Call, collectionOf, kinds, Whole, CountsOk, TablesOk, NumbersOk, EndsOk, EndsDiffer, AskOk, Sound, ruleWidth, conceptFactWidth, roleFactWidth, stepWidth, finalWidth, mostConceptRules, mostConceptExclusions, mostRoleRules, mostRoleExclusions, mostConceptFacts, mostRoleFacts, mostSteps, mostFinals}
+use Rattle.meaning.specs.Lent.{Tables, Call, collectionOf, kinds, Whole, CountsOk, ShapesOk, TablesOk, NumbersOk, EndsOk, EndsDiffer, AskOk, Sound, ruleWidth, conceptFactWidth, roleFactWidth, stepWidth, finalWidth, mostConceptRules, mostConceptExclusions, mostRoleRules, mostRoleExclusions, mostConceptFacts, mostRoleFacts, mostSteps, mostFinals}
 use Rattle.meaning.specs.Layout.{areaLength, zeros, Lays}
 use Rattle.meaning.specs.LayoutLaws.{stateDeclared, conceptDeclared, conceptDeclared-in, conceptDeclared-out, image, image-lays, lays-once}
 use Rattle.meaning.specs.Outcome.{Outcome, bad-count, bad-table, bad-number, equal-ends, bad-ask, contradiction, spent, says-yes, says-no, Breaks, Reached, RoundsNeeded, HoldsSheet}
@@ -38,7 +38,7 @@ use Rattle.meaning.specs.LiteTests.{sameIndividual, individual-same, lit
 use Rattle.meaning.specs.Reply.{clash, reaches}
 use Rattle.meaning.specs.ReplyLaws.{reaches-is}
 use Rattle.meaning.specs.ClashLaws.{clash-is}
-use Rattle.meaning.specs.Calculate.{countsFit, whole, tablesOk, nameDeclared, signedDeclared, individualDeclared, conceptsDeclared, rolesDeclared, conceptFactDeclared, roleFactDeclared, letterDeclared, stepDeclared, numbersDeclared, kindOk, numbersOk, endsDiffer, endsOk, askOk, needs, afterRounds, afterClash, afterAsk, afterEnds, afterNumbers, afterTables, afterCounts, answer, sheetArea, areaAfter, spareAfter}
+use Rattle.meaning.specs.Calculate.{countsFit, whole, shapesOk, areasOk, tablesOk, nameDeclared, signedDeclared, individualDeclared, conceptsDeclared, rolesDeclared, conceptFactDeclared, roleFactDeclared, letterDeclared, stepDeclared, numbersDeclared, kindOk, numbersOk, endsDiffer, endsOk, askOk, needs}
 
 -- test 4
 pub counts-test : (c : Counts) → Exactly (countsFit c) (CountsFit c)
@@ -56,16 +56,14 @@ whole-test width most t =
     (λ h. record { unbroken = h .0; few = h .1 })
     (λ h. (h .unbroken, h .few))
 
-pub tables-test : (c : Call) → Exactly (tablesOk c) (TablesOk c)
-unfolding tablesOk
-tables-test c =
-    let t = c .tables in
+pub shapes-test : (t : Tables) → Exactly (shapesOk t) (ShapesOk t)
+unfolding shapesOk
+shapes-test t =
     exactly-same
     (exactly-and (whole-test ruleWidth mostConceptRules (t .concept-rules)) (exactly-and (whole-test ruleWidth mostConceptExclusions (t .concept-exclusions))
     (exactly-and (whole-test ruleWidth mostRoleRules (t .role-rules)) (exactly-and (whole-test ruleWidth mostRoleExclusions (t .role-exclusions))
     (exactly-and (whole-test conceptFactWidth mostConceptFacts (t .concept-facts)) (exactly-and (whole-test roleFactWidth mostRoleFacts (t .role-facts))
-    (exactly-and (whole-test stepWidth mostSteps (t .steps)) (exactly-and (whole-test finalWidth mostFinals (t .finals))
-    (exactly-and (equal-exactly (length (c .area)) areaLength) (equal-exactly (length (c .spare)) areaLength))))))))))
+    (exactly-and (whole-test stepWidth mostSteps (t .steps)) (whole-test finalWidth mostFinals (t .finals)))))))))
     (λ h. record {
       concept-rules = h .0;
       concept-exclusions = h .1 .0;
@@ -74,11 +72,16 @@ tables-test c =
       concept-facts = h .1 .1 .1 .1 .0;
       role-facts = h .1 .1 .1 .1 .1 .0;
       steps = h .1 .1 .1 .1 .1 .1 .0;
-      finals = h .1 .1 .1 .1 .1 .1 .1 .0;
-      area = h .1 .1 .1 .1 .1 .1 .1 .1 .0;
-      spare = h .1 .1 .1 .1 .1 .1 .1 .1 .1;
+      finals = h .1 .1 .1 .1 .1 .1 .1;
     })
-    (λ h. (h .concept-rules, (h .concept-exclusions, (h .role-rules, (h .role-exclusions, (h .concept-facts, (h .role-facts, (h .steps, (h .finals, (h .area, h .spare))))))))))
+    (λ h. (h .concept-rules, (h .concept-exclusions, (h .role-rules, (h .role-exclusions, (h .concept-facts, (h .role-facts, (h .steps, h .finals))))))))
+
+pub tables-test : (c : Call) → Exactly (tablesOk c) (TablesOk c)
+unfolding tablesOk areasOk
+tables-test c =
+    exactly-same (exactly-and (shapes-test (c .tables)) (exactly-and (equal-exactly (length (c .area)) areaLength) (equal-exactly (length (c .spare)) areaLength)))
+    (λ h. record { tables = h .0; area = h .1 .0; spare = h .1 .1 })
+    (λ h. (h .tables, (h .area, h .spare)))
 
 -- test 6
 module _ (c : Counts) where
@@ -140,7 +143,7 @@ declared-test 𝓒 =
     })
     (λ h. (h .concept-rules, (h .concept-exclusions, (h .role-rules, (h .role-exclusions, (h .concept-facts, (h .role-facts, (h .steps, h .finals))))))))
 
-pub numbers-test : (c : Call) → Exactly (numbersOk c) (NumbersOk c)
+pub numbers-test : (c : Call) → Exactly (numbersOk (c .counts) (c .tables)) (NumbersOk c)
 unfolding numbersOk
 numbers-test c =
     exactly-same (exactly-and (declared-test (collectionOf c)) (exactly-every (kinds (c .tables .steps)) kindOk (λ k. k ≤ 1) (λ k. most-exactly k 1)))
@@ -148,12 +151,12 @@ numbers-test c =
     (λ h. (h .declared, h .step-kinds))
 
 -- test 7
-pub ends-test : (c : Call) → Exactly (endsOk c) (EndsOk c)
+pub ends-test : (c : Call) → Exactly (endsOk (collectionOf c)) (EndsOk c)
 unfolding endsOk
 ends-test c = exactly-every (collectionOf c .role-facts) endsDiffer EndsDiffer (λ f. not-exactly (same-exactly sameIndividual individual-same (f .1) (f .2)))
 
 -- test 8
-pub ask-test : (c : Call) → Exactly (askOk c) (AskOk c)
+pub ask-test : (c : Call) → Exactly (askOk (c .counts) (c .first) (c .second)) (AskOk c)
 unfolding askOk
 ask-test c = exactly-and (below-exactly (c .first .0) (c .counts .individuals)) (below-exactly (c .second .0) (c .counts .individuals))
 

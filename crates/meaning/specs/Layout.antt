@@ -7,6 +7,8 @@ use lib.ListN.{length, getD, replicate}
 use Rattle.kinds.specs.declared.State.{State}
 use Rattle.kinds.specs.declared.Concept.{Concept}
 use Rattle.kinds.specs.Kinds.{mostStates, mostRoles, base, numberOf}
+use Rattle.laws.specs.Member.{_∈_}
+use Rattle.laws.specs.Select.{Rising}
 
 -- the numbers that basic concepts may have, 128 of them
 abbrev pub conceptNumbers : ℕ
@@ -28,3 +30,12 @@ pub record Lays (f : State → State → Concept → Type 0) (area : List ℕ) :
 
 abbrev pub zeros : List ℕ
 zeros = replicate areaLength 0
+
+-- the places of an area that hold 1, each once
+pub record Ones (area places : List ℕ) : Type 0 where
+  pub rising : Rising places
+  pub ones : (p : ℕ) → (getD area p 0 ≡ 1) ↔ (p ∈ places)
+
+-- m marks stand in an area
+abbrev pub Standing : List ℕ → ℕ → Type 0
+Standing area m = (places : List ℕ) × Ones area places × (length places ≡ m)

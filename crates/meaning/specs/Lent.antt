@@ -126,15 +126,18 @@ pub record Whole (width most : ℕ) (t : List ℕ) : Type 0 where
   pub unbroken : length t % width ≡ 0
   pub few : length t / width ≤ most
 
+pub record ShapesOk (t : Tables) : Type 0 where
+  pub concept-rules : Whole ruleWidth mostConceptRules (t .concept-rules)
+  pub concept-exclusions : Whole ruleWidth mostConceptExclusions (t .concept-exclusions)
+  pub role-rules : Whole ruleWidth mostRoleRules (t .role-rules)
+  pub role-exclusions : Whole ruleWidth mostRoleExclusions (t .role-exclusions)
+  pub concept-facts : Whole conceptFactWidth mostConceptFacts (t .concept-facts)
+  pub role-facts : Whole roleFactWidth mostRoleFacts (t .role-facts)
+  pub steps : Whole stepWidth mostSteps (t .steps)
+  pub finals : Whole finalWidth mostFinals (t .finals)
+
 pub record TablesOk (c : Call) : Type 0 where
-  pub concept-rules : Whole ruleWidth mostConceptRules (c .tables .concept-rules)
-  pub concept-exclusions : Whole ruleWidth mostConceptExclusions (c .tables .concept-exclusions)
-  pub role-rules : Whole ruleWidth mostRoleRules (c .tables .role-rules)
-  pub role-exclusions : Whole ruleWidth mostRoleExclusions (c .tables .role-exclusions)
-  pub concept-facts : Whole conceptFactWidth mostConceptFacts (c .tables .concept-facts)
-  pub role-facts : Whole roleFactWidth mostRoleFacts (c .tables .role-facts)
-  pub steps : Whole stepWidth mostSteps (c .tables .steps)
-  pub finals : Whole finalWidth mostFinals (c .tables .finals)
+  pub tables : ShapesOk (c .tables)
   pub area : length (c .area) ≡ areaLength
   pub spare : length (c .spare) ≡ areaLength
 

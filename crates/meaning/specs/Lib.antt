@@ -24,3 +24,7 @@ pub mod LayoutLaws
 pub mod Calculate
 pub mod CalculateLaws
 pub mod OutcomeLaws
+pub mod QuestionLaws
+pub mod Larger
+pub mod Demands
+pub mod Cases

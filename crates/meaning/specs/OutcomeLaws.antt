@@ -22,7 +22,7 @@ use Rattle.meaning.specs.Outcome.{Outcome, bad-count, bad-table, bad-num
 use Rattle.meaning.specs.Reply.{clash, reaches}
 use Rattle.meaning.specs.ReplyLaws.{reaches-is}
 use Rattle.meaning.specs.ClashLaws.{clash-is}
-use Rattle.meaning.specs.Calculate.{countsFit, tablesOk, numbersOk, endsOk, askOk, needs, afterRounds, afterClash, afterAsk, afterEnds, afterNumbers, afterTables, afterCounts, answer, sheetArea, areaAfter, spareAfter}
+use Rattle.meaning.specs.Calculate.{countsFit, tablesOk, numbersOk, endsOk, askOk, needs, afterRounds, afterClash, soundAnswer, afterEnds, afterNumbers, afterTables, afterCounts, answer, sheetArea, areaAfter, spareAfter}
 use Rattle.meaning.specs.CalculateLaws.{counts-test, tables-test, numbers-test, ends-test, ask-test, sheet-lays, worked-needed, worked-out, worked-in}
 
 module _ (c : Call) where
@@ -36,67 +36,70 @@ module _ (c : Call) where
   clash-test : Sound c → Exactly (clash (collectionOf c)) (Breaks c)
   clash-test s = let w = clash-is (collectionOf c) (sound-well-formed s) in exactly (clash (collectionOf c)) (w .0) (w .1)
 
-  reaches-test : Sound c → Exactly (reaches (collectionOf c) (needs c .1) (c .first) (c .second)) (Reached c)
+  reaches-test : Sound c → Exactly (reaches (collectionOf c) (needs (collectionOf c) .1) (c .first) (c .second)) (Reached c)
   reaches-test s =
       let ok = sound-well-formed s in
-      let w = reaches-is (collectionOf c) ok (needs c .1) (worked-out (collectionOf c) ok) (worked-in (collectionOf c) ok) (c .first) (c .second) (s .ask .0) in
-      exactly (reaches (collectionOf c) (needs c .1) (c .first) (c .second)) (w .0) (w .1)
+      let w = reaches-is (collectionOf c) ok (needs (collectionOf c) .1) (worked-out (collectionOf c) ok) (worked-in (collectionOf c) ok) (c .first) (c .second) (s .ask .0) in
+      exactly (reaches (collectionOf c) (needs (collectionOf c) .1) (c .first) (c .second)) (w .0) (w .1)
 
-  rounds-needed : Sound c → RoundsNeeded c (needs c .0)
+  pub rounds-needed : Sound c → RoundsNeeded c (needs (collectionOf c) .0)
   rounds-needed s = worked-needed (collectionOf c) (sound-well-formed s)
 
-  holds-sheet : Sound c → (n : ℕ) → HoldsSheet c n (sheetArea c n)
+  pub holds-sheet : Sound c → (n : ℕ) → HoldsSheet c n (sheetArea c n)
   holds-sheet s n = sheet-lays (collectionOf c) (sound-well-formed s) n
 
   -- what is computed is the outcome, test after test
   abbrev Done : Answer → Type 0
   Done r = Outcome c r (areaAfter c r) (spareAfter c r)
 
-  rounds-stage : Sound c → (Breaks c → ⊥) → needs c .0 ≤ c .allowance → Done (afterRounds c)
+  rounds-stage : Sound c → (Breaks c → ⊥) → needs (collectionOf c) .0 ≤ c .allowance → Done (afterRounds (collectionOf c) (c .first) (c .second) (c .allowance))
   unfolding afterRounds
-  rounds-stage s sane h = side (reaches (collectionOf c) (needs c .1) (c .first) (c .second)) refl
+  rounds-stage s sane h = side (reaches (collectionOf c) (needs (collectionOf c) .1) (c .first) (c .second)) refl
     where
-      side : (b : Bool) → reaches (collectionOf c) (needs c .1) (c .first) (c .second) ≡ b → Done (pick b (Yes (needs c .0)) (No (needs c .0)))
-      side true e = says-yes s sane (rounds-needed s) h (holds-sheet s (needs c .0)) (reaches-test s .holds e)
-      side false e = says-no s sane (rounds-needed s) h (holds-sheet s (needs c .0)) (exactly-not (reaches-test s) e)
+      side : (b : Bool) → reaches (collectionOf c) (needs (collectionOf c) .1) (c .first) (c .second) ≡ b → Done (pick b (Yes (needs (collectionOf c) .0)) (No (needs (collectionOf c) .0)))
+      side true e = says-yes s sane (rounds-needed s) h (holds-sheet s (needs (collectionOf c) .0)) (reaches-test s .holds e)
+      side false e = says-no s sane (rounds-needed s) h (holds-sheet s (needs (collectionOf c) .0)) (exactly-not (reaches-test s) e)
 
-  clash-stage : Sound c → (Breaks c → ⊥) → Done (afterClash c)
+  clash-stage : Sound c → (Breaks c → ⊥) → Done (afterClash (collectionOf c) (c .first) (c .second) (c .allowance))
   unfolding afterClash
-  clash-stage s sane = side (ltb (c .allowance) (needs c .0)) refl
+  clash-stage s sane = side (ltb (c .allowance) (needs (collectionOf c) .0)) refl
     where
-      side : (b : Bool) → ltb (c .allowance) (needs c .0) ≡ b → Done (pick b (AllowanceSpent (c .allowance)) (afterRounds c))
+      side : (b : Bool) → ltb (c .allowance) (needs (collectionOf c) .0) ≡ b → Done (pick b (AllowanceSpent (c .allowance)) (afterRounds (collectionOf c) (c .first) (c .second) (c .allowance)))
       side true e = spent s sane (rounds-needed s) (ltb-true _ _ e) (holds-sheet s (c .allowance))
       side false e = rounds-stage s sane (ltb-false _ _ e)
 
-  ask-stage : Sound c → Done (afterAsk c)
-  unfolding afterAsk
+  abbrev sound-answer : Answer
+  sound-answer = soundAnswer (collectionOf c) (c .first) (c .second) (c .allowance)
+
+  ask-stage : Sound c → Done sound-answer
+  unfolding soundAnswer
   ask-stage s = side (clash (collectionOf c)) refl
     where
-      side : (b : Bool) → clash (collectionOf c) ≡ b → Done (pick b Contradiction (afterClash c))
+      side : (b : Bool) → clash (collectionOf c) ≡ b → Done (pick b Contradiction (afterClash (collectionOf c) (c .first) (c .second) (c .allowance)))
       side true e = contradiction s (clash-test s .holds e)
       side false e = clash-stage s (exactly-not (clash-test s) e)
 
   ends-stage : CountsOk c → TablesOk c → NumbersOk c → EndsOk c → Done (afterEnds c)
   unfolding afterEnds
-  ends-stage k t n e = side (askOk c) refl
+  ends-stage k t n e = side (askOk (c .counts) (c .first) (c .second)) refl
     where
-      side : (b : Bool) → askOk c ≡ b → Done (pick b (afterAsk c) BadAsk)
+      side : (b : Bool) → askOk (c .counts) (c .first) (c .second) ≡ b → Done (pick b sound-answer BadAsk)
       side true h = ask-stage (record { counts = k; tables = t; numbers = n; ends = e; ask = ask-test c .holds h })
       side false h = bad-ask k t n e (exactly-not (ask-test c) h)
 
   numbers-stage : CountsOk c → TablesOk c → NumbersOk c → Done (afterNumbers c)
   unfolding afterNumbers
-  numbers-stage k t n = side (endsOk c) refl
+  numbers-stage k t n = side (endsOk (collectionOf c)) refl
     where
-      side : (b : Bool) → endsOk c ≡ b → Done (pick b (afterEnds c) EqualEnds)
+      side : (b : Bool) → endsOk (collectionOf c) ≡ b → Done (pick b (afterEnds c) EqualEnds)
       side true h = ends-stage k t n (ends-test c .holds h)
       side false h = equal-ends k t n (exactly-not (ends-test c) h)
 
   tables-stage : CountsOk c → TablesOk c → Done (afterTables c)
   unfolding afterTables
-  tables-stage k t = side (numbersOk c) refl
+  tables-stage k t = side (numbersOk (c .counts) (c .tables)) refl
     where
-      side : (b : Bool) → numbersOk c ≡ b → Done (pick b (afterNumbers c) BadNumber)
+      side : (b : Bool) → numbersOk (c .counts) (c .tables) ≡ b → Done (pick b (afterNumbers c) BadNumber)
       side true h = numbers-stage k t (numbers-test c .holds h)
       side false h = bad-number k t (exactly-not (numbers-test c) h)
 
@@ -118,13 +121,13 @@ module _ (c : Call) where
       side false h = bad-count (exactly-not (counts-test (c .counts)) h)
 
   -- a sound call passes each test
-  passes-all : Sound c → answer c ≡ afterAsk c
+  pub passes-all : Sound c → answer c ≡ soundAnswer (collectionOf c) (c .first) (c .second) (c .allowance)
   unfolding answer afterCounts afterTables afterNumbers afterEnds
   passes-all s = rw (counts-test (c .counts) .shows (s .counts), tables-test c .shows (s .tables), numbers-test c .shows (s .numbers), ends-test c .shows (s .ends), ask-test c .shows (s .ask))
 
   -- each outcome has the answer that is computed
   outcome-answer : {r : Answer} {x y : List ℕ} → Outcome c r x y → r ≡ answer c
-  unfolding answer afterCounts afterTables afterNumbers afterEnds afterAsk afterClash afterRounds
+  unfolding answer afterCounts afterTables afterNumbers afterEnds soundAnswer afterClash afterRounds
   outcome-answer (bad-count h) = rw (exactly-fails (counts-test (c .counts)) h)
   outcome-answer (bad-table k h) = rw (counts-test (c .counts) .shows k, exactly-fails (tables-test c) h)
   outcome-answer (bad-number k t h) = rw (counts-test (c .counts) .shows k, tables-test c .shows t, exactly-fails (numbers-test c) h)
@@ -132,14 +135,14 @@ module _ (c : Call) where
   outcome-answer (bad-ask k t n e h) = rw (counts-test (c .counts) .shows k, tables-test c .shows t, numbers-test c .shows n, ends-test c .shows e, exactly-fails (ask-test c) h)
   outcome-answer (contradiction s h) = rw (passes-all s, clash-test s .shows h)
   outcome-answer (spent {n = n} s sane need h lays) =
-      let e = needed-once (lite (collectionOf c)) n (needs c .0) need (rounds-needed s) in
-      rw (passes-all s, exactly-fails (clash-test s) sane, lt-ltb (c .allowance) (needs c .0) (omega arith))
+      let e = needed-once (lite (collectionOf c)) n (needs (collectionOf c) .0) need (rounds-needed s) in
+      rw (passes-all s, exactly-fails (clash-test s) sane, lt-ltb (c .allowance) (needs (collectionOf c) .0) (omega arith))
   outcome-answer (says-yes {n = n} s sane need h lays reached) =
-      let e = needed-once (lite (collectionOf c)) n (needs c .0) need (rounds-needed s) in
-      rw (passes-all s, exactly-fails (clash-test s) sane, le-ltb (c .allowance) (needs c .0) (omega arith), reaches-test s .shows reached) (ap Yes e)
+      let e = needed-once (lite (collectionOf c)) n (needs (collectionOf c) .0) need (rounds-needed s) in
+      rw (passes-all s, exactly-fails (clash-test s) sane, le-ltb (c .allowance) (needs (collectionOf c) .0) (omega arith), reaches-test s .shows reached) (ap Yes e)
   outcome-answer (says-no {n = n} s sane need h lays missed) =
-      let e = needed-once (lite (collectionOf c)) n (needs c .0) need (rounds-needed s) in
-      rw (passes-all s, exactly-fails (clash-test s) sane, le-ltb (c .allowance) (needs c .0) (omega arith), exactly-fails (reaches-test s) missed) (ap No e)
+      let e = needed-once (lite (collectionOf c)) n (needs (collectionOf c) .0) need (rounds-needed s) in
+      rw (passes-all s, exactly-fails (clash-test s) sane, le-ltb (c .allowance) (needs (collectionOf c) .0) (omega arith), exactly-fails (reaches-test s) missed) (ap No e)
 
   -- the answer decides both areas
   outcome-areas : {r : Answer} {x y : List ℕ} → Outcome c r x y → (x ≡ areaAfter c r) × (y ≡ spareAfter c r)

@@ -210,11 +210,11 @@ module _ (𝓚 : Kind) (𝓣 : Tests 𝓚) where
         mean (through u i k l) r = r u t B i b l
         mean (under R u v i j l c d k e) r = sane .up-in R v t (ok .up-out R v t i e)
 
-    place-in : (s t : State) (B : Con) → Place 𝓚 s t B → _∈_ {A = Spot} ((s, t), B) places
+    pub place-in : (s t : State) (B : Con) → Place 𝓚 s t B → _∈_ {A = Spot} ((s, t), B) places
     unfolding places
     place-in s t B p = pairs-in (pairs-in (p .from) (p .to)) (p .of)
 
-    place-out : (p : Spot) → p ∈ places → Place 𝓚 (p .0 .0) (p .0 .1) (p .1)
+    pub place-out : (p : Spot) → p ∈ places → Place 𝓚 (p .0 .0) (p .0 .1) (p .1)
     unfolding places
     place-out p m =
         let w = pairs-out (pairs states states) concepts m in
