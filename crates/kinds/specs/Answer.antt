@@ -1,5 +1,6 @@
 -- Document 01's number and count for each answer.
-use Prim.Native.Nat.{ℕ}
+use Prim.Native.Nat.{ℕ, _≤_}
+use native.Mathlib.Omega.{arith}
 use Rattle.kinds.specs.declared.Answer.{Answer}
 use Rattle.kinds.specs.declared.Answer.the-variants.{No, Yes, Contradiction, AllowanceSpent, BadCount, BadTable, BadNumber, EqualEnds, BadAsk}
 
@@ -24,3 +25,15 @@ answerCount BadTable = 0
 answerCount BadNumber = 0
 answerCount EqualEnds = 0
 answerCount BadAsk = 0
+
+-- every answer has one of the numbers 0 to 8
+pub number-listed : (r : Answer) → answerNumber r ≤ 8
+number-listed (No rounds) = omega arith
+number-listed (Yes rounds) = omega arith
+number-listed Contradiction = omega arith
+number-listed (AllowanceSpent allowance) = omega arith
+number-listed BadCount = omega arith
+number-listed BadTable = omega arith
+number-listed BadNumber = omega arith
+number-listed EqualEnds = omega arith
+number-listed BadAsk = omega arith

@@ -4,7 +4,6 @@ use mathlib.Core.Logic.{_⊎_, inl, inr}
 use mathlib.Core.List.{List, [], _∷_, _++_, map, List·Memᴰ, List·Memᴰ·head, List·Memᴰ·tail, List·Memᴰ·not-nil, List·Memᴰ·cases-cons}
 
 infix 50 _∈_
-
 abbrev pub _∈_ : {A : Type 0} → A → List A → Type 0
 _∈_ x l = List·Memᴰ x l
 

@@ -25,7 +25,7 @@ use Rattle.laws.specs.Decide.{exactly, exactly-out, exactly-in, exactly-not, ex
 use Rattle.meaning.specs.Collection.{Collection, Letter, role, test, Step, step, StepDeclared, LetterDeclared, ConceptsDeclared, RolesDeclared, ConceptFactDeclared, RoleFactDeclared, NumbersDeclared, WellFormed}
 use Rattle.meaning.specs.Kind.{Sane}
 use Rattle.meaning.specs.Sheet.{Mark, Needed}
-use Rattle.meaning.specs.SheetLaws.{mark-place, mark→loop, loop→mark, needed-once}
+use Rattle.meaning.specs.SheetLaws.{mark-markable, mark→loop, loop→mark, needed-once}
 use Rattle.meaning.specs.Tree.{Loop}
 use Rattle.meaning.specs.Lite.{lite, validConcepts, declaredStates}
 use Rattle.meaning.specs.Lent.{Tables, Call, collectionOf, kinds, Whole, CountsOk, ShapesOk, TablesOk, NumbersOk, EndsOk, EndsDiffer, AskOk, Sound, ruleWidth, conceptFactWidth, roleFactWidth, stepWidth, finalWidth, mostConceptRules, mostConceptExclusions, mostRoleRules, mostRoleExclusions, mostConceptFacts, mostRoleFacts, mostSteps, mostFinals}
@@ -164,7 +164,7 @@ ask-test c = exactly-and (below-exactly (c .first .0) (c .counts .individuals)) 
 module _ (𝓒 : Collection) (ok : WellFormed 𝓒) where
   place-declared : (n : ℕ) (s t : State) (B : Concept) → Mark (lite 𝓒) n s t B → StateDeclared (𝓒 .counts) s × StateDeclared (𝓒 .counts) t × ConceptDeclared (𝓒 .counts) B
   place-declared n s t B m =
-      let p = mark-place (lite 𝓒) n s t B m in
+      let p = mark-markable (lite 𝓒) n s t B m in
       (state-out (𝓒 .counts) s (p .from), state-out (𝓒 .counts) t (p .to), concept-out (𝓒 .counts) B (p .of))
 
   pub sheet-lays : (n : ℕ) → Lays (Mark (lite 𝓒) n) (image (𝓒 .counts) (sheet (lite 𝓒) (liteTests 𝓒) n))

@@ -25,9 +25,9 @@ use Rattle.laws.specs.Chain.{via, compose, tab, closing}
 use Rattle.meaning.specs.Collection.{Collection, WellFormed}
 use Rattle.meaning.specs.Lite.{signedRoles, validConcepts, declaredStates, lite}
 use Rattle.meaning.specs.Sheet.{Mark}
-use Rattle.meaning.specs.SheetLaws.{mark-place}
+use Rattle.meaning.specs.SheetLaws.{mark-markable}
 use Rattle.meaning.specs.Declared.{lite-sane}
-use Rattle.meaning.specs.Tests.{joins, hangsTo, hangsFrom, hangs, round, sheet, Spot, places, place-in, place-out, at, table, work, after, after-is, mark-in, mark-out}
+use Rattle.meaning.specs.Tests.{joins, hangsTo, hangsFrom, hangs, round, sheet, Spot, places, spot-in, spot-out, at, table, work, after, after-is, mark-in, mark-out}
 use Rattle.meaning.specs.LiteTests.{roleBase, roleLe, conceptBase, conceptLe, liteTests, lite-decides}
 use Rattle.meaning.specs.Reply.{declaredIndividuals, factTypes, endTypes, isTyped, typedTo, individualHas, joinsBy, factEdge, follows, aliveBy, aliveAt, alive, clashAt, clashUnder, conceptClash, clashBetween, clashBelow, roleClash, clash, marked, stride, walks, reachesIn, reaches}
 use Rattle.meaning.specs.Lent.{Tables, Call, records, collection, collectionOf, Sound}
@@ -167,7 +167,7 @@ module _ (𝓒 : Collection) (ok : WellFormed 𝓒) (n : ℕ) (x : List ℕ) (la
       let v = select-out (places (lite 𝓒) (liteTests 𝓒)) (spotMarked 𝓒 n) (w .1) in
       let d = lite-decides 𝓒 (ok .numbers) in
       let s = lite-sane 𝓒 (ok .numbers) in
-      lays .marks p .1 (q .0 .0, q .0 .1, q .1, mark-out (lite 𝓒) (liteTests 𝓒) d s n (q .0 .0) (q .0 .1) (q .1) (place-out (lite 𝓒) (liteTests 𝓒) d s q (v .0)) (marked-sheet q (v .1)), sym (w .2))
+      lays .marks p .1 (q .0 .0, q .0 .1, q .1, mark-out (lite 𝓒) (liteTests 𝓒) d s n (q .0 .0) (q .0 .1) (q .1) (spot-out (lite 𝓒) (liteTests 𝓒) d s q (v .0)) (marked-sheet q (v .1)), sym (w .2))
 
   stands-in : (p : ℕ) → getD x p 0 ≡ 1 → p ∈ standsAt 𝓒 n
   unfolding standsAt
@@ -177,7 +177,7 @@ module _ (𝓒 : Collection) (ok : WellFormed 𝓒) (n : ℕ) (x : List ℕ) (la
       let s = lite-sane 𝓒 (ok .numbers) in
       let q : Spots 𝓒 = ((w .0, w .1), w .2) in
       let h : T (spotMarked 𝓒 n q) = rw (after-is (lite 𝓒) (liteTests 𝓒) d s n) (mark-in (lite 𝓒) (liteTests 𝓒) d s n (w .0) (w .1) (w .2) (w .3)) in
-      let m = map-in (spotPlace 𝓒) (select-in (places (lite 𝓒) (liteTests 𝓒)) (spotMarked 𝓒 n) {x = q} (place-in (lite 𝓒) (liteTests 𝓒) d s (w .0) (w .1) (w .2) (mark-place (lite 𝓒) n (w .0) (w .1) (w .2) (w .3))) h) in
+      let m = map-in (spotPlace 𝓒) (select-in (places (lite 𝓒) (liteTests 𝓒)) (spotMarked 𝓒 n) {x = q} (spot-in (lite 𝓒) (liteTests 𝓒) d s (w .0) (w .1) (w .2) (mark-markable (lite 𝓒) n (w .0) (w .1) (w .2) (w .3))) h) in
       rw (w .4) at m
 
   standing : (m : ℕ) → T (listOk 𝓒 n m) → Standing x m

@@ -10,9 +10,10 @@ use Rattle.kinds.specs.declared.Concept.the-variants.{Name, Exists}
 use Rattle.kinds.specs.Kinds.{inverse, signed, IndividualDeclared}
 use Rattle.laws.specs.Member.{_∈_}
 use Rattle.meaning.specs.Collection.{Collection, NumbersDeclared}
-use Rattle.meaning.specs.Orders.{RoleLe, ConceptLe, then}
+use Rattle.meaning.specs.Orders.{RoleLe, ConceptLe}
 use Rattle.meaning.specs.Tree.{root, _▹_}
 use Rattle.meaning.specs.Model.{Has, Belongs, bare, grown, Edge, fact, child, parent, individuals, Element, Typed, named, first, second, IndividualHas, FactEdge, Contradiction, at-element, at-pair}
+use Rattle.meaning.specs.ModelLaws.{born, has-above}
 
 module _ (𝓒 : Collection) where
   -- a signed role by which some unnamed element ends
@@ -27,12 +28,9 @@ module _ (𝓒 : Collection) where
     down-clash : (Q R S : SignedRole) → (R, S) ∈ 𝓒 .role-exclusions → Alive Q → RoleLe 𝓒 Q R → RoleLe 𝓒 Q S → Clash
     up-clash : (Q R S : SignedRole) → (inverse R, inverse S) ∈ 𝓒 .role-exclusions → Alive Q → RoleLe 𝓒 Q R → RoleLe 𝓒 Q S → Clash
 
-  born : {x : Element 𝓒} {R : SignedRole} → Belongs 𝓒 (individuals 𝓒) (x ▹ R) → Belongs 𝓒 (individuals 𝓒) x × Has 𝓒 (individuals 𝓒) x (Exists R)
-  born (grown b h) = (b, h)
-
   living : (x : Element 𝓒) (R : SignedRole) → Belongs 𝓒 (individuals 𝓒) (x ▹ R) → Alive R
-  living (root a) R b = sprouts a R (born b .1)
-  living (x ▹ Q) R b = grows Q R (living x Q (born b .0)) (born b .1)
+  living (root a) R b = sprouts a R (born 𝓒 (individuals 𝓒) b .1)
+  living (x ▹ Q) R b = grows Q R (living x Q (born 𝓒 (individuals 𝓒) b .0)) (born 𝓒 (individuals 𝓒) b .1)
 
   -- an element and its child are joined by that child's edge alone
   abbrev depth : Element 𝓒 → ℕ
@@ -100,10 +98,6 @@ module _ (𝓒 : Collection) where
   pub self-exclusion : (x : Element 𝓒) (C : Concept) → (C, C) ∈ 𝓒 .concept-exclusions → Belongs 𝓒 (individuals 𝓒) x → Has 𝓒 (individuals 𝓒) x C → Contradiction 𝓒
   self-exclusion x C m b h = at-element x C C m b h h
 
-  has-above : (x : Element 𝓒) {C D : Concept} → Has 𝓒 (individuals 𝓒) x C → ConceptLe 𝓒 C D → Has 𝓒 (individuals 𝓒) x D
-  has-above (root a) h k = (h .0, h .1, then (h .2) k)
-  has-above (x ▹ R) h k = then h k
-
   -- THEOREM: the same of a concept from which two follow that exclude each other
   pub empty-concept : (x : Element 𝓒) (C D E : Concept) → ConceptLe 𝓒 C D → ConceptLe 𝓒 C E → (D, E) ∈ 𝓒 .concept-exclusions → Belongs 𝓒 (individuals 𝓒) x → Has 𝓒 (individuals 𝓒) x C → Contradiction 𝓒
-  empty-concept x C D E d e m b h = at-element x D E m b (has-above x h d) (has-above x h e)
+  empty-concept x C D E d e m b h = at-element x D E m b (has-above 𝓒 x h d) (has-above 𝓒 x h e)

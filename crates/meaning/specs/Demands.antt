@@ -3,7 +3,7 @@ use mathlib.Core.Path.{_≡_, refl, sym}
 use mathlib.Core.Logic.{_↔_, _⊎_, inl, inr}
 use mathlib.Core.List.{List}
 use Prim.Native.Nat.{ℕ, _+_, _*_, _-_, _≤_, _<_}
-use native.Mathlib.Nat.{mul-le-mul-right, mul-le-mul-left}
+use native.Mathlib.Nat.{mul-le-mul}
 use native.Mathlib.Omega.{arith}
 use lib.ListN.{length}
 use Rattle.kinds.specs.declared.Individual.{Individual}
@@ -34,6 +34,13 @@ use Rattle.meaning.specs.Larger.{Larger, yes-grows, contradiction-grows}
 -- concepts × states × (states − 1)
 abbrev pub mostRounds : Counts → ℕ
 mostRounds c = (c .names + 2 * c .roles) * c .states * (c .states - 1)
+
+-- never more than 30,720
+pub most-rounds : (c : Counts) → CountsFit c → mostRounds c ≤ 30720
+most-rounds c fit =
+    let a : c .names + 2 * c .roles ≤ 128 = omega (arith, fit .names, fit .roles) in
+    let b : c .states - 1 ≤ 15 = omega (arith, fit .states) in
+    mul-le-mul (mul-le-mul a (fit .states)) b
 
 module _ (𝓒 : Collection) (ok : WellFormed 𝓒) where
   -- THEOREM: the rounds needed exist, and are at most concepts × states × (states − 1)

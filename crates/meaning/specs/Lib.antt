@@ -11,6 +11,7 @@ pub mod Lent
 pub mod Layout
 pub mod Outcome
 pub mod SheetLaws
+pub mod ModelLaws
 pub mod Growth
 pub mod ModelWalk
 pub mod Tests

@@ -40,4 +40,4 @@ module _ (𝓒 : Collection) where
   abbrev pub lite : Kind
   lite =
       record
-      { Con = Concept; State = State; Edge = SignedRole; concepts = validConcepts (𝓒 .counts); states = declaredStates (𝓒 .counts); end = λ R. Exists (inverse R); child = λ B R. ConceptLe 𝓒 B (Exists R); test = TestAt; down = StepDown; up = StepUp }
+      { Concept = Concept; State = State; Edge = SignedRole; concepts = validConcepts (𝓒 .counts); states = declaredStates (𝓒 .counts); end = λ R. Exists (inverse R); child = λ B R. ConceptLe 𝓒 B (Exists R); test = TestAt; down = StepDown; up = StepUp }

@@ -14,6 +14,7 @@ use Rattle.meaning.specs.Orders.{RoleLe, ConceptLe, same, then}
 use Rattle.meaning.specs.Run.{Run, stop, go, one, carry}
 use Rattle.meaning.specs.Tree.{Elem, root, _▹_, Loop, here, tested, twice, below, Holds, Move, tests, downs, ups, hops, Stride, along, by, path↔walk}
 use Rattle.meaning.specs.Model.{Roots, Has, Belongs, bare, grown, Edge, fact, child, parent, grownFrom, individuals, canonical, only, treeOf, FactEdge, ahead, behind}
+use Rattle.meaning.specs.ModelLaws.{born}
 use Rattle.meaning.specs.Question.{Going, along-role, at-name, PathIn}
 use Rattle.meaning.specs.Lite.{lite}
 
@@ -38,12 +39,9 @@ module _ (𝓒 : Collection) (𝓡 : Roots) (keep : RootsKeep 𝓒 𝓡) where
   holds→has (root a) B D h k = keep .upward a B D h k
   holds→has (x ▹ R) B D h k = rw h k
 
-  pub born : {x : Elem (𝓡 .Root) SignedRole} {R : SignedRole} → Belongs 𝓒 𝓡 (x ▹ R) → Belongs 𝓒 𝓡 x × Has 𝓒 𝓡 x (Exists R)
-  born (grown b h) = (b, h)
-
   to-move : {x y : Elem (𝓡 .Root) SignedRole} {s t : State} → Going 𝓒 (grownFrom 𝓒 𝓡) x s y t → Move (lite 𝓒) (𝓡 .has) (Near 𝓒 𝓡) x s y t
   to-move (along-role S e (fact f)) = hops (S, e, f)
-  to-move (along-role S e (child {x = x} {R = R} b l)) = let w = has→holds x (born b .1) in downs (w .0) R (w .1) (w .2) (S, e, l)
+  to-move (along-role S e (child {x = x} {R = R} b l)) = let w = has→holds x (born 𝓒 𝓡 b .1) in downs (w .0) R (w .1) (w .2) (S, e, l)
   to-move (along-role S e (parent b l)) = ups (_, e, l)
   to-move (at-name {x = x} A e h) = let w = has→holds x h in tests (w .0) (w .1) (A, e, w .2)
 
@@ -53,7 +51,7 @@ module _ (𝓒 : Collection) (𝓡 : Roots) (keep : RootsKeep 𝓒 𝓡) where
   from-moves (go (downs {x = x} B R h k d) p) b =
       let c : Belongs 𝓒 𝓡 (x ▹ R) = grown b (holds→has x B (Exists R) h k) in
       go (along-role (d .0) (d .1) (child c (d .2))) (from-moves p c)
-  from-moves (go (ups u) p) b = go (along-role (inverse (u .0)) (u .1) (parent b (u .2))) (from-moves p (born b .0))
+  from-moves (go (ups u) p) b = go (along-role (inverse (u .0)) (u .1) (parent b (u .2))) (from-moves p (born 𝓒 𝓡 b .0))
   from-moves (go (hops {a = a} {b = d} f) p) b = go (along-role (f .0) (f .1) (fact (f .2))) (from-moves p (bare (keep .within a d (f .0) (f .2))))
 
   pub path↔steps : (a b : 𝓡 .Root) (s t : State) → 𝓡 .belongs a → PathIn 𝓒 (grownFrom 𝓒 𝓡) (root a) s (root b) t ↔ Walk a s b t

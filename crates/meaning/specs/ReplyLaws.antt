@@ -217,9 +217,9 @@ module _ (𝓒 : Collection) (ok : WellFormed 𝓒) where
     unfolding walks
     walks-is a b s t i m =
         let same = both-same sameIndividual sameState individual-same state-same in (
-        λ k. chain→walk (closed-out (both sameIndividual sameState) nodes (stride 𝓒 f) (same .is) stride-to (a, s) (b, t) k) (pairs-in i m) .1,
-        λ w. closed-in (both sameIndividual sameState) nodes (stride 𝓒 f) (same .is) stride-to (a, s) (b, t) (pairs-in i m) (walk→chain w m),
-      )
+          λ k. chain→walk (closed-out (both sameIndividual sameState) nodes (stride 𝓒 f) (same .is) stride-to (a, s) (b, t) k) (pairs-in i m) .1,
+          λ w. closed-in (both sameIndividual sameState) nodes (stride 𝓒 f) (same .is) stride-to (a, s) (b, t) (pairs-in i m) (walk→chain w m),
+        )
 
     -- what is computed as yes is yes in the canonical model
     pub reaches-is : (a b : Individual) → IndividualDeclared (𝓒 .counts) a → T (reaches 𝓒 f a b) ↔ Yes 𝓒 a b
@@ -228,8 +228,8 @@ module _ (𝓒 : Collection) (ok : WellFormed 𝓒) where
         let start = 𝓒 .counts .start in
         let m = state-in (𝓒 .counts) start (ok .counts .start) in
         let n = individual-in (𝓒 .counts) a i in (
-        λ h.
-            let w = any-out (𝓒 .finals) (reachesIn 𝓒 f a b) h in
-            (w .0, w .1, path↔individuals-walk 𝓒 ok a b start (w .0) i .1 (walks-is a b start (w .0) n m .0 (w .2))),
-        λ p. any-in (𝓒 .finals) (reachesIn 𝓒 f a b) (p .1) (walks-is a b start (p .0) n m .1 (path↔individuals-walk 𝓒 ok a b start (p .0) i .0 (p .2))),
-      )
+          λ h.
+              let w = any-out (𝓒 .finals) (reachesIn 𝓒 f a b) h in
+              (w .0, w .1, path↔individuals-walk 𝓒 ok a b start (w .0) i .1 (walks-is a b start (w .0) n m .0 (w .2))),
+          λ p. any-in (𝓒 .finals) (reachesIn 𝓒 f a b) (p .1) (walks-is a b start (p .0) n m .1 (path↔individuals-walk 𝓒 ok a b start (p .0) i .0 (p .2))),
+        )

@@ -16,8 +16,8 @@ use Rattle.laws.specs.Pairs.{pairs, pairs-in, pairs-out, length-pairs, count-pa
 use Rattle.laws.specs.Rounds.{Least, least-same, Still, needed}
 use Rattle.laws.specs.Settle.{memo, memo-is, settle, settled}
 use Rattle.meaning.specs.Kind.{Kind, Sane}
-use Rattle.meaning.specs.Sheet.{Place, Round, kept, tested, joined, hung, Mark, Unchanged, Needed}
-use Rattle.meaning.specs.SheetLaws.{mark-place}
+use Rattle.meaning.specs.Sheet.{Markable, Round, kept, tested, joined, hung, Mark, Unchanged, Needed}
+use Rattle.meaning.specs.SheetLaws.{mark-markable}
 
 fit : (n c s k : ℕ) → n + k ≤ s * s * c → s * c ≤ k → n ≤ c * s * (s - 1)
 fit n c zero k h g = omega arith
@@ -31,9 +31,9 @@ room c (suc s) k g = let e : suc s - 1 ≡ s = omega arith in rw e (omega arith)
 pub record Tests (𝓚 : Kind) : Type 0 where
   pub edges : List (𝓚 .Edge)
   pub same-state : 𝓚 .State → 𝓚 .State → Bool
-  pub same-concept : 𝓚 .Con → 𝓚 .Con → Bool
-  pub has-child : 𝓚 .Con → 𝓚 .Edge → Bool
-  pub has-test : 𝓚 .Con → 𝓚 .State → 𝓚 .State → Bool
+  pub same-concept : 𝓚 .Concept → 𝓚 .Concept → Bool
+  pub has-child : 𝓚 .Concept → 𝓚 .Edge → Bool
+  pub has-test : 𝓚 .Concept → 𝓚 .State → 𝓚 .State → Bool
   pub has-down : 𝓚 .Edge → 𝓚 .State → 𝓚 .State → Bool
   pub has-up : 𝓚 .Edge → 𝓚 .State → 𝓚 .State → Bool
 
@@ -41,79 +41,79 @@ pub record Tests (𝓚 : Kind) : Type 0 where
 pub record Decides (𝓚 : Kind) (𝓣 : Tests 𝓚) : Type 0 where
   pub states-same : Same (𝓣 .same-state)
   pub concepts-same : Same (𝓣 .same-concept)
-  pub edge-in : (B : 𝓚 .Con) (R : 𝓚 .Edge) → B ∈ 𝓚 .concepts → 𝓚 .child B R → R ∈ 𝓣 .edges
-  pub child-in : (B : 𝓚 .Con) (R : 𝓚 .Edge) → B ∈ 𝓚 .concepts → 𝓚 .child B R → T (𝓣 .has-child B R)
-  pub child-out : (B : 𝓚 .Con) (R : 𝓚 .Edge) → B ∈ 𝓚 .concepts → T (𝓣 .has-child B R) → 𝓚 .child B R
-  pub test-in : (B : 𝓚 .Con) (s t : 𝓚 .State) → B ∈ 𝓚 .concepts → 𝓚 .test B s t → T (𝓣 .has-test B s t)
-  pub test-out : (B : 𝓚 .Con) (s t : 𝓚 .State) → B ∈ 𝓚 .concepts → T (𝓣 .has-test B s t) → 𝓚 .test B s t
+  pub edge-in : (B : 𝓚 .Concept) (R : 𝓚 .Edge) → B ∈ 𝓚 .concepts → 𝓚 .child B R → R ∈ 𝓣 .edges
+  pub child-in : (B : 𝓚 .Concept) (R : 𝓚 .Edge) → B ∈ 𝓚 .concepts → 𝓚 .child B R → T (𝓣 .has-child B R)
+  pub child-out : (B : 𝓚 .Concept) (R : 𝓚 .Edge) → B ∈ 𝓚 .concepts → T (𝓣 .has-child B R) → 𝓚 .child B R
+  pub test-in : (B : 𝓚 .Concept) (s t : 𝓚 .State) → B ∈ 𝓚 .concepts → 𝓚 .test B s t → T (𝓣 .has-test B s t)
+  pub test-out : (B : 𝓚 .Concept) (s t : 𝓚 .State) → B ∈ 𝓚 .concepts → T (𝓣 .has-test B s t) → 𝓚 .test B s t
   pub down-in : (R : 𝓚 .Edge) (s t : 𝓚 .State) → R ∈ 𝓣 .edges → 𝓚 .down R s t → T (𝓣 .has-down R s t)
   pub down-out : (R : 𝓚 .Edge) (s t : 𝓚 .State) → R ∈ 𝓣 .edges → T (𝓣 .has-down R s t) → 𝓚 .down R s t
   pub up-in : (R : 𝓚 .Edge) (s t : 𝓚 .State) → R ∈ 𝓣 .edges → 𝓚 .up R s t → T (𝓣 .has-up R s t)
   pub up-out : (R : 𝓚 .Edge) (s t : 𝓚 .State) → R ∈ 𝓣 .edges → T (𝓣 .has-up R s t) → 𝓚 .up R s t
 
 module _ (𝓚 : Kind) (𝓣 : Tests 𝓚) where
-  open Kind 𝓚 using (Con, State, Edge, concepts, states, end)
+  open Kind 𝓚 using (Concept, State, Edge, concepts, states, end)
   open Tests 𝓣 using (edges, same-state, same-concept, has-child, has-test, has-down, has-up)
 
-  unfoldable pub joins : (State → State → Con → Bool) → State → State → Con → State → Bool
+  unfoldable pub joins : (State → State → Concept → Bool) → State → State → Concept → State → Bool
   joins f s t B u = let b = f u t B in and (f s u B) b
 
   -- a child by R, down to u, a loop from u to v at the child, and back up
-  unfoldable pub hangsTo : (State → State → Con → Bool) → State → Edge → State → State → Bool
+  unfoldable pub hangsTo : (State → State → Concept → Bool) → State → Edge → State → State → Bool
   hangsTo f t R u v = let d = has-up R v t in and (f u v (end R)) d
 
-  unfoldable pub hangsFrom : (State → State → Con → Bool) → State → State → Edge → State → Bool
+  unfoldable pub hangsFrom : (State → State → Concept → Bool) → State → State → Edge → State → Bool
   hangsFrom f s t R u = let c = any states (hangsTo f t R u) in and (has-down R s u) c
 
-  unfoldable pub hangs : (State → State → Con → Bool) → State → State → Con → Edge → Bool
+  unfoldable pub hangs : (State → State → Concept → Bool) → State → State → Concept → Edge → Bool
   hangs f s t B R = let c = any states (hangsFrom f s t R) in and (has-child B R) c
 
   -- one round of the sheet f
-  unfoldable pub round : (State → State → Con → Bool) → State → State → Con → Bool
+  unfoldable pub round : (State → State → Concept → Bool) → State → State → Concept → Bool
   round f s t B = let r = any edges (hangs f s t B) in let q = or (any states (joins f s t B)) r in or (f s t B) (or (has-test B s t) q)
 
-  unfoldable pub sheet : ℕ → State → State → Con → Bool
+  unfoldable pub sheet : ℕ → State → State → Concept → Bool
   sheet zero s t B = same-state s t
   sheet (suc k) s t B = round (sheet k) s t B
 
   abbrev pub Spot : Type 0
-  Spot = (State × State) × Con
+  Spot = (State × State) × Concept
 
   -- every declared state, state and concept
   unfoldable pub places : List Spot
   places = pairs (pairs states states) concepts
 
-  abbrev pub at : (State → State → Con → Bool) → Spot → Bool
+  abbrev pub at : (State → State → Concept → Bool) → Spot → Bool
   at f p = f (p .0 .0) (p .0 .1) (p .1)
 
   -- how many marks stand in a sheet
-  unfoldable pub marks : (State → State → Con → Bool) → ℕ
+  unfoldable pub marks : (State → State → Concept → Bool) → ℕ
   marks f = count places (at f)
 
   -- a sheet that remembers what was computed
-  unfoldable pub table : (State → State → Con → Bool) → State → State → Con → Bool
+  unfoldable pub table : (State → State → Concept → Bool) → State → State → Concept → Bool
   table f = memo same-state states (λ s. memo same-state states (λ t. memo same-concept concepts (f s t)))
 
   abbrev pub most : ℕ
   most = length concepts * length states * (length states - 1)
 
   -- the rounds needed and the closed sheet, as they are computed
-  unfoldable pub work : ℕ × (State → State → Con → Bool)
+  unfoldable pub work : ℕ × (State → State → Concept → Bool)
   work = settle places at (λ f. table (round f)) most 0 (λ s t B. same-state s t)
 
   -- the sheet after a number of rounds, as it is computed
-  unfoldable pub after : ℕ → State → State → Con → Bool
+  unfoldable pub after : ℕ → State → State → Concept → Bool
   after zero = λ s t B. same-state s t
   after (suc k) = let f = after k in table (round f)
 
   -- what a round adds, with where its states and edge are found
-  data Next (f : State → State → Con → Bool) (s t : State) (B : Con) : Type 0 where
+  data Next (f : State → State → Concept → Bool) (s t : State) (B : Concept) : Type 0 where
     keeps : T (f s t B) → Next f s t B
     passes : T (has-test B s t) → Next f s t B
     through : (u : State) → u ∈ states → T (f s u B) → T (f u t B) → Next f s t B
     under : (R : Edge) (u v : State) → R ∈ edges → u ∈ states → v ∈ states → T (has-child B R) → T (has-down R s u) → T (f u v (end R)) → T (has-up R v t) → Next f s t B
 
-  module _ (f : State → State → Con → Bool) (s t : State) (B : Con) where
+  module _ (f : State → State → Concept → Bool) (s t : State) (B : Concept) where
     J : Bool
     J = any states (joins f s t B)
 
@@ -171,26 +171,26 @@ module _ (𝓚 : Kind) (𝓣 : Tests 𝓚) where
 
   module _ (ok : Decides 𝓚 𝓣) (sane : Sane 𝓚) where
     -- in each round the sheet that is computed is the definition's
-    pub mark-in : (n : ℕ) (s t : State) (B : Con) → Mark 𝓚 n s t B → T (sheet n s t B)
+    pub mark-in : (n : ℕ) (s t : State) (B : Concept) → Mark 𝓚 n s t B → T (sheet n s t B)
     unfolding sheet
     mark-in zero s t B m = rw (m .1) (ok .states-same .self t)
     mark-in (suc n) s t B m = round-in (sheet n) s t B (mean (m .1) (mark-in n))
       where
-        mean : Round 𝓚 (Mark 𝓚 n) s t B → ((s t : State) (B : Con) → Mark 𝓚 n s t B → T (sheet n s t B)) → Next (sheet n) s t B
+        mean : Round 𝓚 (Mark 𝓚 n) s t B → ((s t : State) (B : Concept) → Mark 𝓚 n s t B → T (sheet n s t B)) → Next (sheet n) s t B
         mean (kept k) r = keeps (r s t B k)
         mean (tested e) r = passes (ok .test-in B s t (m .0 .of) e)
-        mean (joined {u = u} k l) r = through u (mark-place 𝓚 n s u B k .to) (r s u B k) (r u t B l)
+        mean (joined {u = u} k l) r = through u (mark-markable 𝓚 n s u B k .to) (r s u B k) (r u t B l)
         mean (hung {R = R} {u = u} {v = v} c d k e) r =
-            let p = mark-place 𝓚 n u v (end R) k in
+            let p = mark-markable 𝓚 n u v (end R) k in
             let i = ok .edge-in B R (m .0 .of) c in
             under R u v i (p .from) (p .to) (ok .child-in B R (m .0 .of) c) (ok .down-in R s u i d) (r u v (end R) k) (ok .up-in R v t i e)
 
-    pub mark-out : (n : ℕ) (s t : State) (B : Con) → Place 𝓚 s t B → T (sheet n s t B) → Mark 𝓚 n s t B
+    pub mark-out : (n : ℕ) (s t : State) (B : Concept) → Markable 𝓚 s t B → T (sheet n s t B) → Mark 𝓚 n s t B
     unfolding sheet
     mark-out zero s t B p h = (p, ok .states-same .is s t h)
     mark-out (suc n) s t B p h = (p, mean (round-out (sheet n) s t B h) (mark-out n))
       where
-        mean : Next (sheet n) s t B → ((s t : State) (B : Con) → Place 𝓚 s t B → T (sheet n s t B) → Mark 𝓚 n s t B) → Round 𝓚 (Mark 𝓚 n) s t B
+        mean : Next (sheet n) s t B → ((s t : State) (B : Concept) → Markable 𝓚 s t B → T (sheet n s t B) → Mark 𝓚 n s t B) → Round 𝓚 (Mark 𝓚 n) s t B
         mean (keeps k) r = kept (r s t B p k)
         mean (passes k) r = tested (ok .test-out B s t (p .of) k)
         mean (through u m k l) r = joined (r s u B (record { from = p .from; to = m; of = p .of }) k) (r u t B (record { from = m; to = p .to; of = p .of }) l)
@@ -199,36 +199,36 @@ module _ (𝓚 : Kind) (𝓣 : Tests 𝓚) where
             hung g (ok .down-out R s u i d) (r u v (end R) (record { from = m; to = l; of = sane .end-in B R (p .of) g }) k) (ok .up-out R v t i e)
 
     -- a mark leads to a declared state
-    pub sheet-to : (n : ℕ) (s t : State) (B : Con) → s ∈ states → B ∈ concepts → T (sheet n s t B) → t ∈ states
+    pub sheet-to : (n : ℕ) (s t : State) (B : Concept) → s ∈ states → B ∈ concepts → T (sheet n s t B) → t ∈ states
     unfolding sheet
     sheet-to zero s t B m b h = rw (ok .states-same .is s t h) at m
     sheet-to (suc n) s t B m b h = mean (round-out (sheet n) s t B h) (sheet-to n)
       where
-        mean : Next (sheet n) s t B → ((s t : State) (B : Con) → s ∈ states → B ∈ concepts → T (sheet n s t B) → t ∈ states) → t ∈ states
+        mean : Next (sheet n) s t B → ((s t : State) (B : Concept) → s ∈ states → B ∈ concepts → T (sheet n s t B) → t ∈ states) → t ∈ states
         mean (keeps k) r = r s t B m b k
         mean (passes k) r = sane .test-in B s t (ok .test-out B s t b k)
         mean (through u i k l) r = r u t B i b l
         mean (under R u v i j l c d k e) r = sane .up-in R v t (ok .up-out R v t i e)
 
-    pub place-in : (s t : State) (B : Con) → Place 𝓚 s t B → _∈_ {A = Spot} ((s, t), B) places
+    pub spot-in : (s t : State) (B : Concept) → Markable 𝓚 s t B → _∈_ {A = Spot} ((s, t), B) places
     unfolding places
-    place-in s t B p = pairs-in (pairs-in (p .from) (p .to)) (p .of)
+    spot-in s t B p = pairs-in (pairs-in (p .from) (p .to)) (p .of)
 
-    pub place-out : (p : Spot) → p ∈ places → Place 𝓚 (p .0 .0) (p .0 .1) (p .1)
+    pub spot-out : (p : Spot) → p ∈ places → Markable 𝓚 (p .0 .0) (p .0 .1) (p .1)
     unfolding places
-    place-out p m =
+    spot-out p m =
         let w = pairs-out (pairs states states) concepts m in
         let v = pairs-out states states (w .0) in
         record { from = v .0; to = v .1; of = w .1 }
 
     still→unchanged : (n : ℕ) → Still places (λ k. at (sheet k)) n → Unchanged 𝓚 n
     still→unchanged n still s t B m =
-        let p = mark-place 𝓚 (suc n) s t B m in
-        mark-out n s t B p (still ((s, t), B) (place-in s t B p) (mark-in (suc n) s t B m))
+        let p = mark-markable 𝓚 (suc n) s t B m in
+        mark-out n s t B p (still ((s, t), B) (spot-in s t B p) (mark-in (suc n) s t B m))
 
     unchanged→still : (n : ℕ) → Unchanged 𝓚 n → Still places (λ k. at (sheet k)) n
     unchanged→still n same p m h =
-        mark-in n (p .0 .0) (p .0 .1) (p .1) (same (p .0 .0) (p .0 .1) (p .1) (mark-out (suc n) (p .0 .0) (p .0 .1) (p .1) (place-out p m) h))
+        mark-in n (p .0 .0) (p .0 .1) (p .1) (same (p .0 .0) (p .0 .1) (p .1) (mark-out (suc n) (p .0 .0) (p .0 .1) (p .1) (spot-out p m) h))
 
     needed-in : (n : ℕ) → Least (Still places (λ k. at (sheet k))) n → Needed 𝓚 n
     needed-in = least-same (Still places (λ k. at (sheet k))) (Unchanged 𝓚) still→unchanged unchanged→still
@@ -246,7 +246,7 @@ module _ (𝓚 : Kind) (𝓣 : Tests 𝓚) where
         let w = needed places (λ k. at (sheet k)) sheet-keeps in
         (w .0, fit (w .0) (length concepts) (length states) _ (rw length-places at (w .1)) first-marks, needed-in (w .0) (w .2))
 
-    table-is : (f : State → State → Con → Bool) → table f ≡ f
+    table-is : (f : State → State → Concept → Bool) → table f ≡ f
     unfolding table
     table-is f =
         fun-ext (λ s. memo-is same-state (ok .states-same .is) states (λ s. memo same-state states (λ t. memo same-concept concepts (f s t))) s
@@ -258,7 +258,7 @@ module _ (𝓚 : Kind) (𝓣 : Tests 𝓚) where
     unfolding work sheet
     works =
         let w = settled places at (λ f. table (round f)) sheet (λ k. sym (table-is (round (sheet k)))) sheet-keeps most 0 most (omega arith)
-              (rw length-places (room (length concepts) (length states) _ first-marks)) (λ m l. omega arith) in
+        (rw length-places (room (length concepts) (length states) _ first-marks)) (λ m l. omega arith) in
         (needed-in (work .0) (w .0), w .1, w .2)
 
     pub after-is : (n : ℕ) → after n ≡ sheet n
