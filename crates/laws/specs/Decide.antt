@@ -2,10 +2,10 @@
 use mathlib.Core.Path.{_≡_, refl}
 use mathlib.Core.Bool.{Bool, true, false, not, false≢true}
 use mathlib.Core.List.{List}
-use Prim.Native.Nat.{ℕ, _≤_, _<_}
+use Prim.Native.Nat.{ℕ, _≤_}
 use lib.Dec.{T, leb, eqb}
-use borrow.Author.Tests.{le-leb, leb-true, eq-eqb, eqb-true, not-true}
-use Rattle.laws.specs.Exactly.{Exactly, exactly-same}
+use borrow.Author.Tests.{le-leb, leb-true, eq-eqb, eqb-true}
+use Rattle.laws.specs.Exactly.{Exactly}
 use Rattle.laws.specs.Member.{_∈_}
 use Rattle.laws.specs.Search.{and, every, every-in, every-out, passes, passed, fails}
 use Rattle.laws.specs.Same.{Same}

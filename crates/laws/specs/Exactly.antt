@@ -1,6 +1,6 @@
 -- A test that is true exactly when a fact holds.
 use Prim.Native.Nat.{ℕ, _*_, _/_, _<_}
-use mathlib.Core.Path.{_≡_, refl, sym, _∙_}
+use mathlib.Core.Path.{_≡_, refl, sym}
 use mathlib.Core.Bool.{Bool, true, false, false≢true}
 use native.Mathlib.Omega.{arith}
 use lib.Dec.{ltb}

@@ -1,5 +1,5 @@
 -- Calculation: the answer to a library call, from the raw lent tables on, and what both areas hold after it.
-use mathlib.Core.Bool.{Bool, true, false, not}
+use mathlib.Core.Bool.{Bool, not}
 use mathlib.Core.List.{List}
 use Prim.Native.Nat.{ℕ, _*_, _/_, _%_}
 use lib.Dec.{leb, ltb, eqb}
@@ -7,7 +7,6 @@ use lib.ListN.{length}
 use Rattle.kinds.specs.declared.ConceptName.{ConceptName}
 use Rattle.kinds.specs.declared.RoleName.{RoleName}
 use Rattle.kinds.specs.declared.Individual.{Individual}
-use Rattle.kinds.specs.declared.State.{State}
 use Rattle.kinds.specs.declared.SignedRole.{SignedRole}
 use Rattle.kinds.specs.declared.Concept.{Concept}
 use Rattle.kinds.specs.declared.Counts.{Counts}
@@ -16,12 +15,12 @@ use Rattle.kinds.specs.declared.Answer.the-variants.{No, Yes, Contradiction, Al
 use Rattle.kinds.specs.Kinds.{mostNames, mostRoles, mostIndividuals, mostStates}
 use Rattle.laws.specs.Search.{and, every, pick}
 use Rattle.meaning.specs.Collection.{Collection, Letter, role, test, Step, step}
-use Rattle.meaning.specs.Lite.{lite}
-use Rattle.meaning.specs.Lent.{Tables, Call, collection, collectionOf, kinds, ruleWidth, conceptFactWidth, roleFactWidth, stepWidth, finalWidth, mostConceptRules, mostConceptExclusions, mostRoleRules, mostRoleExclusions, mostConceptFacts, mostRoleFacts, mostSteps, mostFinals}
+use Rattle.meaning.specs.Lent.{Tables, Call, collection, collectionOf, kinds}
+use Rattle.meaning.specs.Lent.{ruleWidth, conceptFactWidth, roleFactWidth, stepWidth, finalWidth, mostConceptRules, mostConceptExclusions, mostRoleRules, mostRoleExclusions, mostConceptFacts, mostRoleFacts, mostSteps, mostFinals}
 use Rattle.meaning.specs.Layout.{areaLength, zeros}
 use Rattle.meaning.specs.LayoutLaws.{stateDeclared, conceptDeclared, image}
-use Rattle.meaning.specs.Tests.{sheet, work}
-use Rattle.meaning.specs.LiteTests.{sameIndividual, liteTests}
+use Rattle.meaning.specs.LiteTests.{sameIndividual}
+use Rattle.meaning.specs.LiteSheet.{liteSheet, liteWork}
 use Rattle.meaning.specs.Reply.{clash, reaches}
 
 unfoldable pub countsFit : Counts → Bool
@@ -110,17 +109,13 @@ endsOk 𝓒 = every (𝓒 .role-facts) endsDiffer
 unfoldable pub askOk : Counts → Individual → Individual → Bool
 askOk c a b = let r = individualDeclared c b in and (individualDeclared c a) r
 
--- the rounds needed, and the closed sheet
-abbrev pub needs : Collection → ℕ × (State → State → Concept → Bool)
-needs 𝓒 = work (lite 𝓒) (liteTests 𝓒)
-
 -- the answer to a sound call: 2, 3, then 1 or 0
 module _ (𝓒 : Collection) (a b : Individual) (allowance : ℕ) where
   unfoldable pub afterRounds : Answer
-  afterRounds = pick (reaches 𝓒 (needs 𝓒 .1) a b) (Yes (needs 𝓒 .0)) (No (needs 𝓒 .0))
+  afterRounds = pick (reaches 𝓒 (liteWork 𝓒 .1) a b) (Yes (liteWork 𝓒 .0)) (No (liteWork 𝓒 .0))
 
   unfoldable pub afterClash : Answer
-  afterClash = let r = afterRounds in pick (ltb allowance (needs 𝓒 .0)) (AllowanceSpent allowance) r
+  afterClash = let r = afterRounds in pick (ltb allowance (liteWork 𝓒 .0)) (AllowanceSpent allowance) r
 
   unfoldable pub soundAnswer : Answer
   soundAnswer = let r = afterClash in pick (clash 𝓒) Contradiction r
@@ -144,7 +139,7 @@ module _ (c : Call) where
 
   -- the area that holds the sheet after n rounds
   abbrev pub sheetArea : ℕ → List ℕ
-  sheetArea n = image (c .counts) (sheet (lite (collectionOf c)) (liteTests (collectionOf c)) n)
+  sheetArea n = image (c .counts) (liteSheet (collectionOf c) n)
 
   -- both areas after an answer: the sheet and zeros after 0, 1 and 3; as they came after all else
   abbrev pub areaAfter : Answer → List ℕ

@@ -1,13 +1,8 @@
 -- What is computed of a call is its outcome, and a call has no other: every input has an outcome, and only one.
-use mathlib.Core.Path.{_≡_, refl, sym, ap, _∙_}
-use mathlib.Core.Bool.{Bool, true, false, not}
-use mathlib.Core.Logic.{_↔_, _⊎_, inl, inr}
 use mathlib.Core.List.{List}
-use Prim.Native.Nat.{ℕ, _*_, _/_, _%_, _≤_, _<_}
-use native.Mathlib.Omega.{arith}
-use lib.Dec.{T, T-not, not-T, leb, leb→le, le→leb, ltb, ltb→lt, lt→ltb, eqb, eqb→eq, eqb-refl}
+use Prim.Native.Nat.{ℕ, _*_, _/_, _%_, _≤_}
+use lib.Dec.{T}
 use lib.ListN.{length}
-use borrow.Author.Tests.{lt-ltb, le-ltb, ltb-true, ltb-false}
 use Rattle.kinds.specs.declared.ConceptName.{ConceptName}
 use Rattle.kinds.specs.declared.RoleName.{RoleName}
 use Rattle.kinds.specs.declared.Individual.{Individual}
@@ -15,30 +10,22 @@ use Rattle.kinds.specs.declared.State.{State}
 use Rattle.kinds.specs.declared.SignedRole.{SignedRole}
 use Rattle.kinds.specs.declared.Concept.{Concept}
 use Rattle.kinds.specs.declared.Counts.{Counts}
-use Rattle.kinds.specs.declared.Answer.{Answer}
-use Rattle.kinds.specs.declared.Answer.the-variants.{No, Yes, Contradiction, AllowanceSpent, BadCount, BadTable, BadNumber, EqualEnds, BadAsk}
-use Rattle.kinds.specs.Kinds.{mostNames, mostRoles, mostIndividuals, mostStates, CountsFit, StateDeclared, ConceptDeclared, IndividualDeclared}
-use Rattle.laws.specs.Member.{_∈_}
-use Rattle.laws.specs.Search.{and, every, pick, passes, fails, passed, failed}
+use Rattle.kinds.specs.Kinds.{mostNames, mostRoles, mostIndividuals, mostStates, CountsFit, StateDeclared, ConceptDeclared}
+use Rattle.laws.specs.Search.{and, every}
 use Rattle.laws.specs.Exactly.{Exactly, exactly-same, below-exactly}
-use Rattle.laws.specs.Decide.{exactly, exactly-out, exactly-in, exactly-not, exactly-and, exactly-every, most-exactly, equal-exactly, same-exactly, not-exactly}
+use Rattle.laws.specs.Decide.{exactly, exactly-and, exactly-every, most-exactly, equal-exactly, same-exactly, not-exactly}
 use Rattle.meaning.specs.Collection.{Collection, Letter, role, test, Step, step, StepDeclared, LetterDeclared, ConceptsDeclared, RolesDeclared, ConceptFactDeclared, RoleFactDeclared, NumbersDeclared, WellFormed}
-use Rattle.meaning.specs.Kind.{Sane}
-use Rattle.meaning.specs.Sheet.{Mark, Needed}
-use Rattle.meaning.specs.SheetLaws.{mark-markable, mark→loop, loop→mark, needed-once}
-use Rattle.meaning.specs.Tree.{Loop}
-use Rattle.meaning.specs.Lite.{lite, validConcepts, declaredStates}
-use Rattle.meaning.specs.Lent.{Tables, Call, collectionOf, kinds, Whole, CountsOk, ShapesOk, TablesOk, NumbersOk, EndsOk, EndsDiffer, AskOk, Sound, ruleWidth, conceptFactWidth, roleFactWidth, stepWidth, finalWidth, mostConceptRules, mostConceptExclusions, mostRoleRules, mostRoleExclusions, mostConceptFacts, mostRoleFacts, mostSteps, mostFinals}
-use Rattle.meaning.specs.Layout.{areaLength, zeros, Lays}
-use Rattle.meaning.specs.LayoutLaws.{stateDeclared, conceptDeclared, conceptDeclared-in, conceptDeclared-out, image, image-lays, lays-once}
-use Rattle.meaning.specs.Outcome.{Outcome, bad-count, bad-table, bad-number, equal-ends, bad-ask, contradiction, spent, says-yes, says-no, Breaks, Reached, RoundsNeeded, HoldsSheet}
-use Rattle.meaning.specs.Declared.{state-in, state-out, concept-in, concept-out, lite-sane}
-use Rattle.meaning.specs.Tests.{sheet, work, mark-in, mark-out, sheet-to, works}
-use Rattle.meaning.specs.LiteTests.{sameIndividual, individual-same, liteTests, lite-decides}
-use Rattle.meaning.specs.Reply.{clash, reaches}
-use Rattle.meaning.specs.ReplyLaws.{reaches-is}
-use Rattle.meaning.specs.ClashLaws.{clash-is}
-use Rattle.meaning.specs.Calculate.{countsFit, whole, shapesOk, areasOk, tablesOk, nameDeclared, signedDeclared, individualDeclared, conceptsDeclared, rolesDeclared, conceptFactDeclared, roleFactDeclared, letterDeclared, stepDeclared, numbersDeclared, kindOk, numbersOk, endsDiffer, endsOk, askOk, needs}
+use Rattle.meaning.specs.Sheet.{Markable, Mark}
+use Rattle.meaning.specs.SheetLaws.{mark-markable}
+use Rattle.meaning.specs.Lite.{lite}
+use Rattle.meaning.specs.Lent.{Tables, Call, collectionOf, kinds, Whole, ShapesOk, TablesOk, NumbersOk, EndsOk, EndsDiffer, AskOk, ruleWidth, conceptFactWidth, roleFactWidth, stepWidth, finalWidth, mostConceptRules, mostConceptExclusions, mostRoleRules, mostRoleExclusions, mostConceptFacts, mostRoleFacts, mostSteps, mostFinals}
+use Rattle.meaning.specs.Layout.{areaLength, Lays}
+use Rattle.meaning.specs.LayoutLaws.{stateDeclared, conceptDeclared, conceptDeclared-in, conceptDeclared-out, image, image-lays}
+use Rattle.meaning.specs.Declared.{state-in, state-out, concept-in, concept-out}
+use Rattle.meaning.specs.Tests.{sheet}
+use Rattle.meaning.specs.LiteTests.{sameIndividual, individual-same}
+use Rattle.meaning.specs.LiteSheet.{liteSheet, lite-mark-in, lite-mark-out}
+use Rattle.meaning.specs.Calculate.{countsFit, whole, shapesOk, areasOk, tablesOk, conceptsDeclared, rolesDeclared, conceptFactDeclared, roleFactDeclared, letterDeclared, stepDeclared, numbersDeclared, kindOk, numbersOk, endsDiffer, endsOk, askOk}
 
 -- test 4
 pub counts-test : (c : Counts) → Exactly (countsFit c) (CountsFit c)
@@ -160,35 +147,17 @@ pub ask-test : (c : Call) → Exactly (askOk (c .counts) (c .first) (c .second))
 unfolding askOk
 ask-test c = exactly-and (below-exactly (c .first .0) (c .counts .individuals)) (below-exactly (c .second .0) (c .counts .individuals))
 
--- the sheet of a well-formed collection, as it is computed
+-- the area that is computed holds the sheet
 module _ (𝓒 : Collection) (ok : WellFormed 𝓒) where
-  place-declared : (n : ℕ) (s t : State) (B : Concept) → Mark (lite 𝓒) n s t B → StateDeclared (𝓒 .counts) s × StateDeclared (𝓒 .counts) t × ConceptDeclared (𝓒 .counts) B
-  place-declared n s t B m =
+  mark-declared : (n : ℕ) (s t : State) (B : Concept) → Mark (lite 𝓒) n s t B → StateDeclared (𝓒 .counts) s × StateDeclared (𝓒 .counts) t × ConceptDeclared (𝓒 .counts) B
+  mark-declared n s t B m =
       let p = mark-markable (lite 𝓒) n s t B m in
       (state-out (𝓒 .counts) s (p .from), state-out (𝓒 .counts) t (p .to), concept-out (𝓒 .counts) B (p .of))
 
-  pub sheet-lays : (n : ℕ) → Lays (Mark (lite 𝓒) n) (image (𝓒 .counts) (sheet (lite 𝓒) (liteTests 𝓒) n))
-  sheet-lays n =
-      image-lays (𝓒 .counts) (ok .counts) (sheet (lite 𝓒) (liteTests 𝓒) n) (Mark (lite 𝓒) n) (place-declared n)
-      (λ s t B m. mark-in (lite 𝓒) (liteTests 𝓒) (lite-decides 𝓒 (ok .numbers)) (lite-sane 𝓒 (ok .numbers)) n s t B m)
-      (λ s t B i j d h. mark-out (lite 𝓒) (liteTests 𝓒) (lite-decides 𝓒 (ok .numbers)) (lite-sane 𝓒 (ok .numbers)) n s t B (record { from = state-in (𝓒 .counts) s i; to = state-in (𝓒 .counts) t j; of = concept-in (𝓒 .counts) B d }) h)
+  declared-mark : (n : ℕ) (s t : State) (B : Concept) → StateDeclared (𝓒 .counts) s → StateDeclared (𝓒 .counts) t → ConceptDeclared (𝓒 .counts) B → T (liteSheet 𝓒 n s t B) → Mark (lite 𝓒) n s t B
+  declared-mark n s t B i j d h =
+      let p : Markable (lite 𝓒) s t B = record { from = state-in (𝓒 .counts) s i; to = state-in (𝓒 .counts) t j; of = concept-in (𝓒 .counts) B d } in
+      lite-mark-out 𝓒 (ok .numbers) n s t B p h
 
-  abbrev worked : ℕ × (State → State → Concept → Bool)
-  worked = work (lite 𝓒) (liteTests 𝓒)
-
-  pub worked-needed : Needed (lite 𝓒) (worked .0)
-  worked-needed = works (lite 𝓒) (liteTests 𝓒) (lite-decides 𝓒 (ok .numbers)) (lite-sane 𝓒 (ok .numbers)) .0
-
-  worked-sheet : worked .1 ≡ sheet (lite 𝓒) (liteTests 𝓒) (worked .0)
-  worked-sheet = works (lite 𝓒) (liteTests 𝓒) (lite-decides 𝓒 (ok .numbers)) (lite-sane 𝓒 (ok .numbers)) .1
-
-  pub worked-out : (s t : State) (B : Concept) → s ∈ declaredStates (𝓒 .counts) → B ∈ validConcepts (𝓒 .counts) → T (worked .1 s t B) → Loop (lite 𝓒) B s t
-  worked-out s t B m b h =
-      let k : T (sheet (lite 𝓒) (liteTests 𝓒) (worked .0) s t B) = rw worked-sheet at h in
-      let j = sheet-to (lite 𝓒) (liteTests 𝓒) (lite-decides 𝓒 (ok .numbers)) (lite-sane 𝓒 (ok .numbers)) (worked .0) s t B m b k in
-      mark→loop (lite 𝓒) (worked .0) s t B (mark-out (lite 𝓒) (liteTests 𝓒) (lite-decides 𝓒 (ok .numbers)) (lite-sane 𝓒 (ok .numbers)) (worked .0) s t B (record { from = m; to = j; of = b }) k)
-
-  pub worked-in : (s t : State) (B : Concept) → s ∈ declaredStates (𝓒 .counts) → B ∈ validConcepts (𝓒 .counts) → Loop (lite 𝓒) B s t → T (worked .1 s t B)
-  worked-in s t B m b l =
-      rw worked-sheet
-      (mark-in (lite 𝓒) (liteTests 𝓒) (lite-decides 𝓒 (ok .numbers)) (lite-sane 𝓒 (ok .numbers)) (worked .0) s t B (loop→mark (lite 𝓒) (lite-sane 𝓒 (ok .numbers)) (worked .0) (worked-needed .holds) l b m))
+  pub sheet-lays : (n : ℕ) → Lays (Mark (lite 𝓒) n) (image (𝓒 .counts) (liteSheet 𝓒 n))
+  sheet-lays n = image-lays (𝓒 .counts) (ok .counts) (liteSheet 𝓒 n) (Mark (lite 𝓒) n) (mark-declared n) (lite-mark-in 𝓒 (ok .numbers) n) (declared-mark n)

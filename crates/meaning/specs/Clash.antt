@@ -1,12 +1,12 @@
 -- A contradiction anywhere in the canonical model is one among individuals, living roles and pairs joined by a fact.
-use mathlib.Core.Path.{_≡_, refl, sym, ap}
+use mathlib.Core.Path.{_≡_, refl, ap}
 use mathlib.Core.Logic.{_↔_}
 use Prim.Native.Nat.{ℕ, zero, suc}
 use native.Mathlib.Omega.{arith}
 use Rattle.kinds.specs.declared.Individual.{Individual}
 use Rattle.kinds.specs.declared.SignedRole.{SignedRole}
 use Rattle.kinds.specs.declared.Concept.{Concept}
-use Rattle.kinds.specs.declared.Concept.the-variants.{Name, Exists}
+use Rattle.kinds.specs.declared.Concept.the-variants.{Exists}
 use Rattle.kinds.specs.Kinds.{inverse, signed, IndividualDeclared}
 use Rattle.laws.specs.Member.{_∈_}
 use Rattle.meaning.specs.Collection.{Collection, NumbersDeclared}

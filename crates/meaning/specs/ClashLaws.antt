@@ -1,22 +1,21 @@
 -- What is computed as contradiction is a contradiction of the canonical model.
-use mathlib.Core.Path.{_≡_, refl, sym}
-use mathlib.Core.Bool.{Bool, true, false}
+use mathlib.Core.Path.{_≡_}
 use mathlib.Core.Logic.{_↔_, _⊎_, inl, inr}
 use mathlib.Core.List.{List}
 use lib.Dec.{T}
 use Rattle.kinds.specs.declared.Individual.{Individual}
 use Rattle.kinds.specs.declared.SignedRole.{SignedRole}
 use Rattle.kinds.specs.declared.Concept.{Concept}
-use Rattle.kinds.specs.declared.Concept.the-variants.{Name, Exists}
+use Rattle.kinds.specs.declared.Concept.the-variants.{Exists}
 use Rattle.kinds.specs.Kinds.{inverse, inverse-inverse, inverse-declared, SignedDeclared}
 use Rattle.laws.specs.Member.{_∈_}
 use Rattle.laws.specs.Search.{any, any-in, any-out, or, or-left, or-right, or-case, and, and-left, and-right, and-both}
 use Rattle.laws.specs.Pairs.{pairs, pairs-in}
-use Rattle.laws.specs.Chain.{Chain, link, chain, closed, closed-in, closed-out}
+use Rattle.laws.specs.Chain.{Chain, link, chain, closed-in, closed-out}
 use Rattle.meaning.specs.Collection.{Collection, WellFormed}
 use Rattle.meaning.specs.Orders.{RoleLe, ConceptLe}
 use Rattle.meaning.specs.Lite.{signedRoles}
-use Rattle.meaning.specs.Model.{IndividualHas, FactEdge, Contradiction}
+use Rattle.meaning.specs.Model.{IndividualHas, Contradiction}
 use Rattle.meaning.specs.ModelWalk.{edge-declared}
 use Rattle.meaning.specs.Clash.{Alive, sprouts, grows, Clash, individual-clash, unnamed-clash, fact-clash, down-clash, up-clash, contradiction↔clash, typed-declared}
 use Rattle.meaning.specs.Declared.{signed-in, signed-out, concept-declared}

@@ -1,19 +1,16 @@
 -- The three demands, about the outcome of a library call, as they are worded.
-use mathlib.Core.Path.{_≡_, refl, sym}
+use mathlib.Core.Path.{_≡_, refl}
 use mathlib.Core.Logic.{_↔_, _⊎_, inl, inr}
 use mathlib.Core.List.{List}
 use Prim.Native.Nat.{ℕ, _+_, _*_, _-_, _≤_, _<_}
 use native.Mathlib.Nat.{mul-le-mul}
 use native.Mathlib.Omega.{arith}
-use lib.ListN.{length}
-use Rattle.kinds.specs.declared.Individual.{Individual}
 use Rattle.kinds.specs.declared.State.{State}
 use Rattle.kinds.specs.declared.Concept.{Concept}
 use Rattle.kinds.specs.declared.Answer.{Answer}
-use Rattle.kinds.specs.declared.Answer.the-variants.{No, Yes, Contradiction, AllowanceSpent, BadCount, BadTable, BadNumber, EqualEnds, BadAsk}
 use Rattle.kinds.specs.declared.Counts.{Counts}
 use Rattle.kinds.specs.Kinds.{CountsFit, StateDeclared, ConceptDeclared}
-use Rattle.kinds.specs.Answer.{answerNumber, answerCount}
+use Rattle.kinds.specs.Answer.{answerNumber}
 use Rattle.meaning.specs.Collection.{Collection, WellFormed}
 use Rattle.meaning.specs.Sheet.{Mark, Needed}
 use Rattle.meaning.specs.SheetLaws.{needed-once, mark→loop, loop→mark}
@@ -27,7 +24,7 @@ use Rattle.meaning.specs.Declared.{concepts-count, states-count, state-i
 use Rattle.meaning.specs.Tests.{rounds-bound}
 use Rattle.meaning.specs.LiteTests.{liteTests, lite-decides}
 use Rattle.meaning.specs.Lent.{Call, collectionOf, Sound}
-use Rattle.meaning.specs.Outcome.{Outcome, bad-count, bad-table, bad-number, equal-ends, bad-ask, contradiction, spent, says-yes, says-no, Breaks, Reached, RoundsNeeded, HoldsSheet}
+use Rattle.meaning.specs.Outcome.{Outcome, bad-count, bad-table, bad-number, equal-ends, bad-ask, contradiction, spent, says-yes, says-no, Breaks, Reached, RoundsNeeded}
 use Rattle.meaning.specs.OutcomeLaws.{sound-well-formed}
 use Rattle.meaning.specs.Larger.{Larger, yes-grows, contradiction-grows}
 

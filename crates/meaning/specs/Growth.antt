@@ -1,6 +1,6 @@
 -- Growth: a rules' kind that yields more yields every loop, walk and path again.
-use mathlib.Core.Path.{_≡_, refl}
-use Rattle.meaning.specs.Run.{Run, stop, go, carry, one}
+use mathlib.Core.Path.{_≡_}
+use Rattle.meaning.specs.Run.{Run, stop, go}
 use Rattle.meaning.specs.Kind.{Kind}
 use Rattle.meaning.specs.Tree.{root, Loop, here, tested, twice, below, Move, Stride, along, by, path↔walk}
 

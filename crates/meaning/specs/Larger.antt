@@ -1,18 +1,17 @@
 -- A larger collection: its canonical model has every path and every contradiction of the smaller one's.
 use mathlib.Core.Path.{_≡_, refl}
-use mathlib.Core.List.{List}
 use Rattle.kinds.specs.declared.Individual.{Individual}
 use Rattle.kinds.specs.declared.State.{State}
 use Rattle.kinds.specs.declared.SignedRole.{SignedRole}
 use Rattle.kinds.specs.declared.Concept.{Concept}
 use Rattle.kinds.specs.declared.Concept.the-variants.{Exists}
 use Rattle.kinds.specs.Kinds.{IndividualDeclared}
-use Rattle.laws.specs.Member.{_∈_, Within}
+use Rattle.laws.specs.Member.{Within}
 use Rattle.meaning.specs.Collection.{Collection, step, role, WellFormed}
 use Rattle.meaning.specs.Orders.{RoleLe, ConceptLe, same, then, rule, turned, wider}
 use Rattle.meaning.specs.Tree.{root, _▹_}
 use Rattle.meaning.specs.Model.{Has, Belongs, bare, grown, Edge, fact, child, parent, individuals, Element, Typed, named, first, second, IndividualHas, FactEdge, ahead, behind, canonical, Contradiction, at-element, at-pair}
-use Rattle.meaning.specs.Question.{PathIn, Yes}
+use Rattle.meaning.specs.Question.{Yes}
 use Rattle.meaning.specs.Growth.{Grows, walk-grows}
 use Rattle.meaning.specs.Lite.{lite}
 use Rattle.meaning.specs.ModelWalk.{Near, IndividualsWalk, path↔individuals-walk}

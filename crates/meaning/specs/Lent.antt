@@ -1,8 +1,7 @@
 -- What a library call is lent: five counts, eight tables of 16-bit numbers, a pair, an allowance and two areas; and its tests 4 to 8.
 use mathlib.Core.Path.{_≡_}
-use mathlib.Core.Bool.{Bool, true, false}
-use mathlib.Core.List.{List, map}
-use Prim.Native.Nat.{ℕ, zero, suc, _+_, _*_, _/_, _%_, _≤_, _<_}
+use mathlib.Core.List.{List}
+use Prim.Native.Nat.{ℕ, zero, suc, _+_, _*_, _/_, _%_, _≤_}
 use lib.ListN.{length, getD}
 use Rattle.kinds.specs.declared.ConceptName.{ConceptName}
 use Rattle.kinds.specs.declared.RoleName.{RoleName}
@@ -101,9 +100,17 @@ finalAt t k = state (field finalWidth t 0 k)
 
 -- the collection that is lent
 abbrev pub collection : Counts → Tables → Collection
-collection c t =
-    record
-    { counts = c; concept-rules = records ruleWidth conceptPair (t .concept-rules); concept-exclusions = records ruleWidth conceptPair (t .concept-exclusions); role-rules = records ruleWidth rolePair (t .role-rules); role-exclusions = records ruleWidth rolePair (t .role-exclusions); concept-facts = records conceptFactWidth conceptFact (t .concept-facts); role-facts = records roleFactWidth roleFact (t .role-facts); steps = records stepWidth stepAt (t .steps); finals = records finalWidth finalAt (t .finals) }
+collection c t = record {
+  counts = c;
+  concept-rules = records ruleWidth conceptPair (t .concept-rules);
+  concept-exclusions = records ruleWidth conceptPair (t .concept-exclusions);
+  role-rules = records ruleWidth rolePair (t .role-rules);
+  role-exclusions = records ruleWidth rolePair (t .role-exclusions);
+  concept-facts = records conceptFactWidth conceptFact (t .concept-facts);
+  role-facts = records roleFactWidth roleFact (t .role-facts);
+  steps = records stepWidth stepAt (t .steps);
+  finals = records finalWidth finalAt (t .finals);
+}
 
 pub record Call : Type 0 where
   pub counts : Counts

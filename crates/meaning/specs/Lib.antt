@@ -17,6 +17,7 @@ pub mod ModelWalk
 pub mod Tests
 pub mod Declared
 pub mod LiteTests
+pub mod LiteSheet
 pub mod Clash
 pub mod Reply
 pub mod ReplyLaws
@@ -29,3 +30,4 @@ pub mod QuestionLaws
 pub mod Larger
 pub mod Demands
 pub mod Cases
+pub mod CasesHold

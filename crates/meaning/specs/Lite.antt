@@ -2,7 +2,6 @@
 use mathlib.Core.List.{List, _++_, map}
 use Prim.Native.Nat.{_*_}
 use Rattle.kinds.specs.declared.ConceptName.{ConceptName}
-use Rattle.kinds.specs.declared.Individual.{Individual}
 use Rattle.kinds.specs.declared.State.{State}
 use Rattle.kinds.specs.declared.SignedRole.{SignedRole}
 use Rattle.kinds.specs.declared.Concept.{Concept}
@@ -38,6 +37,15 @@ module _ (𝓒 : Collection) where
   StepUp R u v = (U : SignedRole) × RoleStep 𝓒 u (inverse U) v × RoleLe 𝓒 R U
 
   abbrev pub lite : Kind
-  lite =
-      record
-      { Concept = Concept; State = State; Edge = SignedRole; concepts = validConcepts (𝓒 .counts); states = declaredStates (𝓒 .counts); end = λ R. Exists (inverse R); child = λ B R. ConceptLe 𝓒 B (Exists R); test = TestAt; down = StepDown; up = StepUp }
+  lite = record {
+    Concept = Concept;
+    State = State;
+    Edge = SignedRole;
+    concepts = validConcepts (𝓒 .counts);
+    states = declaredStates (𝓒 .counts);
+    end = λ R. Exists (inverse R);
+    child = λ B R. ConceptLe 𝓒 B (Exists R);
+    test = TestAt;
+    down = StepDown;
+    up = StepUp;
+  }

@@ -1,9 +1,7 @@
 -- Calculation: R ≤ S, C ≤ D and DL-Lite's steps as tests that compute, and that they say what the definitions say.
-use mathlib.Core.Path.{_≡_, refl, sym, ap}
-use mathlib.Core.Bool.{Bool, true, false}
-use mathlib.Core.Logic.{_↔_, _⊎_, inl, inr}
-use mathlib.Core.List.{List}
-use Prim.Native.Nat.{ℕ}
+use mathlib.Core.Path.{_≡_, refl, ap}
+use mathlib.Core.Bool.{Bool, false}
+use mathlib.Core.Logic.{_⊎_, inl, inr}
 use lib.Dec.{T, eqb, eqb→eq, eqb-refl}
 use Rattle.kinds.specs.declared.ConceptName.{ConceptName}
 use Rattle.kinds.specs.declared.Individual.{Individual}
@@ -11,11 +9,11 @@ use Rattle.kinds.specs.declared.State.{State}
 use Rattle.kinds.specs.declared.SignedRole.{SignedRole}
 use Rattle.kinds.specs.declared.Concept.{Concept}
 use Rattle.kinds.specs.declared.Concept.the-variants.{Name, Exists}
-use Rattle.kinds.specs.Kinds.{inverse, inverse-inverse, inverse-declared, conceptName, individual, signed, state, SignedDeclared, ConceptDeclared}
+use Rattle.kinds.specs.Kinds.{inverse, inverse-inverse, conceptName, individual, signed, state, SignedDeclared, ConceptDeclared}
 use Rattle.laws.specs.Member.{_∈_}
 use Rattle.laws.specs.Search.{any, any-in, any-out, or, or-left, or-right, or-case, and, and-left, and-right, and-both}
 use Rattle.laws.specs.Same.{Same, both, both-same, listed-in, listed-out}
-use Rattle.laws.specs.Chain.{Chain, link, chain, closing, closed, closed-in, closed-out}
+use Rattle.laws.specs.Chain.{Chain, link, chain, closed, closed-in, closed-out}
 use Rattle.meaning.specs.Collection.{Collection, Letter, role, test, Step, step, RoleStep, TestStep, NumbersDeclared}
 use Rattle.meaning.specs.Orders.{RoleLe, ConceptLe, same, then, rule, turned, wider}
 use Rattle.meaning.specs.Lite.{signedRoles, validConcepts, lite}

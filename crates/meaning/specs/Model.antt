@@ -1,5 +1,4 @@
 -- The canonical model: its elements, their concepts, its edges and its contradictions, to any depth.
-use mathlib.Core.List.{List}
 use Rattle.kinds.specs.declared.ConceptName.{ConceptName}
 use Rattle.kinds.specs.declared.RoleName.{RoleName}
 use Rattle.kinds.specs.declared.Individual.{Individual}
@@ -63,7 +62,12 @@ module _ (𝓒 : Collection) where
 
   -- the roots of the canonical model are the declared individuals
   abbrev pub individuals : Roots
-  individuals = record { Root = Individual; belongs = IndividualDeclared (𝓒 .counts); has = IndividualHas; edge = FactEdge }
+  individuals = record {
+    Root = Individual;
+    belongs = IndividualDeclared (𝓒 .counts);
+    has = IndividualHas;
+    edge = FactEdge;
+  }
 
   -- an element of the canonical model: an individual followed by a finite row of signed roles
   abbrev pub Element : Type 0
@@ -79,7 +83,12 @@ module _ (𝓒 : Collection) where
 
   -- the tree grown from one element whose only concept is B, and what follows from B
   abbrev pub only : Concept → Roots
-  only B = record { Root = Unit {0}; belongs = λ a. Unit {0}; has = λ a D. ConceptLe 𝓒 B D; edge = λ a S b. ⊥ }
+  only B = record {
+    Root = Unit {0};
+    belongs = λ a. Unit {0};
+    has = λ a D. ConceptLe 𝓒 B D;
+    edge = λ a S b. ⊥;
+  }
 
   abbrev pub treeOf : Concept → Structure
   treeOf B = grownFrom 𝓒 (only B)

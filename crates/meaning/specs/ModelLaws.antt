@@ -1,17 +1,16 @@
 -- The canonical model has every fact and keeps every rule: edges read both ways and follow the role order, concepts follow the concept order.
-use mathlib.Core.Path.{_≡_, refl}
 use Rattle.kinds.specs.declared.ConceptName.{ConceptName}
 use Rattle.kinds.specs.declared.RoleName.{RoleName}
 use Rattle.kinds.specs.declared.Individual.{Individual}
 use Rattle.kinds.specs.declared.SignedRole.{SignedRole}
 use Rattle.kinds.specs.declared.Concept.{Concept}
 use Rattle.kinds.specs.declared.Concept.the-variants.{Name, Exists}
-use Rattle.kinds.specs.Kinds.{inverse, inverse-inverse, inverse-forward, forward, backward, IndividualDeclared}
+use Rattle.kinds.specs.Kinds.{inverse, inverse-inverse, inverse-forward, forward, backward}
 use Rattle.laws.specs.Member.{_∈_}
-use Rattle.meaning.specs.Collection.{Collection, WellFormed}
+use Rattle.meaning.specs.Collection.{Collection}
 use Rattle.meaning.specs.Orders.{RoleLe, ConceptLe, same, then, rule, turned, wider}
 use Rattle.meaning.specs.Tree.{Elem, root, _▹_}
-use Rattle.meaning.specs.Model.{Roots, Has, Belongs, bare, grown, Edge, fact, child, parent, individuals, Element, named, first, second, IndividualHas, FactEdge, ahead, behind}
+use Rattle.meaning.specs.Model.{Roots, Has, Belongs, grown, Edge, fact, child, parent, individuals, Element, named, first, second, IndividualHas, FactEdge, ahead, behind}
 
 -- a child's parent belongs, and has what the child was promised by
 pub born : (𝓒 : Collection) (𝓡 : Roots) {x : Elem (𝓡 .Root) SignedRole} {R : SignedRole} → Belongs 𝓒 𝓡 (x ▹ R) → Belongs 𝓒 𝓡 x × Has 𝓒 𝓡 x (Exists R)

@@ -1,19 +1,17 @@
 -- Paths between roots, in the canonical model and in a tree grown from one element, are walks of the loop sheet's rules.
-use mathlib.Core.Path.{_≡_, refl}
+use mathlib.Core.Path.{refl}
 use mathlib.Core.Logic.{_↔_}
-use Rattle.kinds.specs.declared.ConceptName.{ConceptName}
 use Rattle.kinds.specs.declared.Individual.{Individual}
 use Rattle.kinds.specs.declared.State.{State}
 use Rattle.kinds.specs.declared.SignedRole.{SignedRole}
 use Rattle.kinds.specs.declared.Concept.{Concept}
 use Rattle.kinds.specs.declared.Concept.the-variants.{Name, Exists}
 use Rattle.kinds.specs.Kinds.{inverse, IndividualDeclared}
-use Rattle.laws.specs.Member.{_∈_}
-use Rattle.meaning.specs.Collection.{Collection, RoleStep, TestStep, WellFormed}
-use Rattle.meaning.specs.Orders.{RoleLe, ConceptLe, same, then}
+use Rattle.meaning.specs.Collection.{Collection, RoleStep, WellFormed}
+use Rattle.meaning.specs.Orders.{ConceptLe, same, then}
 use Rattle.meaning.specs.Run.{Run, stop, go, one, carry}
 use Rattle.meaning.specs.Tree.{Elem, root, _▹_, Loop, here, tested, twice, below, Holds, Move, tests, downs, ups, hops, Stride, along, by, path↔walk}
-use Rattle.meaning.specs.Model.{Roots, Has, Belongs, bare, grown, Edge, fact, child, parent, grownFrom, individuals, canonical, only, treeOf, FactEdge, ahead, behind}
+use Rattle.meaning.specs.Model.{Roots, Has, Belongs, bare, grown, fact, child, parent, grownFrom, individuals, canonical, only, treeOf, FactEdge, ahead, behind}
 use Rattle.meaning.specs.ModelLaws.{born}
 use Rattle.meaning.specs.Question.{Going, along-role, at-name, PathIn}
 use Rattle.meaning.specs.Lite.{lite}

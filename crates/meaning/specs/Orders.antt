@@ -1,5 +1,4 @@
 -- What follows from the rules: R ≤ S and C ≤ D, the smallest relations that document 01 names. Exclusions derive nothing.
-use mathlib.Core.List.{List}
 use Rattle.kinds.specs.declared.SignedRole.{SignedRole}
 use Rattle.kinds.specs.declared.Concept.{Concept}
 use Rattle.kinds.specs.declared.Concept.the-variants.{Exists}

@@ -1,11 +1,10 @@
 -- Every library input has an outcome, and only one: answer, count and both areas.
 use mathlib.Core.Path.{_≡_, refl, sym, ap, _∙_}
 use mathlib.Core.Bool.{Bool, true, false}
-use mathlib.Core.Logic.{_↔_}
 use mathlib.Core.List.{List}
-use Prim.Native.Nat.{ℕ, _≤_, _<_}
+use Prim.Native.Nat.{ℕ, _≤_}
 use native.Mathlib.Omega.{arith}
-use lib.Dec.{T, ltb}
+use lib.Dec.{ltb}
 use borrow.Author.Tests.{lt-ltb, le-ltb, ltb-true, ltb-false}
 use Rattle.kinds.specs.declared.Answer.{Answer}
 use Rattle.kinds.specs.declared.Answer.the-variants.{No, Yes, Contradiction, AllowanceSpent, BadCount, BadTable, BadNumber, EqualEnds, BadAsk}
@@ -15,15 +14,15 @@ use Rattle.laws.specs.Decide.{exactly, exactly-not, exactly-fails}
 use Rattle.meaning.specs.Collection.{WellFormed}
 use Rattle.meaning.specs.SheetLaws.{needed-once}
 use Rattle.meaning.specs.Lite.{lite}
-use Rattle.meaning.specs.Lent.{Call, collectionOf, CountsOk, TablesOk, NumbersOk, EndsOk, AskOk, Sound}
-use Rattle.meaning.specs.Layout.{zeros}
+use Rattle.meaning.specs.Lent.{Call, collectionOf, CountsOk, TablesOk, NumbersOk, EndsOk, Sound}
 use Rattle.meaning.specs.LayoutLaws.{lays-once}
 use Rattle.meaning.specs.Outcome.{Outcome, bad-count, bad-table, bad-number, equal-ends, bad-ask, contradiction, spent, says-yes, says-no, Breaks, Reached, RoundsNeeded, HoldsSheet}
 use Rattle.meaning.specs.Reply.{clash, reaches}
 use Rattle.meaning.specs.ReplyLaws.{reaches-is}
 use Rattle.meaning.specs.ClashLaws.{clash-is}
-use Rattle.meaning.specs.Calculate.{countsFit, tablesOk, numbersOk, endsOk, askOk, needs, afterRounds, afterClash, soundAnswer, afterEnds, afterNumbers, afterTables, afterCounts, answer, sheetArea, areaAfter, spareAfter}
-use Rattle.meaning.specs.CalculateLaws.{counts-test, tables-test, numbers-test, ends-test, ask-test, sheet-lays, worked-needed, worked-out, worked-in}
+use Rattle.meaning.specs.Calculate.{countsFit, tablesOk, numbersOk, endsOk, askOk, afterRounds, afterClash, soundAnswer, afterEnds, afterNumbers, afterTables, afterCounts, answer, sheetArea, areaAfter, spareAfter}
+use Rattle.meaning.specs.CalculateLaws.{counts-test, tables-test, numbers-test, ends-test, ask-test, sheet-lays}
+use Rattle.meaning.specs.LiteSheet.{liteWork, lite-needed, closed-out, closed-in}
 
 module _ (c : Call) where
   -- what is lent in a call that passes tests 4 and 6 is well-formed
@@ -36,14 +35,14 @@ module _ (c : Call) where
   clash-test : Sound c → Exactly (clash (collectionOf c)) (Breaks c)
   clash-test s = let w = clash-is (collectionOf c) (sound-well-formed s) in exactly (clash (collectionOf c)) (w .0) (w .1)
 
-  reaches-test : Sound c → Exactly (reaches (collectionOf c) (needs (collectionOf c) .1) (c .first) (c .second)) (Reached c)
+  reaches-test : Sound c → Exactly (reaches (collectionOf c) (liteWork (collectionOf c) .1) (c .first) (c .second)) (Reached c)
   reaches-test s =
       let ok = sound-well-formed s in
-      let w = reaches-is (collectionOf c) ok (needs (collectionOf c) .1) (worked-out (collectionOf c) ok) (worked-in (collectionOf c) ok) (c .first) (c .second) (s .ask .0) in
-      exactly (reaches (collectionOf c) (needs (collectionOf c) .1) (c .first) (c .second)) (w .0) (w .1)
+      let w = reaches-is (collectionOf c) ok (liteWork (collectionOf c) .1) (closed-out (collectionOf c) (ok .numbers)) (closed-in (collectionOf c) (ok .numbers)) (c .first) (c .second) (s .ask .0) in
+      exactly (reaches (collectionOf c) (liteWork (collectionOf c) .1) (c .first) (c .second)) (w .0) (w .1)
 
-  pub rounds-needed : Sound c → RoundsNeeded c (needs (collectionOf c) .0)
-  rounds-needed s = worked-needed (collectionOf c) (sound-well-formed s)
+  pub rounds-needed : Sound c → RoundsNeeded c (liteWork (collectionOf c) .0)
+  rounds-needed s = lite-needed (collectionOf c) (s .numbers .declared)
 
   pub holds-sheet : Sound c → (n : ℕ) → HoldsSheet c n (sheetArea c n)
   holds-sheet s n = sheet-lays (collectionOf c) (sound-well-formed s) n
@@ -52,19 +51,19 @@ module _ (c : Call) where
   abbrev Done : Answer → Type 0
   Done r = Outcome c r (areaAfter c r) (spareAfter c r)
 
-  rounds-stage : Sound c → (Breaks c → ⊥) → needs (collectionOf c) .0 ≤ c .allowance → Done (afterRounds (collectionOf c) (c .first) (c .second) (c .allowance))
+  rounds-stage : Sound c → (Breaks c → ⊥) → liteWork (collectionOf c) .0 ≤ c .allowance → Done (afterRounds (collectionOf c) (c .first) (c .second) (c .allowance))
   unfolding afterRounds
-  rounds-stage s sane h = side (reaches (collectionOf c) (needs (collectionOf c) .1) (c .first) (c .second)) refl
+  rounds-stage s sane h = side (reaches (collectionOf c) (liteWork (collectionOf c) .1) (c .first) (c .second)) refl
     where
-      side : (b : Bool) → reaches (collectionOf c) (needs (collectionOf c) .1) (c .first) (c .second) ≡ b → Done (pick b (Yes (needs (collectionOf c) .0)) (No (needs (collectionOf c) .0)))
-      side true e = says-yes s sane (rounds-needed s) h (holds-sheet s (needs (collectionOf c) .0)) (reaches-test s .holds e)
-      side false e = says-no s sane (rounds-needed s) h (holds-sheet s (needs (collectionOf c) .0)) (exactly-not (reaches-test s) e)
+      side : (b : Bool) → reaches (collectionOf c) (liteWork (collectionOf c) .1) (c .first) (c .second) ≡ b → Done (pick b (Yes (liteWork (collectionOf c) .0)) (No (liteWork (collectionOf c) .0)))
+      side true e = says-yes s sane (rounds-needed s) h (holds-sheet s (liteWork (collectionOf c) .0)) (reaches-test s .holds e)
+      side false e = says-no s sane (rounds-needed s) h (holds-sheet s (liteWork (collectionOf c) .0)) (exactly-not (reaches-test s) e)
 
   clash-stage : Sound c → (Breaks c → ⊥) → Done (afterClash (collectionOf c) (c .first) (c .second) (c .allowance))
   unfolding afterClash
-  clash-stage s sane = side (ltb (c .allowance) (needs (collectionOf c) .0)) refl
+  clash-stage s sane = side (ltb (c .allowance) (liteWork (collectionOf c) .0)) refl
     where
-      side : (b : Bool) → ltb (c .allowance) (needs (collectionOf c) .0) ≡ b → Done (pick b (AllowanceSpent (c .allowance)) (afterRounds (collectionOf c) (c .first) (c .second) (c .allowance)))
+      side : (b : Bool) → ltb (c .allowance) (liteWork (collectionOf c) .0) ≡ b → Done (pick b (AllowanceSpent (c .allowance)) (afterRounds (collectionOf c) (c .first) (c .second) (c .allowance)))
       side true e = spent s sane (rounds-needed s) (ltb-true _ _ e) (holds-sheet s (c .allowance))
       side false e = rounds-stage s sane (ltb-false _ _ e)
 
@@ -135,14 +134,14 @@ module _ (c : Call) where
   outcome-answer (bad-ask k t n e h) = rw (counts-test (c .counts) .shows k, tables-test c .shows t, numbers-test c .shows n, ends-test c .shows e, exactly-fails (ask-test c) h)
   outcome-answer (contradiction s h) = rw (passes-all s, clash-test s .shows h)
   outcome-answer (spent {n = n} s sane need h lays) =
-      let e = needed-once (lite (collectionOf c)) n (needs (collectionOf c) .0) need (rounds-needed s) in
-      rw (passes-all s, exactly-fails (clash-test s) sane, lt-ltb (c .allowance) (needs (collectionOf c) .0) (omega arith))
+      let e = needed-once (lite (collectionOf c)) n (liteWork (collectionOf c) .0) need (rounds-needed s) in
+      rw (passes-all s, exactly-fails (clash-test s) sane, lt-ltb (c .allowance) (liteWork (collectionOf c) .0) (omega arith))
   outcome-answer (says-yes {n = n} s sane need h lays reached) =
-      let e = needed-once (lite (collectionOf c)) n (needs (collectionOf c) .0) need (rounds-needed s) in
-      rw (passes-all s, exactly-fails (clash-test s) sane, le-ltb (c .allowance) (needs (collectionOf c) .0) (omega arith), reaches-test s .shows reached) (ap Yes e)
+      let e = needed-once (lite (collectionOf c)) n (liteWork (collectionOf c) .0) need (rounds-needed s) in
+      rw (passes-all s, exactly-fails (clash-test s) sane, le-ltb (c .allowance) (liteWork (collectionOf c) .0) (omega arith), reaches-test s .shows reached) (ap Yes e)
   outcome-answer (says-no {n = n} s sane need h lays missed) =
-      let e = needed-once (lite (collectionOf c)) n (needs (collectionOf c) .0) need (rounds-needed s) in
-      rw (passes-all s, exactly-fails (clash-test s) sane, le-ltb (c .allowance) (needs (collectionOf c) .0) (omega arith), exactly-fails (reaches-test s) missed) (ap No e)
+      let e = needed-once (lite (collectionOf c)) n (liteWork (collectionOf c) .0) need (rounds-needed s) in
+      rw (passes-all s, exactly-fails (clash-test s) sane, le-ltb (c .allowance) (liteWork (collectionOf c) .0) (omega arith), exactly-fails (reaches-test s) missed) (ap No e)
 
   -- the answer decides both areas
   outcome-areas : {r : Answer} {x y : List ℕ} → Outcome c r x y → (x ≡ areaAfter c r) × (y ≡ spareAfter c r)

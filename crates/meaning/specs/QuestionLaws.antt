@@ -3,12 +3,10 @@ use mathlib.Core.Logic.{_↔_}
 use mathlib.Core.List.{List, [], _∷_}
 use Rattle.kinds.specs.declared.Individual.{Individual}
 use Rattle.kinds.specs.declared.State.{State}
-use Rattle.laws.specs.Member.{_∈_}
 use Rattle.meaning.specs.Collection.{Collection, Letter, role, test, step}
-use Rattle.meaning.specs.Run.{Run, stop, go}
-use Rattle.meaning.specs.Tree.{root}
+use Rattle.meaning.specs.Run.{stop, go}
 use Rattle.meaning.specs.Model.{Structure, canonical}
-use Rattle.meaning.specs.Question.{Spells, by-role, by-name, Going, along-role, at-name, PathIn, Yes, Reads, letter, Word, SpellsWord}
+use Rattle.meaning.specs.Question.{Spells, by-role, by-name, along-role, at-name, PathIn, Yes, Reads, letter, SpellsWord}
 
 module _ (𝓒 : Collection) (𝓢 : Structure) where
   -- a path spells a word that the automaton reads

@@ -1,8 +1,6 @@
 -- Calculation: who has which concept, contradiction, the walk and the answer to a pair, as tests that compute.
-use mathlib.Core.Bool.{Bool, true, false}
+use mathlib.Core.Bool.{Bool}
 use mathlib.Core.List.{List}
-use Prim.Native.Nat.{ℕ, zero, suc, _≤_}
-use lib.Dec.{ltb}
 use Rattle.kinds.specs.declared.ConceptName.{ConceptName}
 use Rattle.kinds.specs.declared.RoleName.{RoleName}
 use Rattle.kinds.specs.declared.Individual.{Individual}

@@ -1,9 +1,8 @@
 -- What is computed as an individual's concepts, an edge and a yes is what the canonical model says.
-use mathlib.Core.Path.{_≡_, refl, sym, ap, _∙_}
-use mathlib.Core.Bool.{Bool, true, false}
+use mathlib.Core.Path.{_≡_}
+use mathlib.Core.Bool.{Bool}
 use mathlib.Core.Logic.{_↔_, _⊎_, inl, inr}
 use mathlib.Core.List.{List}
-use Prim.Native.Nat.{ℕ, _+_, _*_, _<_}
 use native.Mathlib.Omega.{arith}
 use lib.Dec.{T}
 use Rattle.kinds.specs.declared.ConceptName.{ConceptName}
@@ -14,22 +13,21 @@ use Rattle.kinds.specs.declared.SignedRole.{SignedRole}
 use Rattle.kinds.specs.declared.Concept.{Concept}
 use Rattle.kinds.specs.declared.Concept.the-variants.{Name, Exists}
 use Rattle.kinds.specs.declared.Counts.{Counts}
-use Rattle.kinds.specs.Kinds.{inverse, inverse-inverse, forward, backward, individual, IndividualDeclared, StateDeclared, ConceptDeclared}
+use Rattle.kinds.specs.Kinds.{inverse, inverse-inverse, forward, backward, individual, IndividualDeclared, ConceptDeclared}
 use Rattle.laws.specs.Member.{_∈_}
 use Rattle.laws.specs.Search.{any, any-in, any-out, or, or-left, or-right, or-case, and, and-left, and-right, and-both}
 use Rattle.laws.specs.Same.{both, both-same}
 use Rattle.laws.specs.Pairs.{pairs, pairs-in, pairs-out}
 use Rattle.laws.specs.Numbers.{numbered-in, numbered-out}
-use Rattle.laws.specs.Chain.{Chain, link, chain, closed, closed-in, closed-out}
-use Rattle.meaning.specs.Collection.{Collection, WellFormed, RoleStep, role, test, step}
-use Rattle.meaning.specs.Orders.{RoleLe, ConceptLe}
-use Rattle.meaning.specs.Run.{Run, stop, go, one, join}
-use Rattle.meaning.specs.Tree.{root, Loop, here, tested, twice, below, Stride, along, by}
+use Rattle.laws.specs.Chain.{Chain, link, chain, closed-in, closed-out}
+use Rattle.meaning.specs.Collection.{Collection, WellFormed}
+use Rattle.meaning.specs.Run.{stop, go, one, join}
+use Rattle.meaning.specs.Tree.{Loop, here, tested, twice, below, along, by}
 use Rattle.meaning.specs.Lite.{validConcepts, declaredStates, lite}
 use Rattle.meaning.specs.Model.{Typed, named, first, second, IndividualHas, FactEdge, ahead, behind, canonical}
-use Rattle.meaning.specs.Question.{PathIn, Yes}
+use Rattle.meaning.specs.Question.{Yes}
 use Rattle.meaning.specs.ModelWalk.{edge-declared, IndividualsWalk, path↔individuals-walk}
-use Rattle.meaning.specs.Declared.{concept-in, concept-out, state-in, state-out, concept-declared, role-step-to, test-step-to}
+use Rattle.meaning.specs.Declared.{concept-in, state-in, concept-declared, role-step-to, test-step-to}
 use Rattle.meaning.specs.LiteTests.{sameIndividual, sameState, sameConcept, individual-same, state-same, concept-same, leads, roleLetter, roleLe, roleLe-in, roleLe-out, conceptLe, conceptLe-in, conceptLe-out, role-step-in, role-step-out}
 use Rattle.meaning.specs.Reply.{declaredIndividuals, factTypes, endTypes, isTyped, typedTo, individualHas, joinsBy, factEdge, marked, stride, walks, reachesIn, reaches}
 

@@ -1,11 +1,11 @@
 -- The rounds of any rules' kind: marks stay, the rounds needed are few and final, and the closed sheet is the smallest closed one.
-use mathlib.Core.Path.{_≡_, refl, sym}
+use mathlib.Core.Path.{_≡_, refl}
 use mathlib.Core.Logic.{_↔_, _⊎_, inl, inr}
 use Prim.Native.Nat.{ℕ, zero, suc, _≤_, _<_}
 use native.Mathlib.Nat.{eq-or-lt-of-le}
 use native.Mathlib.Omega.{arith}
 use Rattle.laws.specs.Member.{_∈_}
-use Rattle.laws.specs.Rounds.{Least, least-once}
+use Rattle.laws.specs.Rounds.{least-once}
 use Rattle.meaning.specs.Kind.{Kind, Sane}
 use Rattle.meaning.specs.Sheet.{Markable, Round, kept, tested, joined, hung, Mark, Unchanged, Needed, Closed}
 use Rattle.meaning.specs.Tree.{root, Loop, here, twice, below, Tree, loop↔tree}

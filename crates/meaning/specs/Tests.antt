@@ -1,9 +1,9 @@
 -- Calculation: a rules' kind as tests that compute, the sheet that they come to round by round, and the bound on the rounds.
 use mathlib.Core.Path.{_≡_, refl, fun-ext, _∙_, sym, ap}
-use mathlib.Core.Bool.{Bool, true, false}
-use mathlib.Core.Logic.{_↔_, _⊎_, inl, inr}
+use mathlib.Core.Bool.{Bool}
+use mathlib.Core.Logic.{_⊎_, inl, inr}
 use mathlib.Core.List.{List}
-use Prim.Native.Nat.{ℕ, zero, suc, _+_, _*_, _-_, _≤_, _<_}
+use Prim.Native.Nat.{ℕ, zero, suc, _+_, _*_, _-_, _≤_}
 use native.Mathlib.Nat.{mul-le-mul-right}
 use native.Mathlib.Omega.{arith}
 use lib.Dec.{T}
@@ -169,6 +169,17 @@ module _ (𝓚 : Kind) (𝓣 : Tests 𝓚) where
   unfolding sheet
   sheet-keeps k p h = round-in (sheet k) (p .0 .0) (p .0 .1) (p .1) (keeps h)
 
+  pub spot-in : (s t : State) (B : Concept) → Markable 𝓚 s t B → _∈_ {A = Spot} ((s, t), B) places
+  unfolding places
+  spot-in s t B p = pairs-in (pairs-in (p .from) (p .to)) (p .of)
+
+  pub spot-out : (p : Spot) → p ∈ places → Markable 𝓚 (p .0 .0) (p .0 .1) (p .1)
+  unfolding places
+  spot-out p m =
+      let w = pairs-out (pairs states states) concepts m in
+      let v = pairs-out states states (w .0) in
+      record { from = v .0; to = v .1; of = w .1 }
+
   module _ (ok : Decides 𝓚 𝓣) (sane : Sane 𝓚) where
     -- in each round the sheet that is computed is the definition's
     pub mark-in : (n : ℕ) (s t : State) (B : Concept) → Mark 𝓚 n s t B → T (sheet n s t B)
@@ -209,17 +220,6 @@ module _ (𝓚 : Kind) (𝓣 : Tests 𝓚) where
         mean (passes k) r = sane .test-in B s t (ok .test-out B s t b k)
         mean (through u i k l) r = r u t B i b l
         mean (under R u v i j l c d k e) r = sane .up-in R v t (ok .up-out R v t i e)
-
-    pub spot-in : (s t : State) (B : Concept) → Markable 𝓚 s t B → _∈_ {A = Spot} ((s, t), B) places
-    unfolding places
-    spot-in s t B p = pairs-in (pairs-in (p .from) (p .to)) (p .of)
-
-    pub spot-out : (p : Spot) → p ∈ places → Markable 𝓚 (p .0 .0) (p .0 .1) (p .1)
-    unfolding places
-    spot-out p m =
-        let w = pairs-out (pairs states states) concepts m in
-        let v = pairs-out states states (w .0) in
-        record { from = v .0; to = v .1; of = w .1 }
 
     still→unchanged : (n : ℕ) → Still places (λ k. at (sheet k)) n → Unchanged 𝓚 n
     still→unchanged n still s t B m =

@@ -1,6 +1,6 @@
 -- Elements grown from roots, paths over them, and the loops at a concept, for any rules' kind.
 use mathlib.Core.Logic.{_↔_}
-use mathlib.Core.Path.{_≡_, refl, sym}
+use mathlib.Core.Path.{_≡_, refl}
 use Rattle.meaning.specs.Run.{Run, stop, go, one, join}
 use Rattle.meaning.specs.Kind.{Kind}
 
