@@ -11,7 +11,6 @@ use Rattle.kinds.specs.declared.SignedRole.{SignedRole}
 use Rattle.kinds.specs.declared.Concept.{Concept}
 use Rattle.kinds.specs.declared.Counts.{Counts}
 use Rattle.kinds.specs.Kinds.{mostNames, mostRoles, mostIndividuals, mostStates, CountsFit, StateDeclared, ConceptDeclared}
-use Rattle.laws.specs.Search.{and, every}
 use Rattle.laws.specs.Exactly.{Exactly, exactly-same, below-exactly}
 use Rattle.laws.specs.Decide.{exactly, exactly-and, exactly-every, most-exactly, equal-exactly, same-exactly, not-exactly}
 use Rattle.meaning.specs.Collection.{Collection, Letter, role, test, Step, step, StepDeclared, LetterDeclared, ConceptsDeclared, RolesDeclared, ConceptFactDeclared, RoleFactDeclared, NumbersDeclared, WellFormed}
@@ -22,7 +21,6 @@ use Rattle.meaning.specs.Lent.{Tables, Call, collectionOf, kinds, Whole,
 use Rattle.meaning.specs.Layout.{areaLength, Lays}
 use Rattle.meaning.specs.LayoutLaws.{stateDeclared, conceptDeclared, conceptDeclared-in, conceptDeclared-out, image, image-lays}
 use Rattle.meaning.specs.Declared.{state-in, state-out, concept-in, concept-out}
-use Rattle.meaning.specs.Tests.{sheet}
 use Rattle.meaning.specs.LiteTests.{sameIndividual, individual-same}
 use Rattle.meaning.specs.LiteSheet.{liteSheet, lite-mark-in, lite-mark-out}
 use Rattle.meaning.specs.Calculate.{countsFit, whole, shapesOk, areasOk, tablesOk, conceptsDeclared, rolesDeclared, conceptFactDeclared, roleFactDeclared, letterDeclared, stepDeclared, numbersDeclared, kindOk, numbersOk, endsDiffer, endsOk, askOk}

@@ -7,14 +7,9 @@ use Rattle.kinds.specs.declared.Answer.{Answer}
 use Rattle.kinds.specs.declared.Answer.the-variants.{No, Yes, Contradiction, AllowanceSpent, BadCount, BadTable, BadNumber, EqualEnds, BadAsk}
 use Rattle.kinds.specs.Kinds.{individual, state}
 use Rattle.kinds.specs.Answer.{answerNumber, answerCount}
-use Rattle.laws.specs.Search.{and}
-use Rattle.meaning.specs.Tests.{table, after}
-use Rattle.meaning.specs.Reply.{marked}
-use Rattle.meaning.specs.Lent.{Tables, Call, collection}
+use Rattle.meaning.specs.Lent.{Tables, Call}
 use Rattle.meaning.specs.Layout.{Standing}
 use Rattle.meaning.specs.Outcome.{Outcome}
-use Rattle.meaning.specs.OutcomeLaws.{outcome}
-use Rattle.meaning.specs.Calculate.{whole, answer}
 
 -- a row: a whole collection as it is lent, a pair and an allowance; the number and count returned, and the marks that then stand
 pub record Case : Type 0 where

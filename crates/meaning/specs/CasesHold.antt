@@ -22,13 +22,13 @@ use Rattle.meaning.specs.Collection.{Collection, WellFormed}
 use Rattle.meaning.specs.Lite.{signedRoles, validConcepts, declaredStates, lite}
 use Rattle.meaning.specs.Sheet.{Mark}
 use Rattle.meaning.specs.SheetLaws.{mark-markable}
-use Rattle.meaning.specs.Tests.{joins, hangsTo, hangsFrom, hangs, round, sheet, Spot, places, spot-in, spot-out, at, table, work, after}
+use Rattle.meaning.specs.Tests.{joins, hangsTo, hangsFrom, hangs, round, Spot, places, spot-in, spot-out, at, table, work, after}
 use Rattle.meaning.specs.LiteSheet.{liteSheet, liteAfter, lite-after, lite-mark-in, lite-mark-out}
 use Rattle.meaning.specs.LiteTests.{roleBase, roleLe, conceptBase, conceptLe, liteTests}
 use Rattle.meaning.specs.Reply.{declaredIndividuals, factTypes, endTypes, isTyped, typedTo, individualHas, joinsBy, factEdge, follows, aliveBy, aliveAt, alive, clashAt, clashUnder, conceptClash, clashBetween, clashBelow, roleClash, clash, marked, stride, walks, reachesIn, reaches}
 use Rattle.meaning.specs.Lent.{records, collection, Sound}
 use Rattle.meaning.specs.Layout.{place, areaLength, Lays, Standing}
-use Rattle.meaning.specs.OutcomeLaws.{outcome, passes-all, sound-well-formed, holds-sheet}
+use Rattle.meaning.specs.OutcomeLaws.{outcome-exists, passes-all, sound-well-formed, holds-sheet}
 use Rattle.meaning.specs.Calculate.{countsFit, whole, shapesOk, conceptsDeclared, rolesDeclared, conceptFactDeclared, roleFactDeclared, numbersDeclared, numbersOk, endsOk, askOk, soundAnswer, afterClash, afterRounds, answer, sheetArea, areaAfter, spareAfter}
 use Rattle.meaning.specs.CalculateLaws.{counts-test, shapes-test, numbers-test, ends-test, ask-test}
 use Rattle.meaning.specs.Cases.{Case, cases, lend, MarksStand, Says}
@@ -154,7 +154,7 @@ module _ (area spare : List ℕ) (long : length area ≡ areaLength) (long′ : 
       let s = sound k (and-left (soundOk k) o h) in
       let v = and-right (soundOk k) o h in
       let w = and-right (eqb (answerNumber r) (k .number)) a v in
-      let done = outcome (lend area spare k) in
+      let done = outcome-exists (lend area spare k) in
       record {
         answer = r;
         area-after = areaAfter (lend area spare k) r;

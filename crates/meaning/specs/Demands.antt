@@ -10,10 +10,10 @@ use Rattle.kinds.specs.declared.Concept.{Concept}
 use Rattle.kinds.specs.declared.Answer.{Answer}
 use Rattle.kinds.specs.declared.Counts.{Counts}
 use Rattle.kinds.specs.Kinds.{CountsFit, StateDeclared, ConceptDeclared}
-use Rattle.kinds.specs.Answer.{answerNumber}
+use Rattle.kinds.specs.Answer.{answerNumber, number-listed}
 use Rattle.meaning.specs.Collection.{Collection, WellFormed}
 use Rattle.meaning.specs.Sheet.{Mark, Needed}
-use Rattle.meaning.specs.SheetLaws.{needed-once, mark→loop, loop→mark}
+use Rattle.meaning.specs.SheetLaws.{rounds-unique, mark→loop, loop→mark}
 use Rattle.meaning.specs.Tree.{root}
 use Rattle.meaning.specs.Lite.{lite}
 use Rattle.meaning.specs.Model.{treeOf}
@@ -25,7 +25,8 @@ use Rattle.meaning.specs.Tests.{rounds-bound}
 use Rattle.meaning.specs.LiteTests.{liteTests, lite-decides}
 use Rattle.meaning.specs.Lent.{Call, collectionOf, Sound}
 use Rattle.meaning.specs.Outcome.{Outcome, bad-count, bad-table, bad-number, equal-ends, bad-ask, contradiction, spent, says-yes, says-no, Breaks, Reached, RoundsNeeded}
-use Rattle.meaning.specs.OutcomeLaws.{sound-well-formed}
+use Rattle.meaning.specs.OutcomeLaws.{sound-well-formed, outcome-exists, outcome-unique}
+use Rattle.meaning.specs.Calculate.{answer, areaAfter, spareAfter}
 use Rattle.meaning.specs.Larger.{Larger, yes-grows, contradiction-grows}
 
 -- concepts × states × (states − 1)
@@ -54,6 +55,10 @@ module _ (𝓒 : Collection) (ok : WellFormed 𝓒) where
     λ p. loop→mark (lite 𝓒) (lite-sane 𝓒 (ok .numbers)) n (needed .holds) (loop↔treeOf 𝓒 B s t .1 p) (concept-in (𝓒 .counts) B d) (state-in (𝓒 .counts) s h),
   )
 
+-- DEMAND 1: every input gets one of the listed answers, and only one; what it leaves in both areas is fixed
+pub demand-1 : (c : Call) → (r : Answer) × (x y : List ℕ) × Outcome c r x y × (answerNumber r ≤ 8) × ((r′ : Answer) (x′ y′ : List ℕ) → Outcome c r′ x′ y′ → (r′ ≡ r) × (x′ ≡ x) × (y′ ≡ y))
+demand-1 c = (answer c, areaAfter c (answer c), spareAfter c (answer c), outcome-exists c, number-listed (answer c), λ r′ x′ y′ o. outcome-unique c o (outcome-exists c))
+
 -- with enough rounds
 abbrev pub Enough : Call → Type 0
 Enough c = (n : ℕ) × RoundsNeeded c n × (n ≤ c .allowance)
@@ -80,7 +85,7 @@ module _ (c : Call) where
   most-enough s h = let w = rounds-suffice (collectionOf c) (sound-well-formed c s) in (w .0, w .2, omega (arith, w .1))
 
   not-spent : Enough c → {n : ℕ} → RoundsNeeded c n → c .allowance < n → ⊥
-  not-spent e {n} need h = let q = needed-once (lite (collectionOf c)) (e .0) n (e .1) need in omega (arith, e .2)
+  not-spent e {n} need h = let q = rounds-unique (lite (collectionOf c)) (e .0) n (e .1) need in omega (arith, e .2)
 
   -- with enough rounds a sound call answers one of three
   verdict : {r : Answer} {x y : List ℕ} → Sound c → Enough c → Outcome c r x y → Verdict c r
@@ -146,8 +151,8 @@ module _ (c d : Call) (more : Larger (collectionOf c) (collectionOf d)) (first :
     grown (is-no n sane h) (is-yes m u k) = record { yes-kept = λ v. inl m; contradiction-kept = λ v. absurd (omega arith); no-before = λ v. n }
     grown (is-no n sane h) (is-no m u k) = record { yes-kept = λ v. absurd (omega arith); contradiction-kept = λ v. absurd (omega arith); no-before = λ v. n }
 
-    pub demand-3 : Enough c → Enough d → {r q : Answer} {x y x′ y′ : List ℕ} → Outcome c r x y → Outcome d q x′ y′ → Grown r q
-    demand-3 e e′ o p = grown (verdict c s e o) (verdict d s′ e′ p)
+    pub demand-3-growth : Enough c → Enough d → {r q : Answer} {x y x′ y′ : List ℕ} → Outcome c r x y → Outcome d q x′ y′ → Grown r q
+    demand-3-growth e e′ o p = grown (verdict c s e o) (verdict d s′ e′ p)
 
 -- DEMAND 3, within one collection: the same call with another allowance
 abbrev pub allowed : Call → ℕ → Call
@@ -164,13 +169,13 @@ module _ (c : Call) (n : ℕ) (h : c .allowance ≤ n) where
   }
 
   -- an answer 0, 1 or 2 at one allowance returns, with the same count and areas, at every larger one
-  pub answer-returns : {r : Answer} {x y : List ℕ} → Outcome c r x y → answerNumber r ≤ 2 → Outcome (allowed c n) r x y
-  answer-returns (bad-count k) l = absurd (omega arith)
-  answer-returns (bad-table k t) l = absurd (omega arith)
-  answer-returns (bad-number k t u) l = absurd (omega arith)
-  answer-returns (equal-ends k t u v) l = absurd (omega arith)
-  answer-returns (bad-ask k t u v w) l = absurd (omega arith)
-  answer-returns (contradiction s b) l = contradiction (sound-allowed s) b
-  answer-returns (spent s sane need k lays) l = absurd (omega arith)
-  answer-returns (says-yes s sane need k lays reached) l = says-yes (sound-allowed s) sane need (omega arith) lays reached
-  answer-returns (says-no s sane need k lays missed) l = says-no (sound-allowed s) sane need (omega arith) lays missed
+  pub demand-3-allowance : {r : Answer} {x y : List ℕ} → Outcome c r x y → answerNumber r ≤ 2 → Outcome (allowed c n) r x y
+  demand-3-allowance (bad-count k) l = absurd (omega arith)
+  demand-3-allowance (bad-table k t) l = absurd (omega arith)
+  demand-3-allowance (bad-number k t u) l = absurd (omega arith)
+  demand-3-allowance (equal-ends k t u v) l = absurd (omega arith)
+  demand-3-allowance (bad-ask k t u v w) l = absurd (omega arith)
+  demand-3-allowance (contradiction s b) l = contradiction (sound-allowed s) b
+  demand-3-allowance (spent s sane need k lays) l = absurd (omega arith)
+  demand-3-allowance (says-yes s sane need k lays reached) l = says-yes (sound-allowed s) sane need (omega arith) lays reached
+  demand-3-allowance (says-no s sane need k lays missed) l = says-no (sound-allowed s) sane need (omega arith) lays missed

@@ -10,7 +10,7 @@ use Rattle.laws.specs.Member.{Within}
 use Rattle.meaning.specs.Collection.{Collection, step, role, WellFormed}
 use Rattle.meaning.specs.Orders.{RoleLe, ConceptLe, same, then, rule, turned, wider}
 use Rattle.meaning.specs.Tree.{root, _▹_}
-use Rattle.meaning.specs.Model.{Has, Belongs, bare, grown, Edge, fact, child, parent, individuals, Element, Typed, named, first, second, IndividualHas, FactEdge, ahead, behind, canonical, Contradiction, at-element, at-pair}
+use Rattle.meaning.specs.Model.{Has, Belongs, bare, grown, Edge, fact, child, parent, individuals, Element, Typed, named, first, second, IndividualHas, FactEdge, ahead, behind, Contradiction, at-element, at-pair}
 use Rattle.meaning.specs.Question.{Yes}
 use Rattle.meaning.specs.Growth.{Grows, walk-grows}
 use Rattle.meaning.specs.Lite.{lite}

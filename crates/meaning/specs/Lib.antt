@@ -19,6 +19,7 @@ pub mod Declared
 pub mod LiteTests
 pub mod LiteSheet
 pub mod Clash
+pub mod StraightBack
 pub mod Reply
 pub mod ReplyLaws
 pub mod ClashLaws

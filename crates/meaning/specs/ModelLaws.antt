@@ -17,7 +17,8 @@ pub born : (𝓒 : Collection) (𝓡 : Roots) {x : Elem (𝓡 .Root) SignedRole}
 born 𝓒 𝓡 (grown b h) = (b, h)
 
 module _ (𝓒 : Collection) where
-  turn : {R S : SignedRole} → RoleLe 𝓒 (inverse R) S → RoleLe 𝓒 R (inverse S)
+  -- inverses are put on the other side
+  pub turn : {R S : SignedRole} → RoleLe 𝓒 (inverse R) S → RoleLe 𝓒 R (inverse S)
   turn {R} {S} l =
       let k : RoleLe 𝓒 (inverse (inverse R)) (inverse S) = turned l in
       rw (inverse-inverse R) at k

@@ -12,7 +12,7 @@ use Rattle.laws.specs.Search.{pick}
 use Rattle.laws.specs.Exactly.{Exactly}
 use Rattle.laws.specs.Decide.{exactly, exactly-not, exactly-fails}
 use Rattle.meaning.specs.Collection.{WellFormed}
-use Rattle.meaning.specs.SheetLaws.{needed-once}
+use Rattle.meaning.specs.SheetLaws.{rounds-unique}
 use Rattle.meaning.specs.Lite.{lite}
 use Rattle.meaning.specs.Lent.{Call, collectionOf, CountsOk, TablesOk, NumbersOk, EndsOk, Sound}
 use Rattle.meaning.specs.LayoutLaws.{lays-once}
@@ -111,9 +111,9 @@ module _ (c : Call) where
       side false h = bad-table k (exactly-not (tables-test c) h)
 
   -- THEOREM: every library input has an outcome, and it can be computed
-  pub outcome : Outcome c (answer c) (areaAfter c (answer c)) (spareAfter c (answer c))
+  pub outcome-exists : Outcome c (answer c) (areaAfter c (answer c)) (spareAfter c (answer c))
   unfolding answer
-  outcome = side (countsFit (c .counts)) refl
+  outcome-exists = side (countsFit (c .counts)) refl
     where
       side : (b : Bool) → countsFit (c .counts) ≡ b → Done (pick b (afterCounts c) BadCount)
       side true h = counts-stage (counts-test (c .counts) .holds h)
@@ -134,13 +134,13 @@ module _ (c : Call) where
   outcome-answer (bad-ask k t n e h) = rw (counts-test (c .counts) .shows k, tables-test c .shows t, numbers-test c .shows n, ends-test c .shows e, exactly-fails (ask-test c) h)
   outcome-answer (contradiction s h) = rw (passes-all s, clash-test s .shows h)
   outcome-answer (spent {n = n} s sane need h lays) =
-      let e = needed-once (lite (collectionOf c)) n (liteWork (collectionOf c) .0) need (rounds-needed s) in
+      let e = rounds-unique (lite (collectionOf c)) n (liteWork (collectionOf c) .0) need (rounds-needed s) in
       rw (passes-all s, exactly-fails (clash-test s) sane, lt-ltb (c .allowance) (liteWork (collectionOf c) .0) (omega arith))
   outcome-answer (says-yes {n = n} s sane need h lays reached) =
-      let e = needed-once (lite (collectionOf c)) n (liteWork (collectionOf c) .0) need (rounds-needed s) in
+      let e = rounds-unique (lite (collectionOf c)) n (liteWork (collectionOf c) .0) need (rounds-needed s) in
       rw (passes-all s, exactly-fails (clash-test s) sane, le-ltb (c .allowance) (liteWork (collectionOf c) .0) (omega arith), reaches-test s .shows reached) (ap Yes e)
   outcome-answer (says-no {n = n} s sane need h lays missed) =
-      let e = needed-once (lite (collectionOf c)) n (liteWork (collectionOf c) .0) need (rounds-needed s) in
+      let e = rounds-unique (lite (collectionOf c)) n (liteWork (collectionOf c) .0) need (rounds-needed s) in
       rw (passes-all s, exactly-fails (clash-test s) sane, le-ltb (c .allowance) (liteWork (collectionOf c) .0) (omega arith), exactly-fails (reaches-test s) missed) (ap No e)
 
   -- the answer decides both areas
@@ -156,8 +156,8 @@ module _ (c : Call) where
   outcome-areas (says-no {n = n} {area = x} s sane need h lays missed) = (lays-once _ x (sheetArea c n) lays (holds-sheet s n), refl)
 
   -- THEOREM: two outcomes of one library input are equal: answer, count and every byte of both areas
-  pub outcome-once : {r r′ : Answer} {x x′ y y′ : List ℕ} → Outcome c r x y → Outcome c r′ x′ y′ → (r ≡ r′) × (x ≡ x′) × (y ≡ y′)
-  outcome-once {r} {r′} o p =
+  pub outcome-unique : {r r′ : Answer} {x x′ y y′ : List ℕ} → Outcome c r x y → Outcome c r′ x′ y′ → (r ≡ r′) × (x ≡ x′) × (y ≡ y′)
+  outcome-unique {r} {r′} o p =
       let e = outcome-answer o ∙ sym (outcome-answer p) in
       let a = outcome-areas o in
       let b = outcome-areas p in

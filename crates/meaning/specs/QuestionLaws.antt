@@ -3,7 +3,7 @@ use mathlib.Core.Logic.{_↔_}
 use mathlib.Core.List.{List, [], _∷_}
 use Rattle.kinds.specs.declared.Individual.{Individual}
 use Rattle.kinds.specs.declared.State.{State}
-use Rattle.meaning.specs.Collection.{Collection, Letter, role, test, step}
+use Rattle.meaning.specs.Collection.{Collection, Letter, role, test}
 use Rattle.meaning.specs.Run.{stop, go}
 use Rattle.meaning.specs.Model.{Structure, canonical}
 use Rattle.meaning.specs.Question.{Spells, by-role, by-name, along-role, at-name, PathIn, Yes, Reads, letter, SpellsWord}

@@ -24,7 +24,7 @@ use Rattle.meaning.specs.Collection.{Collection, WellFormed}
 use Rattle.meaning.specs.Run.{stop, go, one, join}
 use Rattle.meaning.specs.Tree.{Loop, here, tested, twice, below, along, by}
 use Rattle.meaning.specs.Lite.{validConcepts, declaredStates, lite}
-use Rattle.meaning.specs.Model.{Typed, named, first, second, IndividualHas, FactEdge, ahead, behind, canonical}
+use Rattle.meaning.specs.Model.{Typed, named, first, second, IndividualHas, FactEdge, ahead, behind}
 use Rattle.meaning.specs.Question.{Yes}
 use Rattle.meaning.specs.ModelWalk.{edge-declared, IndividualsWalk, path↔individuals-walk}
 use Rattle.meaning.specs.Declared.{concept-in, state-in, concept-declared, role-step-to, test-step-to}

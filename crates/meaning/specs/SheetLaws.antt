@@ -45,8 +45,8 @@ module _ (𝓚 : Kind) where
       side (inr l) r = still s t B (k .0, round-mono (r (omega arith)) (k .1))
 
   -- THEOREM: the rounds needed are unique
-  pub needed-once : (m n : ℕ) → Needed 𝓚 m → Needed 𝓚 n → m ≡ n
-  needed-once m n h k = least-once (Unchanged 𝓚) m n h k
+  pub rounds-unique : (m n : ℕ) → Needed 𝓚 m → Needed 𝓚 n → m ≡ n
+  rounds-unique m n h k = least-once (Unchanged 𝓚) m n h k
 
   -- THEOREM: after the rounds needed the sheet no longer changes
   pub sheet-stays : (n : ℕ) → Needed 𝓚 n → (m : ℕ) → n ≤ m → (s t : State) (B : Concept) → Mark 𝓚 m s t B ↔ Mark 𝓚 n s t B
