@@ -74,7 +74,7 @@ pub data Verdict (c : Call) (r : Answer) : Type 0 where
   is-no : answerNumber r ≡ 0 → (Breaks c → ⊥) → (Reached c → ⊥) → Verdict c r
 
 -- what a well-formed call answers with enough rounds
-pub record Decides (c : Call) (r : Answer) : Type 0 where
+pub record AsModelSays (c : Call) (r : Answer) : Type 0 where
   pub contradiction : (answerNumber r ≡ 2) ↔ Breaks c
   pub yes : (Breaks c → ⊥) → (answerNumber r ≡ 1) ↔ Spelled c
   pub no : (Breaks c → ⊥) → (answerNumber r ≡ 0) ↔ (Spelled c → ⊥)
@@ -99,7 +99,7 @@ module _ (c : Call) where
   verdict s e (says-yes k sane need h lays reached) = is-yes refl sane reached
   verdict s e (says-no k sane need h lays missed) = is-no refl sane missed
 
-  decided : {r : Answer} → Verdict c r → Decides c r
+  decided : {r : Answer} → Verdict c r → AsModelSays c r
   decided (is-contradiction n h) = record {
     contradiction = (λ m. h, λ b. n);
     yes = λ sane. absurd (sane h);
@@ -119,17 +119,18 @@ module _ (c : Call) where
   -- DEMAND 2: with an allowance of at least the rounds needed, the outcome of a well-formed call is contradiction exactly
   -- when the canonical model breaks an exclusion, and otherwise yes exactly when a path in it from the first individual
   -- to the second spells a word of the question
-  pub demand-2 : {r : Answer} {x y : List ℕ} → Sound c → Enough c → Outcome c r x y → Decides c r
+  pub demand-2 : {r : Answer} {x y : List ℕ} → Sound c → Enough c → Outcome c r x y → AsModelSays c r
   demand-2 s e o = decided (verdict s e o)
 
--- DEMAND 3, between two collections
-module _ (c d : Call) (more : Larger (collectionOf c) (collectionOf d)) (first : c .first ≡ d .first) (second : c .second ≡ d .second) where
-  -- a larger collection keeps a contradiction, keeps a yes or turns it into contradiction, and its no was a no before
-  pub record Grown (r q : Answer) : Type 0 where
-    pub yes-kept : answerNumber r ≡ 1 → (answerNumber q ≡ 1) ⊎ (answerNumber q ≡ 2)
-    pub contradiction-kept : answerNumber r ≡ 2 → answerNumber q ≡ 2
-    pub no-before : answerNumber q ≡ 0 → answerNumber r ≡ 0
+-- an answer r, and the answer q that a larger collection gives: a yes is kept or turned into contradiction, a contradiction
+-- is kept, and a no was a no before
+pub record Grown (r q : Answer) : Type 0 where
+  pub yes-kept : answerNumber r ≡ 1 → (answerNumber q ≡ 1) ⊎ (answerNumber q ≡ 2)
+  pub contradiction-kept : answerNumber r ≡ 2 → answerNumber q ≡ 2
+  pub no-before : answerNumber q ≡ 0 → answerNumber r ≡ 0
 
+-- DEMAND 3, between two collections: a shared start state and pair, the records of the first among those of the second
+module _ (c d : Call) (more : Larger (collectionOf c) (collectionOf d)) (first : c .first ≡ d .first) (second : c .second ≡ d .second) where
   module _ (s : Sound c) (s′ : Sound d) where
     breaks-kept : Breaks c → Breaks d
     breaks-kept h = contradiction-grows more (sound-well-formed c s) (sound-well-formed d s′) h

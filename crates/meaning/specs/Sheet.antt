@@ -16,9 +16,12 @@ module _ (𝓚 : Kind) where
 
   -- a round: what it makes of the sheet f of the round before
   pub data Round (f : State → State → Concept → Type 0) (s t : State) (B : Concept) : Type 0 where
+    -- it keeps all marks of f, and adds one where a test step passes at B,
     kept : f s t B → Round f s t B
     tested : test B s t → Round f s t B
+    -- where two marks of f meet,
     joined : {u : State} → f s u B → f u t B → Round f s t B
+    -- and where a step leads down to a child, a mark of f along at the child, and a step back up
     hung : {R : Edge} {u v : State} → child B R → down R s u → f u v (end R) → up R v t → Round f s t B
 
   -- (s, t, B) stands in the sheet after n rounds; round 0 has (s, s, B) for every state and concept
