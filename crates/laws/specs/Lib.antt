@@ -10,3 +10,6 @@ pub mod Select
 pub mod Rounds
 pub mod Settle
 pub mod Chain
+pub mod Fill
+pub mod Rows
+pub mod Warshall

@@ -143,25 +143,34 @@ pub record ShapesOk (t : Tables) : Type 0 where
   pub steps : Whole stepWidth mostSteps (t .steps)
   pub finals : Whole finalWidth mostFinals (t .finals)
 
-pub record TablesOk (c : Call) : Type 0 where
-  pub tables : ShapesOk (c .tables)
-  pub area : length (c .area) ≡ areaLength
-  pub spare : length (c .spare) ≡ areaLength
+pub record TablesFit (t : Tables) (area spare : ℕ) : Type 0 where
+  pub tables : ShapesOk t
+  pub area : area ≡ areaLength
+  pub spare : spare ≡ areaLength
+
+abbrev pub TablesOk : Call → Type 0
+TablesOk c = TablesFit (c .tables) (length (c .area)) (length (c .spare))
 
 -- test 6: every number in a record is declared, and no step kind is above 1
 abbrev pub kinds : List ℕ → List ℕ
 kinds t = records stepWidth (λ t k. field stepWidth t 0 k) t
 
-pub record NumbersOk (c : Call) : Type 0 where
-  pub declared : NumbersDeclared (collectionOf c)
-  pub step-kinds : Each (kinds (c .tables .steps)) (λ k. k ≤ 1)
+pub record NumbersFit (c : Counts) (t : Tables) : Type 0 where
+  pub declared : NumbersDeclared (collection c t)
+  pub step-kinds : Each (kinds (t .steps)) (λ k. k ≤ 1)
+
+abbrev pub NumbersOk : Call → Type 0
+NumbersOk c = NumbersFit (c .counts) (c .tables)
 
 -- test 7: the two ends of a role fact differ
 abbrev pub EndsDiffer : RoleName × Individual × Individual → Type 0
 EndsDiffer f = f .1 ≡ f .2 → ⊥
 
+abbrev pub EndsFit : Tables → Type 0
+EndsFit t = Each (records roleFactWidth roleFact (t .role-facts)) EndsDiffer
+
 abbrev pub EndsOk : Call → Type 0
-EndsOk c = Each (collectionOf c .role-facts) EndsDiffer
+EndsOk c = EndsFit (c .tables)
 
 -- test 8: both asked individuals are declared
 abbrev pub AskOk : Call → Type 0
