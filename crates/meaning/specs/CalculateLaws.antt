@@ -147,12 +147,14 @@ ask-test c = exactly-and (below-exactly (c .first .0) (c .counts .individuals)) 
 
 -- the area that is computed holds the sheet
 module _ (𝓒 : Collection) (ok : WellFormed 𝓒) where
-  mark-declared : (n : ℕ) (s t : State) (B : Concept) → Mark (lite 𝓒) n s t B → StateDeclared (𝓒 .counts) s × StateDeclared (𝓒 .counts) t × ConceptDeclared (𝓒 .counts) B
+  mark-declared : (n : ℕ) (s t : State) (B : Concept) → Mark (lite 𝓒) n s t B
+      → StateDeclared (𝓒 .counts) s × StateDeclared (𝓒 .counts) t × ConceptDeclared (𝓒 .counts) B
   mark-declared n s t B m =
       let p = mark-markable (lite 𝓒) n s t B m in
       (state-out (𝓒 .counts) s (p .from), state-out (𝓒 .counts) t (p .to), concept-out (𝓒 .counts) B (p .of))
 
-  declared-mark : (n : ℕ) (s t : State) (B : Concept) → StateDeclared (𝓒 .counts) s → StateDeclared (𝓒 .counts) t → ConceptDeclared (𝓒 .counts) B → T (liteSheet 𝓒 n s t B) → Mark (lite 𝓒) n s t B
+  declared-mark : (n : ℕ) (s t : State) (B : Concept) → StateDeclared (𝓒 .counts) s → StateDeclared (𝓒 .counts) t → ConceptDeclared (𝓒 .counts) B
+      → T (liteSheet 𝓒 n s t B) → Mark (lite 𝓒) n s t B
   declared-mark n s t B i j d h =
       let p : Markable (lite 𝓒) s t B = record { from = state-in (𝓒 .counts) s i; to = state-in (𝓒 .counts) t j; of = concept-in (𝓒 .counts) B d } in
       lite-mark-out 𝓒 (ok .numbers) n s t B p h

@@ -133,7 +133,8 @@ module _ (area spare : List ℕ) (long : length area ≡ areaLength) (long′ : 
   stood : (k : Case) → Sound (lend area spare k) → (n : ℕ) → T (listOk (given k) n (k .marks)) → Standing (sheetArea (lend area spare k) n) (k .marks)
   stood k s n h = standing (given k) (sound-well-formed (lend area spare k) s) n (sheetArea (lend area spare k) n) (holds-sheet (lend area spare k) s n) (k .marks) h
 
-  marks-stand : (k : Case) → Sound (lend area spare k) → (r : Answer) → T (marksOk (given k) r (k .marks)) → MarksStand area spare r (areaAfter (lend area spare k) r) (k .marks)
+  marks-stand : (k : Case) → Sound (lend area spare k) → (r : Answer) → T (marksOk (given k) r (k .marks))
+      → MarksStand area spare r (areaAfter (lend area spare k) r) (k .marks)
   marks-stand k s (No rounds) h = stood k s rounds h
   marks-stand k s (Yes rounds) h = stood k s rounds h
   marks-stand k s (AllowanceSpent allowance) h = stood k s allowance h

@@ -23,7 +23,8 @@ module _ (𝓒 : Collection) where
 
   pub data Clash : Type 0 where
     individual-clash : (a : Individual) (C D : Concept) → (C, D) ∈ 𝓒 .concept-exclusions → IndividualHas 𝓒 a C → IndividualHas 𝓒 a D → Clash
-    unnamed-clash : (R : SignedRole) (C D : Concept) → (C, D) ∈ 𝓒 .concept-exclusions → Alive R → ConceptLe 𝓒 (Exists (inverse R)) C → ConceptLe 𝓒 (Exists (inverse R)) D → Clash
+    unnamed-clash : (R : SignedRole) (C D : Concept) → (C, D) ∈ 𝓒 .concept-exclusions → Alive R → ConceptLe 𝓒 (Exists (inverse R)) C
+        → ConceptLe 𝓒 (Exists (inverse R)) D → Clash
     fact-clash : (a b : Individual) (R S : SignedRole) → (R, S) ∈ 𝓒 .role-exclusions → FactEdge 𝓒 a R b → FactEdge 𝓒 a S b → Clash
     down-clash : (Q R S : SignedRole) → (R, S) ∈ 𝓒 .role-exclusions → Alive Q → RoleLe 𝓒 Q R → RoleLe 𝓒 Q S → Clash
     up-clash : (Q R S : SignedRole) → (inverse R, inverse S) ∈ 𝓒 .role-exclusions → Alive Q → RoleLe 𝓒 Q R → RoleLe 𝓒 Q S → Clash
@@ -95,9 +96,11 @@ module _ (𝓒 : Collection) where
 
   -- THEOREM: an element, individual or unnamed, of a concept that is excluded from itself is a contradiction,
   -- so that it need not imply everything: no answer differs
-  pub self-exclusion : (x : Element 𝓒) (C : Concept) → (C, C) ∈ 𝓒 .concept-exclusions → Belongs 𝓒 (individuals 𝓒) x → Has 𝓒 (individuals 𝓒) x C → Contradiction 𝓒
+  pub self-exclusion : (x : Element 𝓒) (C : Concept) → (C, C) ∈ 𝓒 .concept-exclusions → Belongs 𝓒 (individuals 𝓒) x → Has 𝓒 (individuals 𝓒) x C
+      → Contradiction 𝓒
   self-exclusion x C m b h = at-element x C C m b h h
 
   -- THEOREM: the same of a concept from which two follow that exclude each other
-  pub empty-concept : (x : Element 𝓒) (C D E : Concept) → ConceptLe 𝓒 C D → ConceptLe 𝓒 C E → (D, E) ∈ 𝓒 .concept-exclusions → Belongs 𝓒 (individuals 𝓒) x → Has 𝓒 (individuals 𝓒) x C → Contradiction 𝓒
+  pub empty-concept : (x : Element 𝓒) (C D E : Concept) → ConceptLe 𝓒 C D → ConceptLe 𝓒 C E → (D, E) ∈ 𝓒 .concept-exclusions
+      → Belongs 𝓒 (individuals 𝓒) x → Has 𝓒 (individuals 𝓒) x C → Contradiction 𝓒
   empty-concept x C D E d e m b h = at-element x D E m b (has-above 𝓒 x h d) (has-above 𝓒 x h e)

@@ -71,7 +71,8 @@ module _ (𝓒 : Collection) (ok : WellFormed 𝓒) where
       (sprouts a Q (individualHas-out 𝓒 ok a (Exists Q) (and-left (individualHas 𝓒 a (Exists Q)) _ (w .2))))
 
   -- where a living role comes from
-  comes : {R : SignedRole} → Alive 𝓒 R → (a : Individual) × (Q : SignedRole) × IndividualHas 𝓒 a (Exists Q) × SignedDeclared (𝓒 .counts) Q × SignedDeclared (𝓒 .counts) R × Chain Follows Q R
+  comes : {R : SignedRole} → Alive 𝓒 R
+      → (a : Individual) × (Q : SignedRole) × IndividualHas 𝓒 a (Exists Q) × SignedDeclared (𝓒 .counts) Q × SignedDeclared (𝓒 .counts) R × Chain Follows Q R
   unfolding follows
   comes (sprouts a R h) =
       let d = has-declared 𝓒 ok a (Exists R) h in
@@ -134,7 +135,8 @@ module _ (𝓒 : Collection) (ok : WellFormed 𝓒) where
       turn (inl k) = let w = below-out p k in down-clash (w .0) (p .0) (p .1) m (w .1) (w .2) (w .3)
       turn (inr k) = let w = below-out (inverse (p .0), inverse (p .1)) k in up-clash (w .0) (inverse (p .0)) (inverse (p .1)) (rw (inverse-inverse (p .0), inverse-inverse (p .1)) m) (w .1) (w .2) (w .3)
 
-      side : T (any (pairs everyone everyone) (clashBetween 𝓒 p)) ⊎ T (or (any roles (clashBelow 𝓒 p)) (any roles (clashBelow 𝓒 (inverse (p .0), inverse (p .1))))) → Clash 𝓒
+      side : T (any (pairs everyone everyone) (clashBetween 𝓒 p)) ⊎ T (or (any roles (clashBelow 𝓒 p)) (any roles (clashBelow 𝓒 (inverse (p .0), inverse (p .1)))))
+          → Clash 𝓒
       side (inl k) =
           let w = any-out (pairs everyone everyone) (clashBetween 𝓒 p) k in
           let q = w .0 in

@@ -49,14 +49,16 @@ module _ (𝓒 : Collection) (ok : WellFormed 𝓒) where
 
   -- THEOREM: a mark's meaning: in the tree grown from one element whose only concept is B, and what follows from B,
   -- a path leads from that element in s back to it in t
-  pub mark-means : (n : ℕ) → Needed (lite 𝓒) n → (s t : State) (B : Concept) → StateDeclared (𝓒 .counts) s → ConceptDeclared (𝓒 .counts) B → Mark (lite 𝓒) n s t B ↔ PathIn 𝓒 (treeOf 𝓒 B) (root tt) s (root tt) t
+  pub mark-means : (n : ℕ) → Needed (lite 𝓒) n → (s t : State) (B : Concept) → StateDeclared (𝓒 .counts) s → ConceptDeclared (𝓒 .counts) B
+      → Mark (lite 𝓒) n s t B ↔ PathIn 𝓒 (treeOf 𝓒 B) (root tt) s (root tt) t
   mark-means n needed s t B h d = (
     λ m. loop↔treeOf 𝓒 B s t .0 (mark→loop (lite 𝓒) n s t B m),
     λ p. loop→mark (lite 𝓒) (lite-sane 𝓒 (ok .numbers)) n (needed .holds) (loop↔treeOf 𝓒 B s t .1 p) (concept-in (𝓒 .counts) B d) (state-in (𝓒 .counts) s h),
   )
 
 -- DEMAND 1: every input gets one of the listed answers, and only one; what it leaves in both areas is fixed
-pub demand-1 : (c : Call) → (r : Answer) × (x y : List ℕ) × Outcome c r x y × (answerNumber r ≤ 8) × ((r′ : Answer) (x′ y′ : List ℕ) → Outcome c r′ x′ y′ → (r′ ≡ r) × (x′ ≡ x) × (y′ ≡ y))
+pub demand-1 : (c : Call)
+    → (r : Answer) × (x y : List ℕ) × Outcome c r x y × (answerNumber r ≤ 8) × ((r′ : Answer) (x′ y′ : List ℕ) → Outcome c r′ x′ y′ → (r′ ≡ r) × (x′ ≡ x) × (y′ ≡ y))
 demand-1 c = (answer c, areaAfter c (answer c), spareAfter c (answer c), outcome-exists c, number-listed (answer c), λ r′ x′ y′ o. outcome-unique c o (outcome-exists c))
 
 -- with enough rounds

@@ -34,5 +34,6 @@ module _ {𝓚 𝓛 : Kind} (g : Grows 𝓚 𝓛) where
     walk-grows (go (by {a = a} B h l) w) = go (by (con B) (more a B h) (loop-grows l)) (walk-grows w)
 
     -- THEOREM: a path from root to root leads there still
-    pub path-grows : {a b : I} {s t : 𝓚 .State} → Run (Move 𝓚 has near) (root a) s (root b) t → Run (Move 𝓛 has′ near′) (root (of a)) (state s) (root (of b)) (state t)
+    pub path-grows : {a b : I} {s t : 𝓚 .State} → Run (Move 𝓚 has near) (root a) s (root b) t
+        → Run (Move 𝓛 has′ near′) (root (of a)) (state s) (root (of b)) (state t)
     path-grows p = path↔walk 𝓛 has′ near′ .1 (walk-grows (path↔walk 𝓚 has near .0 p))

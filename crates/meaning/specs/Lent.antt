@@ -143,10 +143,10 @@ pub record ShapesOk (t : Tables) : Type 0 where
   pub steps : Whole stepWidth mostSteps (t .steps)
   pub finals : Whole finalWidth mostFinals (t .finals)
 
-pub record TablesFit (t : Tables) (area spare : ℕ) : Type 0 where
+pub record TablesFit (t : Tables) (long long′ : ℕ) : Type 0 where
   pub tables : ShapesOk t
-  pub area : area ≡ areaLength
-  pub spare : spare ≡ areaLength
+  pub area : long ≡ areaLength
+  pub spare : long′ ≡ areaLength
 
 abbrev pub TablesOk : Call → Type 0
 TablesOk c = TablesFit (c .tables) (length (c .area)) (length (c .spare))

@@ -78,7 +78,8 @@ module _ (𝓒 : Collection) where
 
   -- the canonical model breaks an exclusion: at an element, or at an ordered pair; unnamed ones count
   pub data Contradiction : Type 0 where
-    at-element : (x : Element) (C D : Concept) → (C, D) ∈ 𝓒 .concept-exclusions → Belongs 𝓒 individuals x → Has 𝓒 individuals x C → Has 𝓒 individuals x D → Contradiction
+    at-element : (x : Element) (C D : Concept) → (C, D) ∈ 𝓒 .concept-exclusions → Belongs 𝓒 individuals x → Has 𝓒 individuals x C
+        → Has 𝓒 individuals x D → Contradiction
     at-pair : (x y : Element) (R S : SignedRole) → (R, S) ∈ 𝓒 .role-exclusions → Edge 𝓒 individuals x R y → Edge 𝓒 individuals x S y → Contradiction
 
   -- the tree grown from one element whose only concept is B, and what follows from B

@@ -65,7 +65,8 @@ module _ (𝓒 : Collection) where
   edge-has (parent b l) = wider (turned l)
 
   -- THEOREM: whoever has the concept ∃S has an S-neighbour
-  pub has-neighbour : (x : Element 𝓒) (S : SignedRole) → Belongs 𝓒 (individuals 𝓒) x → Has 𝓒 (individuals 𝓒) x (Exists S) → (y : Element 𝓒) × Belongs 𝓒 (individuals 𝓒) y × Edge 𝓒 (individuals 𝓒) x S y
+  pub has-neighbour : (x : Element 𝓒) (S : SignedRole) → Belongs 𝓒 (individuals 𝓒) x → Has 𝓒 (individuals 𝓒) x (Exists S)
+      → (y : Element 𝓒) × Belongs 𝓒 (individuals 𝓒) y × Edge 𝓒 (individuals 𝓒) x S y
   has-neighbour x S b h = let c : Belongs 𝓒 (individuals 𝓒) (x ▹ S) = grown b h in (x ▹ S, c, child c same)
 
   -- THEOREM: every fact holds

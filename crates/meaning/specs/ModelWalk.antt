@@ -43,7 +43,8 @@ module _ (𝓒 : Collection) (𝓡 : Roots) (keep : RootsKeep 𝓒 𝓡) where
   to-move (along-role S e (parent b l)) = ups (_, e, l)
   to-move (at-name {x = x} A e h) = let w = has→holds x h in tests (w .0) (w .1) (A, e, w .2)
 
-  from-moves : {x y : Elem (𝓡 .Root) SignedRole} {s t : State} → Run (Move (lite 𝓒) (𝓡 .has) (Near 𝓒 𝓡)) x s y t → Belongs 𝓒 𝓡 x → PathIn 𝓒 (grownFrom 𝓒 𝓡) x s y t
+  from-moves : {x y : Elem (𝓡 .Root) SignedRole} {s t : State} → Run (Move (lite 𝓒) (𝓡 .has) (Near 𝓒 𝓡)) x s y t → Belongs 𝓒 𝓡 x
+      → PathIn 𝓒 (grownFrom 𝓒 𝓡) x s y t
   from-moves stop b = stop
   from-moves (go (tests {x = x} B h e) p) b = go (at-name (e .0) (e .1) (holds→has x B (Name (e .0)) h (e .2))) (from-moves p b)
   from-moves (go (downs {x = x} B R h k d) p) b =
@@ -74,7 +75,8 @@ module _ (𝓒 : Collection) (ok : WellFormed 𝓒) where
   IndividualsWalk = Run (Stride (lite 𝓒) (individuals 𝓒 .has) (Near 𝓒 (individuals 𝓒)))
 
   -- THEOREM: a path of the canonical model leads from individual to individual exactly when the individuals' walk does
-  pub path↔individuals-walk : (a b : Individual) (s t : State) → IndividualDeclared (𝓒 .counts) a → PathIn 𝓒 (canonical 𝓒) (root a) s (root b) t ↔ IndividualsWalk a s b t
+  pub path↔individuals-walk : (a b : Individual) (s t : State) → IndividualDeclared (𝓒 .counts) a
+      → PathIn 𝓒 (canonical 𝓒) (root a) s (root b) t ↔ IndividualsWalk a s b t
   path↔individuals-walk = path↔steps 𝓒 (individuals 𝓒) individuals-keep
 
 module _ (𝓒 : Collection) (B : Concept) where

@@ -35,6 +35,9 @@ module _ (c : Call) where
     equal-ends : CountsOk c → TablesOk c → NumbersOk c → (EndsOk c → ⊥) → Outcome EqualEnds (c .area) (c .spare)
     bad-ask : CountsOk c → TablesOk c → NumbersOk c → EndsOk c → (AskOk c → ⊥) → Outcome BadAsk (c .area) (c .spare)
     contradiction : Sound c → Breaks → Outcome Contradiction (c .area) (c .spare)
-    spent : {n : ℕ} {area : List ℕ} → Sound c → (Breaks → ⊥) → RoundsNeeded n → c .allowance < n → HoldsSheet (c .allowance) area → Outcome (AllowanceSpent (c .allowance)) area zeros
-    says-yes : {n : ℕ} {area : List ℕ} → Sound c → (Breaks → ⊥) → RoundsNeeded n → n ≤ c .allowance → HoldsSheet n area → Reached → Outcome (Yes n) area zeros
-    says-no : {n : ℕ} {area : List ℕ} → Sound c → (Breaks → ⊥) → RoundsNeeded n → n ≤ c .allowance → HoldsSheet n area → (Reached → ⊥) → Outcome (No n) area zeros
+    spent : {n : ℕ} {area : List ℕ} → Sound c → (Breaks → ⊥) → RoundsNeeded n → c .allowance < n → HoldsSheet (c .allowance) area
+        → Outcome (AllowanceSpent (c .allowance)) area zeros
+    says-yes : {n : ℕ} {area : List ℕ} → Sound c → (Breaks → ⊥) → RoundsNeeded n → n ≤ c .allowance → HoldsSheet n area → Reached
+        → Outcome (Yes n) area zeros
+    says-no : {n : ℕ} {area : List ℕ} → Sound c → (Breaks → ⊥) → RoundsNeeded n → n ≤ c .allowance → HoldsSheet n area → (Reached → ⊥)
+        → Outcome (No n) area zeros

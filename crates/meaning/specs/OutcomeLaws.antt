@@ -51,11 +51,13 @@ module _ (c : Call) where
   abbrev Done : Answer → Type 0
   Done r = Outcome c r (areaAfter c r) (spareAfter c r)
 
-  rounds-stage : Sound c → (Breaks c → ⊥) → liteWork (collectionOf c) .0 ≤ c .allowance → Done (afterRounds (collectionOf c) (c .first) (c .second) (c .allowance))
+  rounds-stage : Sound c → (Breaks c → ⊥) → liteWork (collectionOf c) .0 ≤ c .allowance
+      → Done (afterRounds (collectionOf c) (c .first) (c .second) (c .allowance))
   unfolding afterRounds
   rounds-stage s sane h = side (reaches (collectionOf c) (liteWork (collectionOf c) .1) (c .first) (c .second)) refl
     where
-      side : (b : Bool) → reaches (collectionOf c) (liteWork (collectionOf c) .1) (c .first) (c .second) ≡ b → Done (pick b (Yes (liteWork (collectionOf c) .0)) (No (liteWork (collectionOf c) .0)))
+      side : (b : Bool) → reaches (collectionOf c) (liteWork (collectionOf c) .1) (c .first) (c .second) ≡ b
+          → Done (pick b (Yes (liteWork (collectionOf c) .0)) (No (liteWork (collectionOf c) .0)))
       side true e = says-yes s sane (rounds-needed s) h (holds-sheet s (liteWork (collectionOf c) .0)) (reaches-test s .holds e)
       side false e = says-no s sane (rounds-needed s) h (holds-sheet s (liteWork (collectionOf c) .0)) (exactly-not (reaches-test s) e)
 
@@ -63,7 +65,8 @@ module _ (c : Call) where
   unfolding afterClash
   clash-stage s sane = side (ltb (c .allowance) (liteWork (collectionOf c) .0)) refl
     where
-      side : (b : Bool) → ltb (c .allowance) (liteWork (collectionOf c) .0) ≡ b → Done (pick b (AllowanceSpent (c .allowance)) (afterRounds (collectionOf c) (c .first) (c .second) (c .allowance)))
+      side : (b : Bool) → ltb (c .allowance) (liteWork (collectionOf c) .0) ≡ b
+          → Done (pick b (AllowanceSpent (c .allowance)) (afterRounds (collectionOf c) (c .first) (c .second) (c .allowance)))
       side true e = spent s sane (rounds-needed s) (ltb-true _ _ e) (holds-sheet s (c .allowance))
       side false e = rounds-stage s sane (ltb-false _ _ e)
 

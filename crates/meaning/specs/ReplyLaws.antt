@@ -50,7 +50,9 @@ module _ (𝓒 : Collection) (ok : WellFormed 𝓒) where
           let g = concept-same .is (Name (f .0)) C (and-right (sameIndividual (f .1) a) (sameConcept (Name (f .0)) C) k) in
           rw (← e, ← g) (named m)
 
-      by-end : (f : RoleName × Individual × Individual) → f ∈ 𝓒 .role-facts → T (and (sameIndividual (f .1) a) (sameConcept (Exists (forward (f .0))) C)) ⊎ T (and (sameIndividual (f .2) a) (sameConcept (Exists (backward (f .0))) C)) → Typed 𝓒 a C
+      by-end : (f : RoleName × Individual × Individual) → f ∈ 𝓒 .role-facts
+          → T (and (sameIndividual (f .1) a) (sameConcept (Exists (forward (f .0))) C)) ⊎ T (and (sameIndividual (f .2) a) (sameConcept (Exists (backward (f .0))) C))
+          → Typed 𝓒 a C
       by-end f m (inl k) =
           let e = individual-same .is (f .1) a (and-left (sameIndividual (f .1) a) (sameConcept (Exists (forward (f .0))) C) k) in
           let g = concept-same .is (Exists (forward (f .0))) C (and-right (sameIndividual (f .1) a) (sameConcept (Exists (forward (f .0))) C) k) in
@@ -109,7 +111,9 @@ module _ (𝓒 : Collection) (ok : WellFormed 𝓒) where
       let f = w .0 in
       side f (w .1) (or-case (and (sameIndividual (f .1) a) (and (sameIndividual (f .2) b) (roleLe 𝓒 (forward (f .0)) S))) _ (w .2))
     where
-      side : (f : RoleName × Individual × Individual) → f ∈ 𝓒 .role-facts → T (and (sameIndividual (f .1) a) (and (sameIndividual (f .2) b) (roleLe 𝓒 (forward (f .0)) S))) ⊎ T (and (sameIndividual (f .2) a) (and (sameIndividual (f .1) b) (roleLe 𝓒 (forward (f .0)) (inverse S)))) → FactEdge 𝓒 a S b
+      side : (f : RoleName × Individual × Individual) → f ∈ 𝓒 .role-facts
+          → T (and (sameIndividual (f .1) a) (and (sameIndividual (f .2) b) (roleLe 𝓒 (forward (f .0)) S))) ⊎ T (and (sameIndividual (f .2) a) (and (sameIndividual (f .1) b) (roleLe 𝓒 (forward (f .0)) (inverse S))))
+          → FactEdge 𝓒 a S b
       side f m (inl k) =
           let l = roleLe 𝓒 (forward (f .0)) S in
           let q = and-right (sameIndividual (f .1) a) (and (sameIndividual (f .2) b) l) k in
@@ -211,7 +215,8 @@ module _ (𝓒 : Collection) (ok : WellFormed 𝓒) where
     stride-to : (p q : Individual × State) → p ∈ nodes → Links p q → q ∈ nodes
     stride-to p q m h = stride-out p q m h .0
 
-    walks-is : (a b : Individual) (s t : State) → a ∈ declaredIndividuals (𝓒 .counts) → s ∈ declaredStates (𝓒 .counts) → T (walks 𝓒 f (a, s) (b, t)) ↔ IndividualsWalk 𝓒 ok a s b t
+    walks-is : (a b : Individual) (s t : State) → a ∈ declaredIndividuals (𝓒 .counts) → s ∈ declaredStates (𝓒 .counts)
+        → T (walks 𝓒 f (a, s) (b, t)) ↔ IndividualsWalk 𝓒 ok a s b t
     unfolding walks
     walks-is a b s t i m =
         let same = both-same sameIndividual sameState individual-same state-same in (

@@ -13,7 +13,8 @@ use Rattle.meaning.specs.Tree.{root, Loop, here, twice, below, Tree, loo
 module _ (𝓚 : Kind) where
   open Kind 𝓚 using (Concept, State, Edge, concepts, states, end, child, test, down, up)
 
-  round-mono : {f g : State → State → Concept → Type 0} → ((s t : State) (B : Concept) → f s t B → g s t B) → {s t : State} {B : Concept} → Round 𝓚 f s t B → Round 𝓚 g s t B
+  round-mono : {f g : State → State → Concept → Type 0} → ((s t : State) (B : Concept) → f s t B → g s t B) → {s t : State} {B : Concept}
+      → Round 𝓚 f s t B → Round 𝓚 g s t B
   round-mono h {s} {t} {B} (kept m) = kept (h s t B m)
   round-mono h (tested e) = tested e
   round-mono h {s} {t} {B} (joined {u = u} m n) = joined (h s u B m) (h u t B n)

@@ -42,7 +42,8 @@ module _ (𝓒 : Collection) where
   leanModel = record { Thing = Element 𝓒; name = λ x A. Has 𝓒 (individuals 𝓒) x (Name A); edge = LeanEdge }
 
   pub data LeanContradiction : Type 0 where
-    at-element : (x : Element 𝓒) (C D : Concept) → (C, D) ∈ 𝓒 .concept-exclusions → Lean x → Has 𝓒 (individuals 𝓒) x C → Has 𝓒 (individuals 𝓒) x D → LeanContradiction
+    at-element : (x : Element 𝓒) (C D : Concept) → (C, D) ∈ 𝓒 .concept-exclusions → Lean x → Has 𝓒 (individuals 𝓒) x C → Has 𝓒 (individuals 𝓒) x D
+        → LeanContradiction
     at-pair : (x y : Element 𝓒) (R S : SignedRole) → (R, S) ∈ 𝓒 .role-exclusions → LeanEdge x R y → LeanEdge x S y → LeanContradiction
 
   abbrev pub LeanYes : Individual → Individual → Type 0

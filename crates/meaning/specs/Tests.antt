@@ -111,7 +111,8 @@ module _ (𝓚 : Kind) (𝓣 : Tests 𝓚) where
     keeps : T (f s t B) → Next f s t B
     passes : T (has-test B s t) → Next f s t B
     through : (u : State) → u ∈ states → T (f s u B) → T (f u t B) → Next f s t B
-    under : (R : Edge) (u v : State) → R ∈ edges → u ∈ states → v ∈ states → T (has-child B R) → T (has-down R s u) → T (f u v (end R)) → T (has-up R v t) → Next f s t B
+    under : (R : Edge) (u v : State) → R ∈ edges → u ∈ states → v ∈ states → T (has-child B R) → T (has-down R s u) → T (f u v (end R))
+        → T (has-up R v t) → Next f s t B
 
   module _ (f : State → State → Concept → Bool) (s t : State) (B : Concept) where
     J : Bool
