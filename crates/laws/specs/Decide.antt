@@ -4,7 +4,7 @@ use mathlib.Core.Bool.{Bool, true, false, not, false≢true}
 use mathlib.Core.List.{List}
 use Prim.Native.Nat.{ℕ, _≤_}
 use lib.Dec.{T, leb, eqb}
-use borrow.Author.Tests.{le-leb, leb-true, eq-eqb, eqb-true}
+use borrow.Author.Tests.{le-leb, leb-true, eq-eqb, eqb-true, not-true, not-false}
 use Rattle.laws.specs.Exactly.{Exactly}
 use Rattle.laws.specs.Member.{_∈_}
 use Rattle.laws.specs.Search.{and, every, every-in, every-out, passes, passed, fails}
@@ -23,6 +23,13 @@ exactly-in {b} h p = passed b (h .shows p)
 -- where a test fails its fact does not hold
 pub exactly-not : {b : Bool} {P : Type 0} → Exactly b P → b ≡ false → P → ⊥
 exactly-not h e p = false≢true (rw e at (h .shows p))
+
+-- after `if !test {`: in the arm the fact does not hold, and past it the fact holds
+pub refused : {b : Bool} {P : Type 0} → Exactly b P → not b ≡ true → P → ⊥
+refused {b} h e = exactly-not h (not-true b e)
+
+pub past : {b : Bool} {P : Type 0} → Exactly b P → not b ≡ false → P
+past {b} h e = h .holds (not-false b e)
 
 pub exactly-fails : {b : Bool} {P : Type 0} → Exactly b P → (P → ⊥) → b ≡ false
 exactly-fails {b} h n = fails b (λ t. n (exactly-out h t))

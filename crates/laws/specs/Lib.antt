@@ -11,5 +11,8 @@ pub mod Rounds
 pub mod Settle
 pub mod Chain
 pub mod Fill
+pub mod Adds
+pub mod Found
 pub mod Rows
+pub mod Marks
 pub mod Warshall

@@ -1,0 +1,56 @@
+-- `product` meets its contract. Every place below q is done.
+use Prim.Native.Nat.{_-_, _/_, _%_}
+use mathlib.Core.Bool.{false}
+use Rattle.laws.specs.Exactly.{Exactly}
+use Rattle.laws.specs.Fill.{Filling, none-done, one-more, all-done}
+use Rattle.laws.specs.Found.{Some}
+use Rattle.sheet.specs.Rules.{UpMeets}
+use Rattle.sheet.specs.Turns.{product-of}
+use borrow.Author.Needs.{needs}
+use native.Mathlib.Omega.{arith}
+use Rattle.sheet.proofs.product.Statement.{statement}
+use Rattle.sheet.proofs.product.Tie as tie
+use Rattle.sheet.proofs.product.Reads as reads
+use Rattle.sheet.proofs.product.Lts as lts
+use Rattle.sheet.proofs.up_meets.Reads as up-meets-reads
+
+abbrev Inv-loop : tie.InvT-loop
+Inv-loop a b out₀ q₀ out q = Filling (λ k x. Exactly x (Some (UpMeets a b (k / 16) (k % 16)) 16)) false 256 out₀ out q
+
+abbrev μ-loop : tie.MeasureT-loop
+μ-loop a b out₀ q₀ out q = 256 - q
+
+loop-holds : tie.Need-loop-holds Inv-loop μ-loop
+loop-holds c = none-done _ false 256 _ (search needs)
+
+up-meets-requires : tie.Need-up-meets-requires Inv-loop μ-loop
+up-meets-requires c κs = search needs
+
+array-write-out : tie.Need-array-write-out Inv-loop μ-loop
+array-write-out c = search needs
+
+add-q : tie.Need-add-q Inv-loop μ-loop
+add-q c = search needs
+
+loop-less : tie.Need-loop-less Inv-loop μ-loop
+loop-less c = search needs
+
+loop-again : tie.Need-loop-again Inv-loop μ-loop
+loop-again c = one-more _ false 256 _ _ _ _ (c .before .before .loop .inv) (search needs) (λ e. c .up-meets .ensures)
+
+returns : tie.Need-returns Inv-loop μ-loop
+returns c = product-of _ _ _ (all-done _ false 256 _ _ _ (c .before .loop .inv) (search needs))
+
+pub product-spec : {M : Type 1} → statement M
+product-spec =
+    tie.close
+    (tie.spec
+    Inv-loop
+    μ-loop
+    loop-holds
+    up-meets-requires
+    array-write-out
+    add-q
+    loop-less
+    loop-again
+    returns)

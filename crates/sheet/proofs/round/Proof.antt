@@ -1,0 +1,38 @@
+-- `round` meets its contract: the old sheet, what test steps add, what meets, and what hangs below.
+use Rattle.sheet.specs.Made.{round-made}
+use borrow.Author.Needs.{needs}
+use native.Mathlib.Omega.{arith}
+use borrow.Author.Needs.{needs}
+use Rattle.sheet.proofs.round.Statement.{statement}
+use Rattle.sheet.proofs.round.Tie as tie
+use Rattle.sheet.proofs.round.Reads as reads
+use Rattle.sheet.proofs.round.Lts as lts
+use Rattle.sheet.proofs.copy.Reads as copy-reads
+use Rattle.sheet.proofs.hangs.Reads as hangs-reads
+use Rattle.sheet.proofs.joins.Reads as joins-reads
+use Rattle.sheet.proofs.tests.Reads as tests-reads
+
+copy-requires : tie.Need-copy-requires
+copy-requires c κs = search needs
+
+tests-requires : tie.Need-tests-requires
+tests-requires c κs = search needs
+
+joins-requires : tie.Need-joins-requires
+joins-requires c κs = search needs
+
+hangs-requires : tie.Need-hangs-requires
+hangs-requires c κs = search needs
+
+same-length : tie.Need-same-length
+same-length c = search needs
+
+returns : tie.Need-returns
+returns c =
+    let a = c .before .before .before .before .before .before .before .before .before .before .before .before .before .before .before .before .before .before .before .args in
+    round-made _ _ _ (a .steps .now) _ (c .before .before .before .before .before .before .before .before .before .before .before .before .before .before .copy .ensures) (c .before .before .before .before .before .before .before .before .before .before .tests .ensures) (c .before .before .before .before .before .before .joins .ensures) (c .before .before .hangs .ensures)
+
+pub round-spec : {M : Type 1} → statement M
+round-spec =
+    tie.close
+    (tie.spec copy-requires tests-requires joins-requires hangs-requires same-length returns)

@@ -1,0 +1,9 @@
+pub mod Rules
+pub mod Turns
+pub mod Below
+pub mod Places
+pub mod Made
+pub mod Data
+pub mod RoundLays
+pub mod Start
+pub mod Runs

@@ -1,0 +1,59 @@
+-- `one_way` meets its contract: a step whose numbers have no place adds nothing, and any other its way in every row.
+use borrow.Author.Needs.{needs}
+use native.Mathlib.Omega.{arith}
+use denote.Plain.{Boolean}
+use Rattle.laws.specs.Rows.{rows-long}
+use Rattle.ways.specs.Steps.{other-kind, from-nowhere, to-nowhere, by-nothing, one-way}
+use Rattle.ways.proofs.one_way.Statement.{statement}
+use Rattle.ways.proofs.one_way.Tie as tie
+
+returns : tie.Need-returns
+returns c = other-kind _ _ _ _ _ _ (λ e. omega arith)
+
+returns-2 : tie.Need-returns-2
+returns-2 c = from-nowhere _ _ _ _ _ _ (omega arith)
+
+returns-3 : tie.Need-returns-3
+returns-3 c = to-nowhere _ _ _ _ _ _ (omega arith)
+
+returns-4 : tie.Need-returns-4
+returns-4 c =
+    let s = c .before .before .before .before .before .before .before in
+    by-nothing _ _ _ _ _ _ (λ i h. rows-long Boolean 64 (s .args .m) _ (s .good .1 .0 .1 .1) i (search needs)) (omega arith)
+
+wide-requires : tie.Need-wide-requires
+wide-requires c κs = search needs
+
+mul-at : tie.Need-mul-at
+mul-at c = search needs
+
+wide-requires-2 : tie.Need-wide-requires-2
+wide-requires-2 c κs = search needs
+
+add-at : tie.Need-add-at
+add-at c = search needs
+
+wide-requires-3 : tie.Need-wide-requires-3
+wide-requires-3 c κs = search needs
+
+with-step-requires : tie.Need-with-step-requires
+with-step-requires c κs = search needs
+
+returns-5 : tie.Need-returns-5
+returns-5 c = one-way _ _ _ _ _ _ _ _ _ (c .with-step .ensures) (omega arith) (omega arith) (omega arith) (omega arith) (omega arith)
+
+pub one-way-spec : {M : Type 1} → statement M
+one-way-spec =
+    tie.close
+    (tie.spec
+    returns
+    returns-2
+    returns-3
+    returns-4
+    wide-requires
+    mul-at
+    wide-requires-2
+    add-at
+    wide-requires-3
+    with-step-requires
+    returns-5)
