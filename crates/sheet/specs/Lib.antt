@@ -7,3 +7,4 @@ pub mod Data
 pub mod RoundLays
 pub mod Start
 pub mod Runs
+pub mod RunsOnce

@@ -40,10 +40,14 @@ module _ (down : List Bool) (old : List ℕ) (e : ℕ) (up mid leads : List Bool
           record { x = v .0; y = y; x-low = v .1; y-low = w .1; goes-down = v .2 .down; along = v .2 .marked; goes-up = w .2 .then-up }
 
       from : Leads down old e up (q / 16) (q % 16) → Some (UpMeets mid up (q / 16) (q % 16)) 16
-      from l = (l .y, l .y-low, record {
-        first = middle (q / 16) (l .y) (omega arith) (l .y-low) .shows (l .x, l .x-low, record { down = l .goes-down; marked = l .along });
-        then-up = l .goes-up;
-      })
+      from l = (
+        l .y,
+        l .y-low,
+        record {
+          first = middle (q / 16) (l .y) (omega arith) (l .y-low) .shows (l .x, l .x-low, record { down = l .goes-down; marked = l .along });
+          then-up = l .goes-up;
+        },
+      )
 
 pub hang-made : {l m : List ℕ} (below ways : List (List Bool)) (states r : ℕ) (old : List ℕ) (back : ℕ) (mid leads : List Bool)
     → back ≡ flip r → DownTable (getD ways r []) old (64 + back) mid → Product mid (getD ways back []) leads

@@ -183,13 +183,17 @@ module _ (c : Counts) (fit : CountsFit c) where
         let d = w .2 in
         let hs = state-out c s (m .from) in
         let ht = state-out c t (m .to) in
-        inl (inl (k, w .1, record {
-          test = d .test;
-          from-declared = rw (d .from) hs;
-          to-declared = rw (d .to) ht;
-          named = d .named;
-          place = (numberOf B, number-low B (concept-out c B (m .of)), record { there = rw (d .from, d .to); marked = row-in (getD steps (4 * k + 2) 0) B (d .named) (m .of) (d .marked) });
-        }))
+        inl (inl (
+          k,
+          w .1,
+          record {
+            test = d .test;
+            from-declared = rw (d .from) hs;
+            to-declared = rw (d .to) ht;
+            named = d .named;
+            place = (numberOf B, number-low B (concept-out c B (m .of)), record { there = rw (d .from, d .to); marked = row-in (getD steps (4 * k + 2) 0) B (d .named) (m .of) (d .marked) });
+          },
+        ))
 
     in-join : (s u t : State) (B : Concept) → Mark K n s u B → Mark K n u t B → RoundPlace below ways (c .states) steps old ((16 * s .0 + t .0) * 128 + numberOf B)
     in-join s u t B one other =
@@ -202,11 +206,23 @@ module _ (c : Counts) (fit : CountsFit c) where
         let q = 16 * s .0 + t .0 in
         let high : q / 16 ≡ s .0 = omega arith in
         let low : q % 16 ≡ t .0 = omega arith in
-        inl (inr (q, omega arith, (u .0, omega arith, (numberOf B, number-low B (concept-out c B (m .of)), record {
-          there = rw (high, low);
-          one = rw high (byte-of s u B one);
-          other = rw low (byte-of u t B other);
-        }))))
+        inl (inr (
+          q,
+          omega arith,
+          (
+            u .0,
+            omega arith,
+            (
+              numberOf B,
+              number-low B (concept-out c B (m .of)),
+              record {
+                there = rw (high, low);
+                one = rw high (byte-of s u B one);
+                other = rw low (byte-of u t B other);
+              },
+            ),
+          ),
+        ))
 
     in-hang : (s t : State) (B : Concept) (R : SignedRole) (u v : State) → Markable K s t B → K .child B R → K .down R s u → Mark K n u v (K .end R) → K .up R v t
         → RoundPlace below ways (c .states) steps old ((16 * s .0 + t .0) * 128 + numberOf B)
@@ -222,22 +238,26 @@ module _ (c : Counts) (fit : CountsFit c) where
         let high : q / 16 ≡ s .0 = omega arith in
         let low : q % 16 ≡ t .0 = omega arith in
         let h = child .low in
-        inr (R .0, child .low, record {
-          q = q;
-          q-low = omega arith;
-          from-declared = rw high hs;
-          to-declared = rw low ht;
-          leads = record {
-            x = u .0;
-            y = v .0;
-            x-low = omega arith;
-            y-low = omega arith;
-            goes-down = rw high (down .marked);
-            along = byte-of u v (Exists (inverse R)) along;
-            goes-up = rw low (up .marked);
-          };
-          place = (numberOf B, number-low B (concept-out c B (m .of)), record { there = refl; marked = row-in (64 + R .0) B (omega arith) (m .of) (child .marked) });
-        })
+        inr (
+          R .0,
+          child .low,
+          record {
+            q = q;
+            q-low = omega arith;
+            from-declared = rw high hs;
+            to-declared = rw low ht;
+            leads = record {
+              x = u .0;
+              y = v .0;
+              x-low = omega arith;
+              y-low = omega arith;
+              goes-down = rw high (down .marked);
+              along = byte-of u v (Exists (inverse R)) along;
+              goes-up = rw low (up .marked);
+            };
+            place = (numberOf B, number-low B (concept-out c B (m .of)), record { there = refl; marked = row-in (64 + R .0) B (omega arith) (m .of) (child .marked) });
+          },
+        )
 
     has-one : (s t : State) (B : Concept) → Mark K (suc n) s t B → getD new ((16 * s .0 + t .0) * 128 + numberOf B) 0 ≡ 1
     has-one s t B m = side (m .1)

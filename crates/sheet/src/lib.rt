@@ -17,20 +17,17 @@ ghost use Rattle.sheet.specs.Data.{dataKind};
 ghost use Rattle.sheet.specs.Runs.{Runs, Ended};
 ghost use Rattle.sheet.specs.Places.{TestPlace, TestTurn, HangPlace, RoundPlace};
 ghost use Rattle.sheet.specs.Rules.{RowTurn, RowIf, JoinTurn, JoinVia, JoinPair, DownMeets, UpMeets, DownTable, Product, HangTurn};
-
-use kinds::{Concept, ConceptName, Counts, Rounds, State};
+use kinds::Concept;
+use kinds::ConceptName;
+use kinds::Counts;
+use kinds::Rounds;
+use kinds::State;
 
 // How rounds end: counts or areas that do not fit, a sheet that no longer changes after so many, or an allowance spent before.
 pub enum Ran {
     Refused,
     Needed(Rounds),
     Spent,
-}
-
-fn wide(x: u16) -> usize
-    ensures { λ r. ⌜ r ≡ x ⌝ }
-{
-    x as usize
 }
 
 // 1 where on is true, else the byte as it is: a store without a branch.
@@ -80,7 +77,13 @@ fn join_at(new: &mut [u8], old: &[u8], s: usize, t: usize)
     ensures { λ _. ⌜ Adds (Upto (JoinVia (now (old .entry)) s t) 16) (now (new .entry)) (now (new .exit)) ⌝ }
 {
     for v in 0..16 {
-        join_rows(new, old, (16 * s + t) * 128, (16 * s + v) * 128, (16 * v + t) * 128);
+        join_rows(
+            new,
+            old,
+            (16 * s + t) * 128,
+            (16 * s + v) * 128,
+            (16 * v + t) * 128,
+        );
     }
 }
 
@@ -195,22 +198,30 @@ fn below_rows(order: [[bool; 128]; 128], counts: Counts) -> [[bool; 128]; 128]
 }
 
 // One test step: every concept below its name is marked.
-fn test_one(new: &mut [u8], below: [[bool; 128]; 128], states: usize, kind: u16, from: State, by: ConceptName, to: State)
+fn test_one(
+    new: &mut [u8],
+    below: [[bool; 128]; 128],
+    states: usize,
+    kind: u16,
+    from: State,
+    by: ConceptName,
+    to: State,
+)
     requires { ⌜ (length (now new) ≡ 32768) × (states ≤ 16) ⌝ }
     ensures { λ _. ⌜ Adds (TestPlace below states kind from by to) (now (new .entry)) (now (new .exit)) ⌝ }
 {
     if kind != 1 {
         return;
     }
-    let s = wide(from.0);
+    let s = from.0 as usize;
     if s >= states {
         return;
     }
-    let t = wide(to.0);
+    let t = to.0 as usize;
     if t >= states {
         return;
     }
-    let a = wide(by.0);
+    let a = by.0 as usize;
     if a >= 128 {
         return;
     }
@@ -225,12 +236,26 @@ fn tests(new: &mut [u8], below: [[bool; 128]; 128], states: usize, steps: &[u16]
     let n = steps.len() / 4;
     for k in 0..n {
         let at = 4 * k;
-        test_one(new, below, states, steps[at], State(steps[at + 1]), ConceptName(steps[at + 2]), State(steps[at + 3]));
+        test_one(
+            new,
+            below,
+            states,
+            steps[at],
+            State(steps[at + 1]),
+            ConceptName(steps[at + 2]),
+            State(steps[at + 3]),
+        );
     }
 }
 
 // Down by each role, a mark of the old sheet at the child, and back up.
-fn hangs(new: &mut [u8], old: &[u8], below: [[bool; 128]; 128], ways: [[bool; 256]; 64], states: usize)
+fn hangs(
+    new: &mut [u8],
+    old: &[u8],
+    below: [[bool; 128]; 128],
+    ways: [[bool; 256]; 64],
+    states: usize,
+)
     requires { ⌜ (length (now new) ≡ 32768) × (length (now old) ≡ 32768) ⌝ }
     ensures { λ _. ⌜ Adds (Upto (HangPlace below ways states (now (old .entry))) 64) (now (new .entry)) (now (new .exit)) ⌝ }
 {
@@ -253,7 +278,14 @@ fn copy(new: &mut [u8], old: &[u8])
 }
 
 // One round: reads the old area only, and writes every byte of the new one.
-fn round(new: &mut [u8], old: &[u8], below: [[bool; 128]; 128], ways: [[bool; 256]; 64], states: usize, steps: &[u16])
+fn round(
+    new: &mut [u8],
+    old: &[u8],
+    below: [[bool; 128]; 128],
+    ways: [[bool; 256]; 64],
+    states: usize,
+    steps: &[u16],
+)
     requires { ⌜ (length (now new) ≡ 32768) × (length (now old) ≡ 32768) × (states ≤ 16) ⌝ }
     ensures { λ _. ⌜ Adds (RoundPlace below ways states (now (steps .entry)) (now (old .entry))) (now (old .entry)) (now (new .exit)) ⌝ }
 {
@@ -272,7 +304,7 @@ fn first_mark(p: usize, counts: Counts) -> bool
     if s != p / 128 % 16 {
         return false;
     }
-    if s >= wide(counts.states) {
+    if s >= counts.states as usize {
         return false;
     }
     valid(p % 128, counts)
@@ -310,12 +342,20 @@ fn clear(a: &mut [u8])
 }
 
 // Rounds from the sheet of round 0 on, until one changes nothing or the allowance is spent.
-fn rounds(first: &mut [u8], second: &mut [u8], order: [[bool; 128]; 128], ways: [[bool; 256]; 64], counts: Counts, steps: &[u16], allowance: Rounds) -> Ran
+fn rounds(
+    first: &mut [u8],
+    second: &mut [u8],
+    order: [[bool; 128]; 128],
+    ways: [[bool; 256]; 64],
+    counts: Counts,
+    steps: &[u16],
+    allowance: Rounds,
+) -> Ran
     requires { ⌜ CountsFit counts × Lays (Mark (dataKind counts order ways (now steps)) 0) (now first) × (length (now second) ≡ 32768) ⌝ }
     ensures { λ r. ⌜ Ended counts order ways (now (steps .entry)) allowance r (now (first .exit)) (now (second .exit)) ⌝ }
 {
     let below = below_rows(order, counts);
-    let states = wide(counts.states);
+    let states = counts.states as usize;
     let mut n: u16 = 0;
     loop {
         round(second, first, below, ways, states, steps);
@@ -333,7 +373,15 @@ fn rounds(first: &mut [u8], second: &mut [u8], order: [[bool; 128]; 128], ways: 
 }
 
 // The sheet from its start, round after round against the allowance.
-pub fn run(first: &mut [u8], second: &mut [u8], order: [[bool; 128]; 128], ways: [[bool; 256]; 64], counts: Counts, steps: &[u16], allowance: Rounds) -> Ran
+pub fn run(
+    first: &mut [u8],
+    second: &mut [u8],
+    order: [[bool; 128]; 128],
+    ways: [[bool; 256]; 64],
+    counts: Counts,
+    steps: &[u16],
+    allowance: Rounds,
+) -> Ran
     ensures { λ r. ⌜ Runs counts order ways (now (steps .entry)) allowance (now (first .entry)) (now (second .entry)) r (now (first .exit)) (now (second .exit)) ⌝ }
 {
     if !counts.fit() {

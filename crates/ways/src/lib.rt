@@ -6,12 +6,6 @@ ghost use Rattle.ways.specs.Ways.{Ways, WithStep, OneWay};
 use kinds::SignedRole;
 use kinds::State;
 
-fn wide(x: u16) -> usize
-    ensures { λ r. ⌜ r ≡ x ⌝ }
-{
-    x as usize
-}
-
 // One role step: a way for every role from which its own follows.
 fn with_step(w: [[bool; 256]; 64], m: [[bool; 64]; 64], at: usize, by: usize) -> [[bool; 256]; 64]
     requires { ⌜ (at < 256) × (by < 64) ⌝ }
@@ -72,6 +66,6 @@ fn one_way(
     if by.0 >= 64 {
         return w;
     }
-    let at = 16 * wide(from.0) + wide(to.0);
-    with_step(w, m, at, wide(by.0))
+    let at = 16 * (from.0 as usize) + to.0 as usize;
+    with_step(w, m, at, by.0 as usize)
 }

@@ -7,22 +7,21 @@ use Rattle.sheet.proofs.first_mark.Tie as tie
 use Rattle.sheet.proofs.first_mark.Reads as reads
 use Rattle.sheet.proofs.first_mark.Lts as lts
 use Rattle.sheet.proofs.valid.Reads as valid-reads
-use Rattle.sheet.proofs.wide.Reads as wide-reads
 
 returns : tie.Need-returns
 returns c = exactly-never (λ f. c .if1 .taken (f .same))
 
-wide-requires : tie.Need-wide-requires
-wide-requires c κs = search needs
+cast-if2 : tie.Need-cast-if2
+cast-if2 c = search needs
 
 returns-2 : tie.Need-returns-2
-returns-2 c = exactly-never (λ f. let h = f .declared in omega (arith, c .if2 .taken, c .before .wide .ensures))
+returns-2 c = exactly-never (λ f. let h = f .declared in omega (arith, c .if2 .taken))
 
 valid-requires : tie.Need-valid-requires
 valid-requires c κs = search needs
 
 returns-3 : tie.Need-returns-3
-returns-3 c = exactly-same (c .valid .ensures) (λ v. record { same = c .before .before .before .if1 .left; declared = omega (arith, c .before .if2 .left, c .before .before .wide .ensures); valid = v }) (λ f. f .valid)
+returns-3 c = exactly-same (c .valid .ensures) (λ v. record { same = c .before .before .before .if1 .left; declared = omega (arith, c .before .if2 .left); valid = v }) (λ f. f .valid)
 
 pub first-mark-spec : {M : Type 1} → statement M
-first-mark-spec = tie.close (tie.spec returns wide-requires returns-2 valid-requires returns-3)
+first-mark-spec = tie.close (tie.spec returns cast-if2 returns-2 valid-requires returns-3)

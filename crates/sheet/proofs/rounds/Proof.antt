@@ -1,6 +1,6 @@
 -- `rounds` meets its contract. At the loop's head the first area holds the sheet after n rounds, and each of those changed it.
 use Prim.Native.Nat.{ℕ, _-_}
-use mathlib.Core.Path.{_≡_, sym, ap, _∙_}
+use mathlib.Core.Path.{_≡_, refl, sym, ap, _∙_}
 use mathlib.Core.List.{List}
 use lib.ListN.{length, replicate, length-replicate}
 use Rattle.laws.specs.Adds.{Adds}
@@ -16,7 +16,6 @@ use Rattle.sheet.proofs.clear.Reads as clear-reads
 use Rattle.sheet.proofs.copy.Reads as copy-reads
 use Rattle.sheet.proofs.round.Reads as round-reads
 use Rattle.sheet.proofs.same.Reads as same-reads
-use Rattle.sheet.proofs.wide.Reads as wide-reads
 
 abbrev Inv-loop : tie.InvT-loop
 Inv-loop first₀ second₀ ways steps allowance below states n₀ first second n =
@@ -28,8 +27,8 @@ abbrev μ-loop : tie.MeasureT-loop
 below-rows-requires : tie.Need-below-rows-requires Inv-loop μ-loop
 below-rows-requires c κs = search needs
 
-wide-requires : tie.Need-wide-requires Inv-loop μ-loop
-wide-requires c κs = search needs
+cast-states : tie.Need-cast-states Inv-loop μ-loop
+cast-states c = search needs
 
 loop-holds : tie.Need-loop-holds Inv-loop μ-loop
 loop-holds c = first-turn _ _ _ _ _ _ _
@@ -39,8 +38,6 @@ abbrev Claims : lts.Claims
 Claims = (
   below-rows-reads.Asked,
   below-rows-reads.Learnt,
-  wide-reads.Asked,
-  wide-reads.Learnt,
   round-reads.Asked,
   round-reads.Learnt,
   same-reads.Asked,
@@ -61,10 +58,10 @@ abbrev start : Head → Start
 start c = c .before .before .before .before .before .before
 
 stands : (c : Head) → Before (start c .args .counts) (start c .args .order) (start c .args .ways) (start c .args .steps .now)
-    (c .before .before .below-rows .result) (c .before .wide .result) (start c .args .first .now) (start c .args .second .now)
+    (c .before .before .below-rows .result) (start c .args .counts .states) (start c .args .first .now) (start c .args .second .now)
 stands c =
     let p = start c .pre in
-    record { fit = p .0; rows = c .before .before .below-rows .ensures; same-states = c .before .wide .ensures; lays = p .1; second-long = p .2 }
+    record { fit = p .0; rows = c .before .before .below-rows .ensures; same-states = refl; lays = p .1; second-long = p .2 }
 
 running : (c : Head) → Running (start c .args .counts) (start c .args .order) (start c .args .ways) (start c .args .steps .now)
     (start c .args .allowance) (c .loop .n) (c .loop .first) (c .loop .second)
@@ -161,7 +158,7 @@ rounds-spec =
     Inv-loop
     μ-loop
     below-rows-requires
-    wide-requires
+    cast-states
     loop-holds
     round-requires
     same-requires

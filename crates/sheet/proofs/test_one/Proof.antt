@@ -8,25 +8,24 @@ use Rattle.sheet.proofs.test_one.Tie as tie
 use Rattle.sheet.proofs.test_one.Reads as reads
 use Rattle.sheet.proofs.test_one.Lts as lts
 use Rattle.sheet.proofs.add_row.Reads as add-row-reads
-use Rattle.sheet.proofs.wide.Reads as wide-reads
 
 returns : tie.Need-returns
 returns c = no-test _ _ _ _ _ _ _ (c .if1 .taken)
 
-wide-requires : tie.Need-wide-requires
-wide-requires c κs = search needs
+cast-s : tie.Need-cast-s
+cast-s c = search needs
 
 returns-2 : tie.Need-returns-2
 returns-2 c = from-undeclared _ _ _ _ _ _ _ (omega arith)
 
-wide-requires-2 : tie.Need-wide-requires-2
-wide-requires-2 c κs = search needs
+cast-t : tie.Need-cast-t
+cast-t c = search needs
 
 returns-3 : tie.Need-returns-3
 returns-3 c = to-undeclared _ _ _ _ _ _ _ (omega arith)
 
-wide-requires-3 : tie.Need-wide-requires-3
-wide-requires-3 c κs = search needs
+cast-a : tie.Need-cast-a
+cast-a c = search needs
 
 returns-4 : tie.Need-returns-4
 returns-4 c = no-name _ _ _ _ _ _ _ (omega arith)
@@ -60,11 +59,11 @@ test-one-spec =
     tie.close
     (tie.spec
     returns
-    wide-requires
+    cast-s
     returns-2
-    wide-requires-2
+    cast-t
     returns-3
-    wide-requires-3
+    cast-a
     returns-4
     mul-row
     array-copy-out-row

@@ -21,20 +21,20 @@ returns-4 c =
     let s = c .before .before .before .before .before .before .before in
     by-nothing _ _ _ _ _ _ (λ i h. rows-long Boolean 64 (s .args .m) _ (s .good .1 .0 .1 .1) i (search needs)) (omega arith)
 
-wide-requires : tie.Need-wide-requires
-wide-requires c κs = search needs
+cast-at : tie.Need-cast-at
+cast-at c = search needs
 
 mul-at : tie.Need-mul-at
 mul-at c = search needs
 
-wide-requires-2 : tie.Need-wide-requires-2
-wide-requires-2 c κs = search needs
+cast-at-2 : tie.Need-cast-at-2
+cast-at-2 c = search needs
 
 add-at : tie.Need-add-at
 add-at c = search needs
 
-wide-requires-3 : tie.Need-wide-requires-3
-wide-requires-3 c κs = search needs
+cast-with-step : tie.Need-cast-with-step
+cast-with-step c = search needs
 
 with-step-requires : tie.Need-with-step-requires
 with-step-requires c κs = search needs
@@ -50,10 +50,10 @@ one-way-spec =
     returns-2
     returns-3
     returns-4
-    wide-requires
+    cast-at
     mul-at
-    wide-requires-2
+    cast-at-2
     add-at
-    wide-requires-3
+    cast-with-step
     with-step-requires
     returns-5)
