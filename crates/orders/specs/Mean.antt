@@ -14,7 +14,7 @@ use Rattle.meaning.specs.Collection.{NumbersDeclared}
 use Rattle.meaning.specs.Lent.{Tables, collection, records, ruleWidth, rolePair, conceptPair}
 use Rattle.meaning.specs.Layout.{conceptNumbers}
 use Rattle.meaning.specs.Orders.{RoleLe, ConceptLe}
-use Rattle.laws.specs.Marks.{mark}
+use Rattle.laws.specs.Marks.{mark, Sized, sized-once}
 use Rattle.orders.specs.Rows.{roleRules, conceptRules, RoleMarks, ConceptMarks}
 use Rattle.orders.specs.Table.{rules-all}
 
@@ -50,10 +50,11 @@ module _ (c : Counts) (t : Tables) (fit : CountsFit c) (ok : NumbersDeclared (co
       rw (all-concept-rules, all-role-rules, concept-number c (fit .names) C hC, concept-number c (fit .names) D hD)
       at (o .at (numberOf C) (numberOf D) (concept-below C hC) (concept-below D hD))
 
--- of one table only one matrix of marks
-pub role-marks-unique : {rules : List ℕ} {m n : List (List Bool)} → RoleMarks rules m → RoleMarks rules n → (i j : ℕ) → i < 2 * mostRoles → j < 2 * mostRoles → mark m i j ≡ mark n i j
-role-marks-unique {m = m} {n = n} o p i j hi hj = exactly-once (mark m i j) (mark n i j) (o .at i j hi hj) (p .at i j hi hj)
+-- THEOREM: of one table only one order, and of two tables
+pub role-order-once : {rules : List ℕ} (m n : List (List Bool)) → RoleMarks rules m → RoleMarks rules n
+    → Sized (2 * mostRoles) (2 * mostRoles) m → Sized (2 * mostRoles) (2 * mostRoles) n → m ≡ n
+role-order-once m n o p s u = sized-once m n s u (λ i j hi hj. exactly-once (mark m i j) (mark n i j) (o .at i j hi hj) (p .at i j hi hj))
 
-pub concept-marks-unique : {rules roles : List ℕ} {m n : List (List Bool)} → ConceptMarks rules roles m → ConceptMarks rules roles n
-    → (i j : ℕ) → i < conceptNumbers → j < conceptNumbers → mark m i j ≡ mark n i j
-concept-marks-unique {m = m} {n = n} o p i j hi hj = exactly-once (mark m i j) (mark n i j) (o .at i j hi hj) (p .at i j hi hj)
+pub concept-order-once : {rules roles : List ℕ} (m n : List (List Bool)) → ConceptMarks rules roles m → ConceptMarks rules roles n
+    → Sized conceptNumbers conceptNumbers m → Sized conceptNumbers conceptNumbers n → m ≡ n
+concept-order-once m n o p s u = sized-once m n s u (λ i j hi hj. exactly-once (mark m i j) (mark n i j) (o .at i j hi hj) (p .at i j hi hj))

@@ -9,7 +9,6 @@ use Rattle.kinds.specs.declared.State.{State}
 use Rattle.kinds.specs.declared.ConceptName.{ConceptName}
 use Rattle.kinds.specs.Kinds.{state, conceptName}
 use Rattle.laws.specs.Adds.{Upto}
-use Rattle.laws.specs.Marks.{mark}
 use Rattle.sheet.specs.Below.{flip}
 use Rattle.sheet.specs.Rules.{RowTurn, JoinPair}
 

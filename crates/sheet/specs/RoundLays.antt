@@ -1,11 +1,11 @@
 -- A round of the code is a round of the definition: an area that holds a sheet, with what a round adds, holds the next sheet.
 use mathlib.Core.Path.{_≡_, refl, sym, ap, _∙_}
 use mathlib.Core.Bool.{Bool, true, false}
-use mathlib.Core.Logic.{_↔_, _⊎_, inl, inr, ⊎-elim}
+use mathlib.Core.Logic.{_⊎_, inl, inr, ⊎-elim}
 use mathlib.Core.List.{List, []}
-use Prim.Native.Nat.{ℕ, suc, _+_, _-_, _*_, _/_, _%_, _≤_, _<_}
+use Prim.Native.Nat.{ℕ, suc, _+_, _-_, _*_, _/_, _%_, _<_}
 use native.Mathlib.Omega.{arith}
-use lib.ListN.{length, getD, List·getD-eq-default}
+use lib.ListN.{length, getD}
 use borrow.Author.Tests.{le-ltb}
 use Rattle.kinds.specs.declared.State.{State}
 use Rattle.kinds.specs.declared.SignedRole.{SignedRole}
@@ -18,14 +18,14 @@ use Rattle.laws.specs.Marks.{mark}
 use Rattle.laws.specs.Member.{_∈_}
 use Rattle.meaning.specs.Sheet.{Markable, Round, kept, tested, joined, hung, Mark}
 use Rattle.meaning.specs.SheetLaws.{mark-markable}
-use Rattle.meaning.specs.Layout.{place, areaLength, Lays}
+use Rattle.meaning.specs.Layout.{place, Lays}
 use Rattle.meaning.specs.Kind.{Kind}
 use Rattle.meaning.specs.Lite.{validConcepts}
 use Rattle.meaning.specs.Declared.{state-in, state-out, concept-in, concept-out}
 use Rattle.sheet.specs.Below.{flip, flip-below, BelowRows}
-use Rattle.sheet.specs.Rules.{RowTurn, JoinTurn, JoinPair}
-use Rattle.sheet.specs.Places.{TestPlace, TestTurn, Leads, HangPlace, RoundPlace}
-use Rattle.sheet.specs.Data.{TestAt, ChildAt, WayAt, dataKind}
+use Rattle.sheet.specs.Rules.{JoinPair}
+use Rattle.sheet.specs.Places.{TestTurn, HangPlace, RoundPlace}
+use Rattle.sheet.specs.Data.{WayAt, dataKind}
 
 -- the concept of a number from the base on
 pub concept-exists : (n : ℕ) → conceptOf (64 + n) ≡ Exists (signed n)

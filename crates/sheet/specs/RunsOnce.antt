@@ -1,14 +1,12 @@
 -- Two ends of the same rounds are equal: the answer, and every byte of both areas.
-use mathlib.Core.Path.{_≡_, refl, ap, sym}
+use mathlib.Core.Path.{_≡_, refl, ap}
 use mathlib.Core.Bool.{Bool}
 use mathlib.Core.List.{List}
-use Prim.Native.Nat.{ℕ, _≤_}
+use Prim.Native.Nat.{ℕ}
 use Rattle.kinds.specs.declared.Counts.{Counts}
 use Rattle.meaning.specs.Kind.{Kind}
 use Rattle.meaning.specs.Sheet.{Mark}
 use Rattle.meaning.specs.SheetLaws.{rounds-unique}
-use Rattle.meaning.specs.Sheet as sheet
-use Rattle.meaning.specs.Layout.{Lays}
 use Rattle.meaning.specs.LayoutLaws.{lays-once}
 use Rattle.sheet.specs.Data.{dataKind}
 use Rattle.sheet.specs.Runs.{Ended, needed, spent, Runs, not-fit, ran}

@@ -1,7 +1,6 @@
 -- The places of round 0, and an area that holds them.
 use mathlib.Core.Path.{_≡_, refl, sym, ap, _∙_}
 use mathlib.Core.Bool.{Bool, true, false, false≢true}
-use mathlib.Core.Logic.{_↔_}
 use mathlib.Core.List.{List}
 use Prim.Native.Nat.{ℕ, _+_, _*_, _/_, _%_, _≤_, _<_}
 use native.Mathlib.Decide.{decLt}
@@ -14,7 +13,7 @@ use Rattle.kinds.specs.Kinds.{state, numberOf, conceptOf, number-concept, conce
 use Rattle.laws.specs.Exactly.{Exactly}
 use Rattle.laws.specs.Search.{pick}
 use Rattle.meaning.specs.Kind.{Kind}
-use Rattle.meaning.specs.Sheet.{Markable, Mark}
+use Rattle.meaning.specs.Sheet.{Mark}
 use Rattle.meaning.specs.Layout.{place, Lays}
 use Rattle.meaning.specs.Declared.{state-in, state-out, concept-in, concept-out}
 use Rattle.sheet.specs.Data.{dataKind}

@@ -12,7 +12,7 @@ ghost use Rattle.kinds.specs.Kinds.{conceptOf, ConceptDeclared, CountsFit};
 ghost use Rattle.sheet.specs.Below.{BelowRow, BelowRows, flip};
 ghost use Rattle.sheet.specs.Start.{FirstPlace, Started};
 ghost use Rattle.meaning.specs.Sheet.{Mark};
-ghost use Rattle.meaning.specs.Layout.{Lays};
+ghost use Rattle.meaning.specs.Layout.{areaLength, Lays};
 ghost use Rattle.sheet.specs.Data.{dataKind};
 ghost use Rattle.sheet.specs.Runs.{Runs, Ended};
 ghost use Rattle.sheet.specs.Places.{TestPlace, TestTurn, HangPlace, RoundPlace};
@@ -22,6 +22,7 @@ use kinds::ConceptName;
 use kinds::Counts;
 use kinds::Rounds;
 use kinds::State;
+use tables::AREA;
 
 // How rounds end: counts or areas that do not fit, a sheet that no longer changes after so many, or an allowance spent before.
 pub enum Ran {
@@ -73,7 +74,7 @@ fn join_rows(new: &mut [u8], old: &[u8], at: usize, i: usize, j: usize)
 
 // The marks (s, v) and (v, t) of the old sheet meet, for some state v.
 fn join_at(new: &mut [u8], old: &[u8], s: usize, t: usize)
-    requires { ⌜ (s < 16) × (t < 16) × (length (now new) ≡ 32768) × (length (now old) ≡ 32768) ⌝ }
+    requires { ⌜ (s < 16) × (t < 16) × (length (now new) ≡ areaLength) × (length (now old) ≡ areaLength) ⌝ }
     ensures { λ _. ⌜ Adds (Upto (JoinVia (now (old .entry)) s t) 16) (now (new .entry)) (now (new .exit)) ⌝ }
 {
     for v in 0..16 {
@@ -88,7 +89,7 @@ fn join_at(new: &mut [u8], old: &[u8], s: usize, t: usize)
 }
 
 fn joins(new: &mut [u8], old: &[u8])
-    requires { ⌜ (length (now new) ≡ 32768) × (length (now old) ≡ 32768) ⌝ }
+    requires { ⌜ (length (now new) ≡ areaLength) × (length (now old) ≡ areaLength) ⌝ }
     ensures { λ _. ⌜ Adds (Upto (JoinPair (now (old .entry))) 256) (now (new .entry)) (now (new .exit)) ⌝ }
 {
     for q in 0..256 {
@@ -98,7 +99,7 @@ fn joins(new: &mut [u8], old: &[u8])
 
 // A way down from s to some x, and a mark of the old sheet there from x to v, at the concept e.
 fn down_meets(d: [bool; 256], old: &[u8], e: usize, s: usize, v: usize) -> bool
-    requires { ⌜ (s < 16) × (v < 16) × (e < 128) × (length (now old) ≡ 32768) ⌝ }
+    requires { ⌜ (s < 16) × (v < 16) × (e < 128) × (length (now old) ≡ areaLength) ⌝ }
     ensures { λ r. ⌜ Exactly r (Some (DownMeets d (now (old .entry)) e s v) 16) ⌝ }
 {
     let mut found = false;
@@ -110,7 +111,7 @@ fn down_meets(d: [bool; 256], old: &[u8], e: usize, s: usize, v: usize) -> bool
 }
 
 fn down_table(d: [bool; 256], old: &[u8], e: usize) -> [bool; 256]
-    requires { ⌜ (e < 128) × (length (now old) ≡ 32768) ⌝ }
+    requires { ⌜ (e < 128) × (length (now old) ≡ areaLength) ⌝ }
     ensures { λ r. ⌜ DownTable d (now (old .entry)) e r ⌝ }
 {
     let mut out = [false; 256];
@@ -144,7 +145,7 @@ fn product(a: [bool; 256], b: [bool; 256]) -> [bool; 256]
 
 // The concepts of the row are marked wherever the table leads from a declared state to a declared state.
 fn hang_role(new: &mut [u8], leads: [bool; 256], row: [bool; 128], states: usize)
-    requires { ⌜ length (now new) ≡ 32768 ⌝ }
+    requires { ⌜ length (now new) ≡ areaLength ⌝ }
     ensures { λ _. ⌜ Adds (Upto (HangTurn leads row states) 256) (now (new .entry)) (now (new .exit)) ⌝ }
 {
     for q in 0..256 {
@@ -207,7 +208,7 @@ fn test_one(
     by: ConceptName,
     to: State,
 )
-    requires { ⌜ (length (now new) ≡ 32768) × (states ≤ 16) ⌝ }
+    requires { ⌜ (length (now new) ≡ areaLength) × (states ≤ 16) ⌝ }
     ensures { λ _. ⌜ Adds (TestPlace below states kind from by to) (now (new .entry)) (now (new .exit)) ⌝ }
 {
     if kind != 1 {
@@ -230,7 +231,7 @@ fn test_one(
 }
 
 fn tests(new: &mut [u8], below: [[bool; 128]; 128], states: usize, steps: &[u16])
-    requires { ⌜ (length (now new) ≡ 32768) × (states ≤ 16) ⌝ }
+    requires { ⌜ (length (now new) ≡ areaLength) × (states ≤ 16) ⌝ }
     ensures { λ _. ⌜ Adds (Upto (TestTurn below states (now (steps .entry))) (length (now (steps .entry)) / 4)) (now (new .entry)) (now (new .exit)) ⌝ }
 {
     let n = steps.len() / 4;
@@ -256,7 +257,7 @@ fn hangs(
     ways: [[bool; 256]; 64],
     states: usize,
 )
-    requires { ⌜ (length (now new) ≡ 32768) × (length (now old) ≡ 32768) ⌝ }
+    requires { ⌜ (length (now new) ≡ areaLength) × (length (now old) ≡ areaLength) ⌝ }
     ensures { λ _. ⌜ Adds (Upto (HangPlace below ways states (now (old .entry))) 64) (now (new .entry)) (now (new .exit)) ⌝ }
 {
     for r in 0..64 {
@@ -286,7 +287,7 @@ fn round(
     states: usize,
     steps: &[u16],
 )
-    requires { ⌜ (length (now new) ≡ 32768) × (length (now old) ≡ 32768) × (states ≤ 16) ⌝ }
+    requires { ⌜ (length (now new) ≡ areaLength) × (length (now old) ≡ areaLength) × (states ≤ 16) ⌝ }
     ensures { λ _. ⌜ Adds (RoundPlace below ways states (now (steps .entry)) (now (old .entry))) (now (old .entry)) (now (new .exit)) ⌝ }
 {
     copy(new, old);
@@ -297,7 +298,7 @@ fn round(
 
 // A mark of round 0: a declared state to itself, at a valid concept.
 fn first_mark(p: usize, counts: Counts) -> bool
-    requires { ⌜ p < 32768 ⌝ }
+    requires { ⌜ p < areaLength ⌝ }
     ensures { λ r. ⌜ Exactly r (FirstPlace counts p) ⌝ }
 {
     let s = p / 2048;
@@ -311,10 +312,10 @@ fn first_mark(p: usize, counts: Counts) -> bool
 }
 
 fn start(area: &mut [u8], counts: Counts)
-    requires { ⌜ length (now area) ≡ 32768 ⌝ }
+    requires { ⌜ length (now area) ≡ areaLength ⌝ }
     ensures { λ _. ⌜ Started counts (now (area .exit)) ⌝ }
 {
-    for p in 0..32768 {
+    for p in 0..AREA {
         area[p] = raised(0, first_mark(p, counts));
     }
 }
@@ -351,7 +352,7 @@ fn rounds(
     steps: &[u16],
     allowance: Rounds,
 ) -> Ran
-    requires { ⌜ CountsFit counts × Lays (Mark (dataKind counts order ways (now steps)) 0) (now first) × (length (now second) ≡ 32768) ⌝ }
+    requires { ⌜ CountsFit counts × Lays (Mark (dataKind counts order ways (now steps)) 0) (now first) × (length (now second) ≡ areaLength) ⌝ }
     ensures { λ r. ⌜ Ended counts order ways (now (steps .entry)) allowance r (now (first .exit)) (now (second .exit)) ⌝ }
 {
     let below = below_rows(order, counts);
@@ -387,10 +388,10 @@ pub fn run(
     if !counts.fit() {
         return Ran::Refused;
     }
-    if first.len() != 32768 {
+    if first.len() != AREA {
         return Ran::Refused;
     }
-    if second.len() != 32768 {
+    if second.len() != AREA {
         return Ran::Refused;
     }
     start(first, counts);

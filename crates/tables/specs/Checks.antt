@@ -1,5 +1,4 @@
 -- What the tests on lent tables find: document 01's conditions 4 to 8, by the definitions of `meaning`.
-use mathlib.Core.Path.{_≡_, refl}
 use mathlib.Core.List.{List}
 use Prim.Native.Nat.{ℕ, _≤_}
 use Rattle.kinds.specs.declared.Individual.{Individual}

@@ -1,5 +1,5 @@
 -- Loops over the records of a table: what one keeps from record to record, and what it answers.
-use mathlib.Core.Path.{_≡_, refl}
+use mathlib.Core.Path.{_≡_}
 use mathlib.Core.Bool.{Bool, true, false, not}
 use mathlib.Core.List.{List}
 use Prim.Native.Nat.{ℕ, _+_, _*_, _/_, _<_, _≤_}

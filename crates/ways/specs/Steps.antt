@@ -11,13 +11,12 @@ use lib.ListN.{length, getD, set, replicate, getD-replicate, List·getD-eq-defau
 use lib.Seq.{getD-set-same, getD-set-other}
 use Rattle.kinds.specs.declared.State.{State}
 use Rattle.kinds.specs.declared.SignedRole.{SignedRole}
-use Rattle.kinds.specs.Kinds.{mostStates, mostRoles, state, signed}
-use Rattle.laws.specs.Exactly.{Exactly, exactly-same}
-use Rattle.laws.specs.Member.{_∈_}
+use Rattle.kinds.specs.Kinds.{state, signed}
+use Rattle.laws.specs.Exactly.{Exactly}
 use Rattle.laws.specs.Marks.{mark}
 use Rattle.laws.specs.Numbers.{numbered, numbered-in, numbered-out}
 use Rattle.laws.specs.Warshall.{or-left, or-right, or-cases}
-use Rattle.meaning.specs.Collection.{Letter, role, test, Step, step}
+use Rattle.meaning.specs.Collection.{role, test, Step, step}
 use Rattle.meaning.specs.Lent.{records, stepWidth, stepAt, letterOf}
 use Rattle.ways.specs.Ways.{pairAt, Way, WaysOf, WithStep, Adds, OneWay}
 

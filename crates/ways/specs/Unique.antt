@@ -1,20 +1,13 @@
 -- The contract of `ways` leaves one answer of the type it returns. `Ways` says no lengths: they are those of the type.
-use mathlib.Core.Path.{_≡_, sym, _∙_}
-use mathlib.Core.Bool.{Bool, false}
-use mathlib.Core.List.{List, []}
+use mathlib.Core.Path.{_≡_}
+use mathlib.Core.Bool.{Bool}
+use mathlib.Core.List.{List}
 use Prim.Native.Nat.{ℕ, _*_, _-_, _/_, _<_}
 use native.Mathlib.Omega.{arith}
-use lib.ListN.{length, getD}
-use lib.Seq.{ext-getD}
 use Rattle.kinds.specs.Kinds.{mostStates, mostRoles}
 use Rattle.laws.specs.Exactly.{exactly-once}
-use Rattle.laws.specs.Marks.{mark}
+use Rattle.laws.specs.Marks.{mark, Sized, sized-once}
 use Rattle.ways.specs.Ways.{pairAt, Ways}
-
--- a row for each signed role, in it a place for each two states
-pub record Sized (w : List (List Bool)) : Type 0 where
-  pub rows : length w ≡ 2 * mostRoles
-  pub cols : (i : ℕ) → i < 2 * mostRoles → length (getD w i []) ≡ mostStates * mostStates
 
 -- the two states whose place in a row is p
 abbrev first : ℕ → ℕ
@@ -34,11 +27,6 @@ module _ (t : List ℕ) (m r q : List (List Bool)) (a : Ways t m r) (b : Ways t 
       let y = b .at i (first p) (second p) h (omega arith) (omega arith) in
       rw (place p) at (exactly-once _ _ x y)
 
-  -- THEOREM: two answers of that size that satisfy the contract are equal
-  pub ways-once : Sized r → Sized q → r ≡ q
-  ways-once s u = ext-getD [] r q (s .rows ∙ sym (u .rows)) row
-    where
-      row : (i : ℕ) → i < length r → getD r i [] ≡ getD q i []
-      row i h =
-          let k : i < 2 * mostRoles = rw (s .rows) at h in
-          ext-getD false _ _ (s .cols i k ∙ sym (u .cols i k)) (λ p l. marks-once i p k (rw (s .cols i k) at l))
+  -- THEOREM: two arrays of the type that satisfy the contract are equal
+  pub ways-once : Sized (2 * mostRoles) (mostStates * mostStates) r → Sized (2 * mostRoles) (mostStates * mostStates) q → r ≡ q
+  ways-once s u = sized-once r q s u marks-once

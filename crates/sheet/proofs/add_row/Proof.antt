@@ -7,9 +7,6 @@ use borrow.Author.Needs.{needs}
 use native.Mathlib.Omega.{arith}
 use Rattle.sheet.proofs.add_row.Statement.{statement}
 use Rattle.sheet.proofs.add_row.Tie as tie
-use Rattle.sheet.proofs.add_row.Reads as reads
-use Rattle.sheet.proofs.add_row.Lts as lts
-use Rattle.sheet.proofs.raised.Reads as raised-reads
 
 abbrev Inv-loop : tie.InvT-loop
 Inv-loop new₀ at row b₀ new b = (b ≤ 128) × Adds (Upto (RowTurn at row) b) new₀ new

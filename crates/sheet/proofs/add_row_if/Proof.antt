@@ -2,13 +2,8 @@
 use borrow.Author.Tests.{not-true, not-false}
 use Rattle.sheet.specs.Turns.{row-off, row-on}
 use borrow.Author.Needs.{needs}
-use native.Mathlib.Omega.{arith}
-use borrow.Author.Needs.{needs}
 use Rattle.sheet.proofs.add_row_if.Statement.{statement}
 use Rattle.sheet.proofs.add_row_if.Tie as tie
-use Rattle.sheet.proofs.add_row_if.Reads as reads
-use Rattle.sheet.proofs.add_row_if.Lts as lts
-use Rattle.sheet.proofs.add_row.Reads as add-row-reads
 
 returns : tie.Need-returns
 returns c = row-off _ _ _ _ (not-true _ (c .if1 .taken))

@@ -6,12 +6,8 @@ use Rattle.laws.specs.Fill.{Filling, none-done, one-more, all-done}
 use Rattle.sheet.specs.Below.{Below}
 use Rattle.sheet.specs.Made.{below-turn, below-row}
 use borrow.Author.Needs.{needs}
-use native.Mathlib.Omega.{arith}
 use Rattle.sheet.proofs.below_row.Statement.{statement}
 use Rattle.sheet.proofs.below_row.Tie as tie
-use Rattle.sheet.proofs.below_row.Reads as reads
-use Rattle.sheet.proofs.below_row.Lts as lts
-use Rattle.sheet.proofs.valid.Reads as valid-reads
 
 abbrev Inv-loop : tie.InvT-loop
 Inv-loop d counts order out₀ b₀ out b = Filling (λ k x. Exactly x (Below order counts d k)) false 128 out₀ out b

@@ -5,12 +5,8 @@ use Rattle.laws.specs.Fill.{Filling, none-done, one-more, all-done}
 use Rattle.sheet.specs.Below.{BelowRow}
 use Rattle.sheet.specs.Made.{below-rows}
 use borrow.Author.Needs.{needs}
-use native.Mathlib.Omega.{arith}
 use Rattle.sheet.proofs.below_rows.Statement.{statement}
 use Rattle.sheet.proofs.below_rows.Tie as tie
-use Rattle.sheet.proofs.below_rows.Reads as reads
-use Rattle.sheet.proofs.below_rows.Lts as lts
-use Rattle.sheet.proofs.below_row.Reads as below-row-reads
 
 abbrev Inv-loop : tie.InvT-loop
 Inv-loop order counts out₀ d₀ out d = Filling (λ k x. BelowRow order k counts x) [] 128 out₀ out d

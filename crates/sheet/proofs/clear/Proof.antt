@@ -8,8 +8,6 @@ use borrow.Author.Needs.{needs}
 use native.Mathlib.Omega.{arith}
 use Rattle.sheet.proofs.clear.Statement.{statement}
 use Rattle.sheet.proofs.clear.Tie as tie
-use Rattle.sheet.proofs.clear.Reads as reads
-use Rattle.sheet.proofs.clear.Lts as lts
 
 abbrev Inv-loop : tie.InvT-loop
 Inv-loop a₀ n i₀ a i = (n ≡ length a₀) × Filling (λ k x. x ≡ 0) 0 n a₀ a i

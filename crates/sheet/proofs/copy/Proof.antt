@@ -8,8 +8,6 @@ use borrow.Author.Needs.{needs}
 use native.Mathlib.Omega.{arith}
 use Rattle.sheet.proofs.copy.Statement.{statement}
 use Rattle.sheet.proofs.copy.Tie as tie
-use Rattle.sheet.proofs.copy.Reads as reads
-use Rattle.sheet.proofs.copy.Lts as lts
 
 abbrev Inv-loop : tie.InvT-loop
 Inv-loop new₀ old n i₀ new i = (n ≡ length old) × Filling (λ k x. x ≡ getD old k 0) 0 (length old) new₀ new i

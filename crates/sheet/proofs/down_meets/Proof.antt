@@ -8,8 +8,6 @@ use borrow.Author.Needs.{needs}
 use native.Mathlib.Omega.{arith}
 use Rattle.sheet.proofs.down_meets.Statement.{statement}
 use Rattle.sheet.proofs.down_meets.Tie as tie
-use Rattle.sheet.proofs.down_meets.Reads as reads
-use Rattle.sheet.proofs.down_meets.Lts as lts
 
 abbrev Inv-loop : tie.InvT-loop
 Inv-loop old e s v d found₀ x₀ found x = (x ≤ 16) × Exactly found (Some (DownMeets d old e s v) x)

@@ -7,12 +7,8 @@ use Rattle.laws.specs.Found.{Some}
 use Rattle.sheet.specs.Rules.{DownMeets}
 use Rattle.sheet.specs.Turns.{down-table}
 use borrow.Author.Needs.{needs}
-use native.Mathlib.Omega.{arith}
 use Rattle.sheet.proofs.down_table.Statement.{statement}
 use Rattle.sheet.proofs.down_table.Tie as tie
-use Rattle.sheet.proofs.down_table.Reads as reads
-use Rattle.sheet.proofs.down_table.Lts as lts
-use Rattle.sheet.proofs.down_meets.Reads as down-meets-reads
 
 abbrev Inv-loop : tie.InvT-loop
 Inv-loop d old e out₀ q₀ out q = Filling (λ k x. Exactly x (Some (DownMeets d old e (k / 16) (k % 16)) 16)) false 256 out₀ out q

@@ -1,12 +1,9 @@
 -- `first_mark` meets its contract: a test for each field.
-use Rattle.laws.specs.Exactly.{Exactly, exactly-never, exactly-same}
+use Rattle.laws.specs.Exactly.{exactly-never, exactly-same}
 use native.Mathlib.Omega.{arith}
 use borrow.Author.Needs.{needs}
 use Rattle.sheet.proofs.first_mark.Statement.{statement}
 use Rattle.sheet.proofs.first_mark.Tie as tie
-use Rattle.sheet.proofs.first_mark.Reads as reads
-use Rattle.sheet.proofs.first_mark.Lts as lts
-use Rattle.sheet.proofs.valid.Reads as valid-reads
 
 returns : tie.Need-returns
 returns c = exactly-never (λ f. c .if1 .taken (f .same))

@@ -7,9 +7,6 @@ use borrow.Author.Needs.{needs}
 use native.Mathlib.Omega.{arith}
 use Rattle.sheet.proofs.hang_role.Statement.{statement}
 use Rattle.sheet.proofs.hang_role.Tie as tie
-use Rattle.sheet.proofs.hang_role.Reads as reads
-use Rattle.sheet.proofs.hang_role.Lts as lts
-use Rattle.sheet.proofs.add_row_if.Reads as add-row-if-reads
 
 abbrev Inv-loop : tie.InvT-loop
 Inv-loop new₀ row states leads q₀ new q = (q ≤ 256) × Adds (Upto (HangTurn leads row states) q) new₀ new

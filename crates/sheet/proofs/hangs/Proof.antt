@@ -8,12 +8,6 @@ use borrow.Author.Needs.{needs}
 use native.Mathlib.Omega.{arith}
 use Rattle.sheet.proofs.hangs.Statement.{statement}
 use Rattle.sheet.proofs.hangs.Tie as tie
-use Rattle.sheet.proofs.hangs.Reads as reads
-use Rattle.sheet.proofs.hangs.Lts as lts
-use Rattle.sheet.proofs.down_table.Reads as down-table-reads
-use Rattle.sheet.proofs.hang_role.Reads as hang-role-reads
-use Rattle.sheet.proofs.product.Reads as product-reads
-use Rattle.sheet.proofs.turned.Reads as turned-reads
 
 abbrev Inv-loop : tie.InvT-loop
 Inv-loop new₀ old states below ways r₀ new r = (r ≤ 64) × Adds (Upto (HangPlace below ways states old) r) new₀ new

@@ -6,9 +6,6 @@ use borrow.Author.Needs.{needs}
 use native.Mathlib.Omega.{arith}
 use Rattle.sheet.proofs.join_at.Statement.{statement}
 use Rattle.sheet.proofs.join_at.Tie as tie
-use Rattle.sheet.proofs.join_at.Reads as reads
-use Rattle.sheet.proofs.join_at.Lts as lts
-use Rattle.sheet.proofs.join_rows.Reads as join-rows-reads
 
 abbrev Inv-loop : tie.InvT-loop
 Inv-loop new₀ old s t v₀ new v = (v ≤ 16) × Adds (Upto (JoinVia old s t) v) new₀ new

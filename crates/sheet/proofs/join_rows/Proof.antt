@@ -7,9 +7,6 @@ use borrow.Author.Needs.{needs}
 use native.Mathlib.Omega.{arith}
 use Rattle.sheet.proofs.join_rows.Statement.{statement}
 use Rattle.sheet.proofs.join_rows.Tie as tie
-use Rattle.sheet.proofs.join_rows.Reads as reads
-use Rattle.sheet.proofs.join_rows.Lts as lts
-use Rattle.sheet.proofs.raised.Reads as raised-reads
 
 abbrev Inv-loop : tie.InvT-loop
 Inv-loop new₀ old at i j b₀ new b = (b ≤ 128) × Adds (Upto (JoinTurn old at i j) b) new₀ new

@@ -6,9 +6,6 @@ use borrow.Author.Needs.{needs}
 use native.Mathlib.Omega.{arith}
 use Rattle.sheet.proofs.joins.Statement.{statement}
 use Rattle.sheet.proofs.joins.Tie as tie
-use Rattle.sheet.proofs.joins.Reads as reads
-use Rattle.sheet.proofs.joins.Lts as lts
-use Rattle.sheet.proofs.join_at.Reads as join-at-reads
 
 abbrev Inv-loop : tie.InvT-loop
 Inv-loop new₀ old q₀ new q = (q ≤ 256) × Adds (Upto (JoinPair old) q) new₀ new

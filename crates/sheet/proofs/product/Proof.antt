@@ -7,12 +7,8 @@ use Rattle.laws.specs.Found.{Some}
 use Rattle.sheet.specs.Rules.{UpMeets}
 use Rattle.sheet.specs.Turns.{product-of}
 use borrow.Author.Needs.{needs}
-use native.Mathlib.Omega.{arith}
 use Rattle.sheet.proofs.product.Statement.{statement}
 use Rattle.sheet.proofs.product.Tie as tie
-use Rattle.sheet.proofs.product.Reads as reads
-use Rattle.sheet.proofs.product.Lts as lts
-use Rattle.sheet.proofs.up_meets.Reads as up-meets-reads
 
 abbrev Inv-loop : tie.InvT-loop
 Inv-loop a b out₀ q₀ out q = Filling (λ k x. Exactly x (Some (UpMeets a b (k / 16) (k % 16)) 16)) false 256 out₀ out q

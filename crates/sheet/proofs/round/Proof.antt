@@ -1,16 +1,8 @@
 -- `round` meets its contract: the old sheet, what test steps add, what meets, and what hangs below.
 use Rattle.sheet.specs.Made.{round-made}
 use borrow.Author.Needs.{needs}
-use native.Mathlib.Omega.{arith}
-use borrow.Author.Needs.{needs}
 use Rattle.sheet.proofs.round.Statement.{statement}
 use Rattle.sheet.proofs.round.Tie as tie
-use Rattle.sheet.proofs.round.Reads as reads
-use Rattle.sheet.proofs.round.Lts as lts
-use Rattle.sheet.proofs.copy.Reads as copy-reads
-use Rattle.sheet.proofs.hangs.Reads as hangs-reads
-use Rattle.sheet.proofs.joins.Reads as joins-reads
-use Rattle.sheet.proofs.tests.Reads as tests-reads
 
 copy-requires : tie.Need-copy-requires
 copy-requires c κs = search needs

@@ -1,16 +1,10 @@
 -- `run` meets its contract: what does not fit is refused, and else the rounds go from the sheet of round 0.
 use Rattle.laws.specs.Decide.{refused, past}
 use Rattle.sheet.specs.Start.{start-lays}
-use Rattle.sheet.specs.Runs.{Fits, not-fit, ran}
-use native.Mathlib.Omega.{arith}
+use Rattle.sheet.specs.Runs.{not-fit, ran}
 use borrow.Author.Needs.{needs}
 use Rattle.sheet.proofs.run.Statement.{statement}
 use Rattle.sheet.proofs.run.Tie as tie
-use Rattle.sheet.proofs.run.Reads as reads
-use Rattle.sheet.proofs.run.Lts as lts
-use Rattle.kinds.proofs.Counts.fit.Reads as fit-reads
-use Rattle.sheet.proofs.rounds.Reads as rounds-reads
-use Rattle.sheet.proofs.start.Reads as start-reads
 
 fit-requires : tie.Need-fit-requires
 fit-requires c κs = search needs

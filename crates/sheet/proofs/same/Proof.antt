@@ -5,13 +5,11 @@ use mathlib.Core.List.{List}
 use lib.ListN.{length, getD}
 use lib.Seq.{ext-getD}
 use borrow.Author.Count.{below-more}
-use Rattle.laws.specs.Exactly.{Exactly, exactly-never}
+use Rattle.laws.specs.Exactly.{exactly-never}
 use borrow.Author.Needs.{needs}
 use native.Mathlib.Omega.{arith}
 use Rattle.sheet.proofs.same.Statement.{statement}
 use Rattle.sheet.proofs.same.Tie as tie
-use Rattle.sheet.proofs.same.Reads as reads
-use Rattle.sheet.proofs.same.Lts as lts
 
 abbrev Inv-loop : tie.InvT-loop
 Inv-loop a b n i₀ i = (n ≡ length a) × (i ≤ n) × ((k : ℕ) → k < i → getD a k 0 ≡ getD b k 0)

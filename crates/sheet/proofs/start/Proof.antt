@@ -3,13 +3,8 @@ use Prim.Native.Nat.{_-_}
 use Rattle.laws.specs.Fill.{Filling, none-done, one-more, all-done}
 use Rattle.sheet.specs.Start.{FirstPlace, Byte, raised-byte, started}
 use borrow.Author.Needs.{needs}
-use native.Mathlib.Omega.{arith}
 use Rattle.sheet.proofs.start.Statement.{statement}
 use Rattle.sheet.proofs.start.Tie as tie
-use Rattle.sheet.proofs.start.Reads as reads
-use Rattle.sheet.proofs.start.Lts as lts
-use Rattle.sheet.proofs.first_mark.Reads as first-mark-reads
-use Rattle.sheet.proofs.raised.Reads as raised-reads
 
 abbrev Inv-loop : tie.InvT-loop
 Inv-loop area₀ counts p₀ area p = Filling (λ k x. Byte (FirstPlace counts k) x) 0 32768 area₀ area p

@@ -2,12 +2,8 @@
 use Rattle.sheet.specs.Made.{no-test, from-undeclared, to-undeclared, no-name, test-made}
 use borrow.Author.Needs.{needs}
 use native.Mathlib.Omega.{arith}
-use borrow.Author.Needs.{needs}
 use Rattle.sheet.proofs.test_one.Statement.{statement}
 use Rattle.sheet.proofs.test_one.Tie as tie
-use Rattle.sheet.proofs.test_one.Reads as reads
-use Rattle.sheet.proofs.test_one.Lts as lts
-use Rattle.sheet.proofs.add_row.Reads as add-row-reads
 
 returns : tie.Need-returns
 returns c = no-test _ _ _ _ _ _ _ (c .if1 .taken)

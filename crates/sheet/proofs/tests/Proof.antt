@@ -8,9 +8,6 @@ use borrow.Author.Needs.{needs}
 use native.Mathlib.Omega.{arith}
 use Rattle.sheet.proofs.tests.Statement.{statement}
 use Rattle.sheet.proofs.tests.Tie as tie
-use Rattle.sheet.proofs.tests.Reads as reads
-use Rattle.sheet.proofs.tests.Lts as lts
-use Rattle.sheet.proofs.test_one.Reads as test-one-reads
 
 abbrev Inv-loop : tie.InvT-loop
 Inv-loop new₀ below states steps n k₀ new k = (k ≤ n) × (n ≡ length steps / 4) × Adds (Upto (TestTurn below states steps) k) new₀ new

@@ -8,8 +8,6 @@ use borrow.Author.Needs.{needs}
 use native.Mathlib.Omega.{arith}
 use Rattle.sheet.proofs.up_meets.Statement.{statement}
 use Rattle.sheet.proofs.up_meets.Tie as tie
-use Rattle.sheet.proofs.up_meets.Reads as reads
-use Rattle.sheet.proofs.up_meets.Lts as lts
 
 abbrev Inv-loop : tie.InvT-loop
 Inv-loop s t a b found₀ y₀ found y = (y ≤ 16) × Exactly found (Some (UpMeets a b s t) y)

@@ -1,13 +1,7 @@
 -- `valid` meets its contract: the concept of the number is read and tested.
 use borrow.Author.Needs.{needs}
-use native.Mathlib.Omega.{arith}
-use borrow.Author.Needs.{needs}
 use Rattle.sheet.proofs.valid.Statement.{statement}
 use Rattle.sheet.proofs.valid.Tie as tie
-use Rattle.sheet.proofs.valid.Reads as reads
-use Rattle.sheet.proofs.valid.Lts as lts
-use Rattle.kinds.proofs.Concept.declared.Reads as declared-reads
-use Rattle.kinds.proofs.Concept.read.Reads as read-reads
 
 cast-read : tie.Need-cast-read
 cast-read c = search needs
