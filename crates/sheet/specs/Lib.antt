@@ -8,3 +8,4 @@ pub mod RoundLays
 pub mod Start
 pub mod Runs
 pub mod RunsOnce
+pub mod Mean
