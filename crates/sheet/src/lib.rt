@@ -1,13 +1,12 @@
 // The loop sheet in the lent areas: one round, and rounds against an allowance.
 ghost use mathlib.Core.Path.{_≡_};
-ghost use mathlib.Core.Bool.{Bool, true, false};
-ghost use Prim.Native.Nat.{ℕ, _+_, _*_, _/_, _<_, _≤_};
-ghost use lib.ListN.{length, getD, replicate};
+ghost use mathlib.Core.Bool.{true, false};
+ghost use Prim.Native.Nat.{_+_, _*_, _/_, _<_, _≤_};
+ghost use lib.ListN.{length, replicate};
 ghost use Rattle.laws.specs.Exactly.{Exactly};
 ghost use Rattle.laws.specs.Search.{pick};
 ghost use Rattle.laws.specs.Adds.{Adds, Upto};
 ghost use Rattle.laws.specs.Found.{Some};
-ghost use Rattle.laws.specs.Marks.{mark};
 ghost use Rattle.kinds.specs.Kinds.{conceptOf, ConceptDeclared, CountsFit};
 ghost use Rattle.sheet.specs.Below.{BelowRow, BelowRows, flip};
 ghost use Rattle.sheet.specs.Start.{FirstPlace, Started};

@@ -1,11 +1,9 @@
 // The lent tables, read by record, and the tests 4 to 8 on them. A number becomes its kind at the first step of reading.
-ghost use mathlib.Core.Path.{_≡_};
-ghost use Prim.Native.Nat.{ℕ, _<_, _≤_};
-ghost use lib.ListN.{length};
+ghost use Prim.Native.Nat.{_<_};
 ghost use Rattle.laws.specs.Exactly.{Exactly};
-ghost use Rattle.meaning.specs.Collection.{Each, ConceptsDeclared, RolesDeclared, ConceptFactDeclared, RoleFactDeclared, StepDeclared};
-ghost use Rattle.meaning.specs.Lent.{records, ruleWidth, conceptFactWidth, roleFactWidth, stepWidth, finalWidth, conceptPair, rolePair, conceptFact, roleFact, stepAt, finalAt, Whole, ShapesOk, TablesFit, NumbersFit, EndsFit, EndsDiffer};
-ghost use Rattle.kinds.specs.Kinds.{StateDeclared, IndividualDeclared};
+ghost use Rattle.meaning.specs.Collection.{Each, ConceptsDeclared, RolesDeclared, ConceptFactDeclared, RoleFactDeclared};
+ghost use Rattle.meaning.specs.Lent.{records, ruleWidth, conceptFactWidth, roleFactWidth, finalWidth, conceptPair, rolePair, conceptFact, roleFact, finalAt, Whole, ShapesOk, NumbersFit, EndsDiffer};
+ghost use Rattle.kinds.specs.Kinds.{StateDeclared};
 ghost use Rattle.tables.specs.Checks.{lent, Checks, LetterFits, StepsFit, AskFits};
 use kinds::Concept;
 use kinds::ConceptName;

@@ -1,7 +1,6 @@
 // The ways of the question: for each signed role, from which state to which a role step leads along an edge that has it.
-ghost use mathlib.Core.Path.{_≡_};
-ghost use mathlib.Core.Bool.{Bool, true, false};
-ghost use Prim.Native.Nat.{ℕ, _<_};
+ghost use mathlib.Core.Bool.{false};
+ghost use Prim.Native.Nat.{_<_};
 ghost use Rattle.ways.specs.Ways.{Ways, WithStep, OneWay};
 use kinds::SignedRole;
 use kinds::State;
