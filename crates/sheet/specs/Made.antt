@@ -90,6 +90,8 @@ below-turn order d b c k = found-both (found-self (mark order b d)) k
 pub below-rows : (order : List (List Bool)) (c : Counts) (r : List (List Bool)) → ((d : ℕ) → d < 128 → BelowRow order d c (getD r d [])) → BelowRows order c r
 below-rows order c r h = record { at = λ d b hd hb. h d hd .at b hb }
 
-pub round-made : {l m n k : List ℕ} (below ways : List (List Bool)) (states : ℕ) (t old : List ℕ) → l ≡ old → Adds (Upto (TestTurn below states t) (length t / 4)) l m → Adds (Upto (JoinPair old) 256) m n → Adds (Upto (HangPlace below ways states old) 64) n k
+pub round-made : {l m n k : List ℕ} (below ways : List (List Bool)) (states : ℕ) (t old : List ℕ) → l ≡ old
+    → Adds (Upto (TestTurn below states t) (length t / 4)) l m → Adds (Upto (JoinPair old) 256) m n
+    → Adds (Upto (HangPlace below ways states old) 64) n k
     → Adds (RoundPlace below ways states t old) old k
 round-made below ways states t old e a b d = rw e at (adds-then (adds-then a b) d)

@@ -71,8 +71,11 @@ module _ (c : Counts) (fit : CountsFit c) where
   same-place s t B hs ht hB s′ t′ B′ hs′ ht′ hB′ e =
       let f = fit .states in
       let n = number-low B′ hB′ in
-      let q : place s t B ≡ (16 * s′ .0 + t′ .0) * 128 + numberOf B′ = omega arith in
-      (same-from s t B hs ht hB (s′ .0) (t′ .0) (numberOf B′) (omega arith) (omega arith) n q, same-to s t B hs ht hB (s′ .0) (t′ .0) (numberOf B′) (omega arith) (omega arith) n q, same-concept s t B hs ht hB (s′ .0) (t′ .0) (numberOf B′) (omega arith) (omega arith) n q ∙ concept-number c (fit .names) B′ hB′)
+      let q : place s t B ≡ (16 * s′ .0 + t′ .0) * 128 + numberOf B′ = omega arith in (
+        same-from s t B hs ht hB (s′ .0) (t′ .0) (numberOf B′) (omega arith) (omega arith) n q,
+        same-to s t B hs ht hB (s′ .0) (t′ .0) (numberOf B′) (omega arith) (omega arith) n q,
+        same-concept s t B hs ht hB (s′ .0) (t′ .0) (numberOf B′) (omega arith) (omega arith) n q ∙ concept-number c (fit .names) B′ hB′,
+      )
 
   place-is : (a b k : ℕ) → place (state a) (state b) (conceptOf k) ≡ (16 * a + b) * 128 + k
   place-is a b k = let n = number-concept k in omega arith

@@ -72,7 +72,14 @@ module _ (c : Counts) (order ways : List (List Bool)) (steps : List ℕ) where
     pub unchanged-equal : Unchanged K n → first ≡ second
     unchanged-equal still =
         lays-once (Mark K n) first second old
-        (record { long = new .long; bits = new .bits; marks = λ p. (λ e. let w = new .marks p .0 e in (w .0, w .1, w .2, still (w .0) (w .1) (w .2) (w .3), w .4), λ w. new .marks p .1 (w .0, w .1, w .2, marks-stay K n (w .0) (w .1) (w .2) (w .3), w .4)) })
+        (record {
+          long = new .long;
+          bits = new .bits;
+          marks = λ p. (
+            λ e. let w = new .marks p .0 e in (w .0, w .1, w .2, still (w .0) (w .1) (w .2) (w .3), w .4),
+            λ w. new .marks p .1 (w .0, w .1, w .2, marks-stay K n (w .0) (w .1) (w .2) (w .3), w .4),
+          );
+        })
 
   -- what stands before the loop: the rows below each concept, the count of states, the sheet of round 0 and a second area
   pub record Before (below : List (List Bool)) (states : ℕ) (first second : List ℕ) : Type 0 where

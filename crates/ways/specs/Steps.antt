@@ -110,7 +110,9 @@ module _ (t : List ℕ) (m w r : List (List Bool)) (k : ℕ) (so : WaysOf (numbe
   pub ways-more : WaysOf (numbered (stepAt t) (k + 1)) m r
   ways-more = record { at = λ R a b hR ha hb. record { holds = λ e. found R a b hR ha hb (more .at R a b hR ha hb .holds e); shows = shown R a b hR ha hb } }
     where
-      found : (R a b : ℕ) → R < 64 → a < 16 → b < 16 → (mark w R (pairAt a b) ≡ true) ⊎ Adds m kind-of (state (getD t (4 * k + 1) 0)) (signed (getD t (4 * k + 2) 0)) (state (getD t (4 * k + 3) 0)) R a b → Way (numbered (stepAt t) (k + 1)) m R a b
+      found : (R a b : ℕ) → R < 64 → a < 16 → b < 16
+          → (mark w R (pairAt a b) ≡ true) ⊎ Adds m kind-of (state (getD t (4 * k + 1) 0)) (signed (getD t (4 * k + 2) 0)) (state (getD t (4 * k + 3) 0)) R a b
+          → Way (numbered (stepAt t) (k + 1)) m R a b
       found R a b hR ha hb (inl e) =
           let y = so .at R a b hR ha hb .holds e in
           let v = numbered-out (stepAt t) k (y .1) in

@@ -21,8 +21,12 @@ same-length c = search needs
 
 returns : tie.Need-returns
 returns c =
-    let a = c .before .before .before .before .before .before .before .before .before .before .before .before .before .before .before .before .before .before .before .args in
-    round-made _ _ _ (a .steps .now) _ (c .before .before .before .before .before .before .before .before .before .before .before .before .before .before .copy .ensures) (c .before .before .before .before .before .before .before .before .before .before .tests .ensures) (c .before .before .before .before .before .before .joins .ensures) (c .before .before .hangs .ensures)
+    let hung = c .before .before in
+    let joined = hung .before .before .before .before in
+    let tested = joined .before .before .before .before in
+    let copied = tested .before .before .before .before in
+    let a = copied .before .before .before .before .before .args in
+    round-made _ _ _ (a .steps .now) _ (copied .copy .ensures) (tested .tests .ensures) (joined .joins .ensures) (hung .hangs .ensures)
 
 pub round-spec : {M : Type 1} → statement M
 round-spec =
