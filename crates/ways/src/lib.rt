@@ -56,10 +56,10 @@ fn one_way(
     if kind != 0 {
         return w;
     }
-    if from.0 >= 16 {
+    if from.0 >= State::MOST {
         return w;
     }
-    if to.0 >= 16 {
+    if to.0 >= State::MOST {
         return w;
     }
     if by.0 >= 64 {

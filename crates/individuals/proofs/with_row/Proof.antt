@@ -1,0 +1,28 @@
+-- `with_row` meets its contract: the row of a is stored again with the marks of the other row.
+use Rattle.individuals.specs.Adds.{adds-row}
+use borrow.Author.Needs.{needs}
+use Rattle.individuals.proofs.with_row.Statement.{statement}
+use Rattle.individuals.proofs.with_row.Tie as tie
+
+mul-own : tie.Need-mul-own
+mul-own c = search needs
+
+array-copy-out-own : tie.Need-array-copy-out-own
+array-copy-out-own c = search needs
+
+or-row-requires : tie.Need-or-row-requires
+or-row-requires c κs = search needs
+
+mul-out : tie.Need-mul-out
+mul-out c = search needs
+
+array-set-from-out : tie.Need-array-set-from-out
+array-set-from-out c = search needs
+
+returns : tie.Need-returns
+returns c = adds-row _ _ _ _ (search needs) (search needs) (c .or-row .ensures)
+
+pub with-row-spec : {M : Type 1} → statement M
+with-row-spec =
+    tie.close
+    (tie.spec mul-own array-copy-out-own or-row-requires mul-out array-set-from-out returns)

@@ -1,0 +1,5 @@
+pub mod Concepts
+pub mod Adds
+pub mod Facts
+pub mod Unique
+pub mod Mean
