@@ -1,5 +1,5 @@
 -- What the rows mean to a caller: of a collection whose numbers are declared they are the concepts of its individuals.
-use Prim.Native.Nat.{_+_, _*_, _<_}
+use Prim.Native.Nat.{_+_, _*_}
 use mathlib.Core.Path.{_≡_}
 use mathlib.Core.Bool.{Bool}
 use mathlib.Core.List.{List}
@@ -16,20 +16,14 @@ use Rattle.laws.specs.Marks.{mark}
 use Rattle.laws.specs.Member.{_∈_}
 use Rattle.meaning.specs.Collection.{NumbersDeclared}
 use Rattle.meaning.specs.Lent.{Tables, collection}
-use Rattle.meaning.specs.Layout.{conceptNumbers}
 use Rattle.meaning.specs.Model as model
 use Rattle.meaning.specs.Model.{Typed, IndividualHas}
 use Rattle.meaning.specs.Orders.{ConceptLe}
 use Rattle.orders.specs.Rows.{ConceptMarks}
-use Rattle.orders.specs.Mean.{concept-marks-mean}
+use Rattle.orders.specs.Mean.{concept-below, concept-marks-mean}
 use Rattle.individuals.specs.Concepts.{HasRows, Shown, named, first, second, Concepts}
 
 module _ (c : Counts) (t : Tables) (fit : CountsFit c) (ok : NumbersDeclared (collection c t)) where
-  concept-below : (C : Concept) → ConceptDeclared c C → numberOf C < conceptNumbers
-  unfolding numberOf
-  concept-below (Name A) h = let l = fit .names in omega arith
-  concept-below (Exists R) h = let l = fit .roles in omega arith
-
   -- each role fact has its rows
   has-rows : (r : RoleName) (a b : Individual) → (r, a, b) ∈ collection c t .role-facts → HasRows r a b
   has-rows r a b m =
@@ -68,4 +62,4 @@ module _ (c : Counts) (t : Tables) (fit : CountsFit c) (ok : NumbersDeclared (co
     pub concepts-mean : {r : List (List Bool)} → Concepts (t .concept-facts) (t .role-facts) order r → (a : Individual) → IndividualDeclared c a
         → Exactly (mark r (a .0) (numberOf B)) (IndividualHas (collection c t) a B)
     concepts-mean h a l =
-        exactly-same (h .at (a .0) (numberOf B) (omega (arith, fit .individuals)) (concept-below B hB)) (shown→has a) (λ w. typed→shown a (w .0) (w .1) (w .2))
+        exactly-same (h .at (a .0) (numberOf B) (omega (arith, fit .individuals)) (concept-below c t fit ok B hB)) (shown→has a) (λ w. typed→shown a (w .0) (w .1) (w .2))

@@ -54,9 +54,16 @@ forward r = signed (2 * r .0)
 abbrev pub backward : RoleName → SignedRole
 backward r = signed (2 * r .0 + 1)
 
+-- the number of the same role in the other direction
+abbrev pub flip : ℕ → ℕ
+flip r = r + 1 - 2 * (r % 2)
+
+pub flip-below : (r n : ℕ) → r < 2 * n → flip r < 2 * n
+flip-below r n h = omega arith
+
 -- the same role in the other direction
 unfoldable pub inverse : SignedRole → SignedRole
-inverse R = signed (R .0 + 1 - 2 * (R .0 % 2))
+inverse R = signed (flip (R .0))
 
 pub inverse-inverse : (R : SignedRole) → inverse (inverse R) ≡ R
 unfolding inverse

@@ -9,3 +9,4 @@ pub mod Follow
 pub mod Widen
 -- What callers use.
 pub mod Mean
+pub mod Unique

@@ -1,5 +1,5 @@
--- What the marks mean to a caller: of a collection whose numbers are declared they are its two orders, and no table has two answers.
-use Prim.Native.Nat.{ℕ, _*_, _<_}
+-- What the marks mean to a caller: of a collection whose numbers are declared they are its two orders.
+use Prim.Native.Nat.{_*_, _<_}
 use mathlib.Core.Path.{_≡_}
 use mathlib.Core.Bool.{Bool}
 use mathlib.Core.List.{List}
@@ -9,31 +9,31 @@ use Rattle.kinds.specs.declared.Concept.{Concept}
 use Rattle.kinds.specs.declared.Concept.the-variants.{Name, Exists}
 use Rattle.kinds.specs.declared.Counts.{Counts}
 use Rattle.kinds.specs.Kinds.{mostRoles, signed, numberOf, conceptOf, concept-number, CountsFit, SignedDeclared, ConceptDeclared}
-use Rattle.laws.specs.Exactly.{Exactly, exactly-once}
+use Rattle.laws.specs.Exactly.{Exactly}
 use Rattle.meaning.specs.Collection.{NumbersDeclared}
 use Rattle.meaning.specs.Lent.{Tables, collection, records, ruleWidth, rolePair, conceptPair}
 use Rattle.meaning.specs.Layout.{conceptNumbers}
 use Rattle.meaning.specs.Orders.{RoleLe, ConceptLe}
-use Rattle.laws.specs.Marks.{mark, Sized, sized-once}
+use Rattle.laws.specs.Marks.{mark}
 use Rattle.orders.specs.Rows.{roleRules, conceptRules, RoleMarks, ConceptMarks}
 use Rattle.orders.specs.Table.{rules-all}
 
 module _ (c : Counts) (t : Tables) (fit : CountsFit c) (ok : NumbersDeclared (collection c t)) where
-  role-below : (R : SignedRole) → SignedDeclared c R → R .0 < 2 * mostRoles
+  pub role-below : (R : SignedRole) → SignedDeclared c R → R .0 < 2 * mostRoles
   role-below R h = let l = fit .roles in omega arith
 
-  concept-below : (C : Concept) → ConceptDeclared c C → numberOf C < conceptNumbers
+  pub concept-below : (C : Concept) → ConceptDeclared c C → numberOf C < conceptNumbers
   unfolding numberOf
   concept-below (Name A) h = let l = fit .names in omega arith
   concept-below (Exists R) h = let l = fit .roles in omega arith
 
   -- each rule has its row
-  all-role-rules : roleRules (t .role-rules) ≡ records ruleWidth rolePair (t .role-rules)
+  pub all-role-rules : roleRules (t .role-rules) ≡ records ruleWidth rolePair (t .role-rules)
   unfolding roleRules
   all-role-rules =
       rules-all signed (λ R. R .0) (2 * mostRoles) (t .role-rules) (λ r m. let d = ok .role-rules r m in (role-below (r .0) (d .0), role-below (r .1) (d .1)))
 
-  all-concept-rules : conceptRules (t .concept-rules) ≡ records ruleWidth conceptPair (t .concept-rules)
+  pub all-concept-rules : conceptRules (t .concept-rules) ≡ records ruleWidth conceptPair (t .concept-rules)
   unfolding conceptRules
   all-concept-rules =
       rules-all conceptOf numberOf conceptNumbers (t .concept-rules) (λ r m.
@@ -49,12 +49,3 @@ module _ (c : Counts) (t : Tables) (fit : CountsFit c) (ok : NumbersDeclared (co
   concept-marks-mean o C D hC hD =
       rw (all-concept-rules, all-role-rules, concept-number c (fit .names) C hC, concept-number c (fit .names) D hD)
       at (o .at (numberOf C) (numberOf D) (concept-below C hC) (concept-below D hD))
-
--- THEOREM: of one table only one order, and of two tables
-pub role-order-once : {rules : List ℕ} (m n : List (List Bool)) → RoleMarks rules m → RoleMarks rules n
-    → Sized (2 * mostRoles) (2 * mostRoles) m → Sized (2 * mostRoles) (2 * mostRoles) n → m ≡ n
-role-order-once m n o p s u = sized-once m n s u (λ i j hi hj. exactly-once (mark m i j) (mark n i j) (o .at i j hi hj) (p .at i j hi hj))
-
-pub concept-order-once : {rules roles : List ℕ} (m n : List (List Bool)) → ConceptMarks rules roles m → ConceptMarks rules roles n
-    → Sized conceptNumbers conceptNumbers m → Sized conceptNumbers conceptNumbers n → m ≡ n
-concept-order-once m n o p s u = sized-once m n s u (λ i j hi hj. exactly-once (mark m i j) (mark n i j) (o .at i j hi hj) (p .at i j hi hj))

@@ -16,7 +16,7 @@ pub type RoleRows = [[bool; 64]; 64];
 pub type ConceptRows = [[bool; 128]; 128];
 
 // The marks of a and, where on is true, those of b.
-fn or_role_row(a: [bool; 64], b: [bool; 64], on: bool) -> [bool; 64]
+pub fn or_role_row(a: [bool; 64], b: [bool; 64], on: bool) -> [bool; 64]
     ensures { λ r. ⌜ OrRow 64 a b on r ⌝ }
 {
     let mut out = a;
@@ -58,7 +58,7 @@ fn through_role(m: RoleRows, k: usize) -> RoleRows
 }
 
 // The smallest reflexive and transitive relation that holds m.
-fn close_roles(m: RoleRows) -> RoleRows
+pub fn close_roles(m: [[bool; 64]; 64]) -> [[bool; 64]; 64]
     ensures { λ r. ⌜ Closes 64 (mark m) (mark r) ⌝ }
 {
     let mut out = reflexive_roles(m);

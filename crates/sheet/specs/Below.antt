@@ -2,20 +2,12 @@
 use mathlib.Core.Path.{_≡_}
 use mathlib.Core.Bool.{Bool, true, false}
 use mathlib.Core.List.{List}
-use Prim.Native.Nat.{ℕ, _+_, _-_, _*_, _%_, _<_}
-use native.Mathlib.Omega.{arith}
+use Prim.Native.Nat.{ℕ, _<_}
 use lib.ListN.{getD}
 use Rattle.kinds.specs.declared.Counts.{Counts}
 use Rattle.kinds.specs.Kinds.{conceptOf, ConceptDeclared}
 use Rattle.laws.specs.Exactly.{Exactly}
 use Rattle.laws.specs.Marks.{mark}
-
--- the number of the inverse
-abbrev pub flip : ℕ → ℕ
-flip r = r + 1 - 2 * (r % 2)
-
-pub flip-below : (r n : ℕ) → r < 2 * n → flip r < 2 * n
-flip-below r n h = omega arith
 
 -- b is valid, and the order marks (b, d)
 abbrev pub Below : List (List Bool) → Counts → ℕ → ℕ → Type 0

@@ -8,12 +8,12 @@ use lib.ListN.{length, getD}
 use Rattle.kinds.specs.declared.State.{State}
 use Rattle.kinds.specs.declared.ConceptName.{ConceptName}
 use Rattle.kinds.specs.declared.Counts.{Counts}
-use Rattle.kinds.specs.Kinds.{conceptOf, ConceptDeclared}
+use Rattle.kinds.specs.Kinds.{flip, conceptOf, ConceptDeclared}
 use Rattle.laws.specs.Exactly.{Exactly, exactly-same}
 use Rattle.laws.specs.Adds.{Adds, Upto, adds-none, adds-same, adds-then}
 use Rattle.laws.specs.Found.{Some, found-both, found-self}
 use Rattle.laws.specs.Marks.{mark}
-use Rattle.sheet.specs.Below.{flip, Below, BelowRow, BelowRows}
+use Rattle.sheet.specs.Below.{Below, BelowRow, BelowRows}
 use Rattle.sheet.specs.Rules.{RowTurn, JoinPair, DownMeets, UpMeets, DownTable, Product, HangTurn}
 use Rattle.sheet.specs.Places.{TestPlace, TestTurn, Leads, HangPlace, RoundPlace}
 

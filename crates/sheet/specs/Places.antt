@@ -7,9 +7,8 @@ use Prim.Native.Nat.{ℕ, _+_, _*_, _/_, _%_, _<_}
 use lib.ListN.{length, getD}
 use Rattle.kinds.specs.declared.State.{State}
 use Rattle.kinds.specs.declared.ConceptName.{ConceptName}
-use Rattle.kinds.specs.Kinds.{state, conceptName}
+use Rattle.kinds.specs.Kinds.{flip, state, conceptName}
 use Rattle.laws.specs.Adds.{Upto}
-use Rattle.sheet.specs.Below.{flip}
 use Rattle.sheet.specs.Rules.{RowTurn, JoinPair}
 
 -- a test step between declared states, on a name of which b is below

@@ -12,7 +12,7 @@ use Rattle.kinds.specs.declared.SignedRole.{SignedRole}
 use Rattle.kinds.specs.declared.Concept.{Concept}
 use Rattle.kinds.specs.declared.Concept.the-variants.{Name, Exists}
 use Rattle.kinds.specs.declared.Counts.{Counts}
-use Rattle.kinds.specs.Kinds.{base, inverse, signed, state, numberOf, conceptOf, number-concept, concept-number, CountsFit, StateDeclared, ConceptDeclared}
+use Rattle.kinds.specs.Kinds.{flip, flip-below, base, inverse, signed, state, numberOf, conceptOf, number-concept, concept-number, CountsFit, StateDeclared, ConceptDeclared}
 use Rattle.laws.specs.Adds.{Adds, Upto}
 use Rattle.laws.specs.Marks.{mark}
 use Rattle.laws.specs.Member.{_∈_}
@@ -22,7 +22,7 @@ use Rattle.meaning.specs.Layout.{place, Lays}
 use Rattle.meaning.specs.Kind.{Kind}
 use Rattle.meaning.specs.Lite.{validConcepts}
 use Rattle.meaning.specs.Declared.{state-in, state-out, concept-in, concept-out}
-use Rattle.sheet.specs.Below.{flip, flip-below, BelowRows}
+use Rattle.sheet.specs.Below.{BelowRows}
 use Rattle.sheet.specs.Rules.{JoinPair}
 use Rattle.sheet.specs.Places.{TestTurn, HangPlace, RoundPlace}
 use Rattle.sheet.specs.Data.{WayAt, dataKind}

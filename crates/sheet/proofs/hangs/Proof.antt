@@ -2,7 +2,7 @@
 use Prim.Native.Nat.{_≤_, _-_}
 use Rattle.laws.specs.Adds.{Adds, Upto, adds-start, adds-more, adds-end}
 use Rattle.sheet.specs.Places.{HangPlace}
-use Rattle.sheet.specs.Below.{flip-below}
+use Rattle.kinds.specs.Kinds.{flip-below}
 use Rattle.sheet.specs.Made.{hang-made}
 use borrow.Author.Needs.{needs}
 use native.Mathlib.Omega.{arith}
