@@ -10,9 +10,11 @@ pub mod Select
 pub mod Rounds
 pub mod Settle
 pub mod Chain
+pub mod Masks
 pub mod Fill
 pub mod Adds
 pub mod Found
+pub mod Looking
 pub mod Rows
 pub mod Marks
 pub mod Warshall

@@ -15,10 +15,8 @@ use Rattle.laws.specs.Marks.{mark}
 use Rattle.meaning.specs.Collection.{NumbersDeclared}
 use Rattle.meaning.specs.Lent.{Tables, collection}
 use Rattle.meaning.specs.Orders.{ConceptLe}
-use Rattle.meaning.specs.Model as model
-use Rattle.meaning.specs.Model.{Typed}
 use Rattle.meaning.specs.Clash as clash
-use Rattle.meaning.specs.Clash.{Alive, typed-declared}
+use Rattle.meaning.specs.Clash.{Alive, typed-declared, typed-valid}
 use Rattle.meaning.specs.Declared.{concept-declared}
 use Rattle.orders.specs.Rows.{ConceptMarks}
 use Rattle.orders.specs.Mean.{role-below, concept-below, all-role-rules, all-concept-rules, concept-marks-mean}
@@ -65,15 +63,10 @@ module _ (c : Counts) (t : Tables) (fit : CountsFit c) (ok : NumbersDeclared (co
       let d = marked-declared (Exists (inverse (signed R))) S hR hS p in
       (d, clash.grows (signed R) (signed S) (w .1) (concept-marks-mean c t fit ok q (Exists (inverse (signed R))) (Exists (signed S)) hR d .holds p))
 
-  typed-concept : {a : _} {C : Concept} → Typed (collection c t) a C → ConceptDeclared c C
-  typed-concept (model.named {A = A} {a = a} m) = ok .concept-facts (A, a) m .0
-  typed-concept (model.first {r = r} {a = a} {b = b} m) = let k = ok .role-facts (r, a, b) m .0 in omega arith
-  typed-concept (model.second {r = r} {a = a} {b = b} m) = let k = ok .role-facts (r, a, b) m .0 in omega arith
-
   alive→lives : {R : SignedRole} → Alive (collection c t) R → SignedDeclared c R × Lives concepts order (R .0)
   unfolding numberOf inverse
   alive→lives (clash.sprouts a R w) =
-      let d : SignedDeclared c R = concept-declared (collection c t) ok (w .2) (typed-concept (w .1)) in
+      let d : SignedDeclared c R = concept-declared (collection c t) ok (w .2) (typed-valid (collection c t) ok (w .1)) in
       let la = typed-declared (collection c t) ok (w .1) in
       (d, sprouts (a .0) (R .0) (omega (arith, fit .individuals)) (role-below c t fit ok R d) (concepts-mean c t fit ok order q (Exists R) d h a la .shows w))
   alive→lives (clash.grows R S l k) =

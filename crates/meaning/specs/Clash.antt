@@ -7,7 +7,7 @@ use Rattle.kinds.specs.declared.Individual.{Individual}
 use Rattle.kinds.specs.declared.SignedRole.{SignedRole}
 use Rattle.kinds.specs.declared.Concept.{Concept}
 use Rattle.kinds.specs.declared.Concept.the-variants.{Exists}
-use Rattle.kinds.specs.Kinds.{inverse, signed, IndividualDeclared}
+use Rattle.kinds.specs.Kinds.{inverse, signed, IndividualDeclared, ConceptDeclared}
 use Rattle.laws.specs.Member.{_∈_}
 use Rattle.meaning.specs.Collection.{Collection, NumbersDeclared}
 use Rattle.meaning.specs.Orders.{RoleLe, ConceptLe}
@@ -78,6 +78,12 @@ module _ (𝓒 : Collection) where
     typed-declared (named {A = A} {a = a} m) = ok .concept-facts (A, a) m .1
     typed-declared (first {r = r} {a = a} {b = b} m) = ok .role-facts (r, a, b) m .1
     typed-declared (second {r = r} {a = a} {b = b} m) = ok .role-facts (r, a, b) m .2
+
+    -- and the concept is valid
+    pub typed-valid : {a : Individual} {C : Concept} → Typed 𝓒 a C → ConceptDeclared (𝓒 .counts) C
+    typed-valid (named {A = A} {a = a} m) = ok .concept-facts (A, a) m .0
+    typed-valid (first {r = r} {a = a} {b = b} m) = let k = ok .role-facts (r, a, b) m .0 in omega arith
+    typed-valid (second {r = r} {a = a} {b = b} m) = let k = ok .role-facts (r, a, b) m .0 in omega arith
 
     lives : {R : SignedRole} → Alive R → (x : Element 𝓒) × Belongs 𝓒 (individuals 𝓒) (x ▹ R)
     lives (sprouts a R h) = (root a, grown (bare (typed-declared (h .1))) h)

@@ -27,8 +27,9 @@ use Rattle.meaning.specs.Sheet.{Markable, Round, kept, tested, joined, hung, Ma
 use Rattle.meaning.specs.Layout.{Lays}
 use Rattle.meaning.specs.SheetLaws.{mark-markable}
 use Rattle.orders.specs.Rows.{RoleMarks, ConceptMarks}
-use Rattle.orders.specs.Mean.{role-marks-mean, concept-marks-mean}
+use Rattle.orders.specs.Mean.{role-below, concept-marks-mean}
 use Rattle.ways.specs.Ways.{Ways}
+use Rattle.ways.specs.Mean.{ways-mean}
 use Rattle.sheet.specs.Data.{WayAt, dataKind}
 
 -- a step is a test step from s to t exactly when its numbers say so
@@ -108,21 +109,16 @@ module _ (c : Counts) (t : Tables) (fit : CountsFit c) (ok : NumbersFit c t) (ro
   child-from B R hB hR y = record { low = (let f = fit .roles in omega arith); marked = concept-marks-mean c t fit (ok .declared) q B (Exists R) hB hR .shows y }
 
   -- ways
-  way-to : (R : SignedRole) (s u : State) → SignedDeclared c R → StateDeclared c s → StateDeclared c u → WayAt ways R s u → StepDown 𝓒 R s u
-  way-to R s u hR hs hu y =
+  way-to : (R : SignedRole) (s u : State) → StateDeclared c s → StateDeclared c u → WayAt ways R s u → StepDown 𝓒 R s u
+  way-to R s u hs hu y =
       let f = fit .states in
-      let v = w .at (R .0) (s .0) (u .0) (y .low) (omega arith) (omega arith) .holds (y .marked) in
-      let hS = ok .declared .steps (step s (role (v .0)) u) (v .1) .1 in
-      (v .0, v .1, role-marks-mean c t fit (ok .declared) o R (v .0) hR hS .holds (v .2))
+      ways-mean c t fit (ok .declared) roles ways o w (R .0) (s .0) (u .0) (y .low) (omega arith) (omega arith) .holds (y .marked)
 
   way-from : (R : SignedRole) (s u : State) → SignedDeclared c R → StateDeclared c s → StateDeclared c u → StepDown 𝓒 R s u → WayAt ways R s u
   way-from R s u hR hs hu y =
       let f = fit .states in
-      let g = fit .roles in
-      let S = y .0 in
-      let hS = ok .declared .steps (step s (role S) u) (y .1) .1 in
-      let low : R .0 < 64 = omega arith in
-      record { low = low; marked = w .at (R .0) (s .0) (u .0) low (omega arith) (omega arith) .shows (S, y .1, role-marks-mean c t fit (ok .declared) o R S hR hS .shows (y .2)) }
+      let low = role-below c t fit (ok .declared) R hR in
+      record { low = low; marked = ways-mean c t fit (ok .declared) roles ways o w (R .0) (s .0) (u .0) low (omega arith) (omega arith) .shows y }
 
   -- back up an edge is down its inverse
   up-to : (R : SignedRole) (s u : State) → StepDown 𝓒 (inverse R) s u → StepUp 𝓒 R s u
@@ -150,8 +146,8 @@ module _ (c : Counts) (t : Tables) (fit : CountsFit c) (ok : NumbersFit c t) (ro
       let ha = state-out c a (l .from) in
       let hb = state-out c b (l .to) in
       hung {R = R} {u = a} {v = b} (child-to B R (concept-out c B (m .of)) hR child)
-      (way-to R s a hR (state-out c s (m .from)) ha down) (each a b (Exists (inverse R)) along)
-      (up-to R b u (way-to (inverse R) b u hI hb (state-out c u (m .to)) up))
+      (way-to R s a (state-out c s (m .from)) ha down) (each a b (Exists (inverse R)) along)
+      (up-to R b u (way-to (inverse R) b u hb (state-out c u (m .to)) up))
 
   round-from : (n : ℕ) → ((s u : State) (B : Concept) → Mark L n s u B → Mark K n s u B) → (s u : State) (B : Concept) → Markable L s u B
       → Round L (Mark L n) s u B → Round K (Mark K n) s u B

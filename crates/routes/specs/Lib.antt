@@ -1,0 +1,7 @@
+pub mod Routes
+pub mod Sets
+pub mod Cells
+pub mod Chains
+pub mod Followed
+pub mod Mean
+pub mod Unique

@@ -1,0 +1,14 @@
+-- What the public contract names, and that it leaves one answer.
+pub mod Walk
+pub mod Unique
+-- What the loops keep.
+pub mod Digits
+pub mod Sum
+pub mod Image
+pub mod Grow
+pub mod Hops
+pub mod Steps
+pub mod Ends
+-- What callers use.
+pub mod Edges
+pub mod Mean

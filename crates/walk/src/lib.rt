@@ -1,0 +1,198 @@
+// The individuals' walk over the closed sheet: the states in which each individual is reached from the first.
+ghost use mathlib.Core.Path.{_≡_};
+ghost use Prim.Native.Nat.{_+_, _*_, _<_, _≤_};
+ghost use lib.ListN.{length};
+ghost use Rattle.laws.specs.Masks.{Held};
+ghost use Rattle.routes.specs.Routes.{hops};
+ghost use Rattle.walk.specs.Walk.{Walked};
+ghost use Rattle.walk.specs.Image.{Image, Settled};
+ghost use Rattle.walk.specs.Grow.{Grows, InSet};
+ghost use Rattle.walk.specs.Hops.{ByHop, ByHops};
+ghost use Rattle.walk.specs.Steps.{Ready, Visited, Swept};
+use kinds::Individual;
+use kinds::RoleName;
+use kinds::State;
+
+// A set of states for each individual, the state t as the bit t.
+type Sets = [u16; 255];
+
+// Where a chain begins: the place of the first individual's first hop.
+const CHAINS: usize = 8192;
+
+fn wide(x: u16) -> usize
+    ensures { λ r. ⌜ r ≡ x ⌝ }
+{
+    x as usize
+}
+
+// The states to which those of m lead, by the 16 sets of a table from a place on. A set is taken once or not at all, so that no branch stands in the loop.
+fn image(table: &[u16], at: usize, m: u16) -> u16
+    requires { ⌜ at + 16 ≤ length (now table) ⌝ }
+    ensures { λ r. ⌜ Image (now (table .entry)) at m r ⌝ }
+{
+    let mut out: u16 = 0;
+    for s in 0..16 {
+        let on = (m >> s) & 1;
+        out = out | table[at + s] * on;
+    }
+    out
+}
+
+// A set put into that of the individual b; whether b gets a new state by it.
+fn join(reached: &mut [u16; 255], b: usize, m: u16) -> bool
+    requires { ⌜ (b < 255) × Held 255 (now reached) ⌝ }
+    ensures { λ r. ⌜ Grows (InSet b m) (now (reached .entry)) (now (reached .exit)) r ⌝ }
+{
+    let old = reached[b];
+    let all = old | m;
+    if all == old {
+        return false;
+    }
+    reached[b] = all;
+    true
+}
+
+// One hop from the states m; one whose role or individual has no row is passed over.
+fn follow(reached: &mut [u16; 255], ways: &[u16; 1024], facts: &[u16], h: usize, m: u16) -> bool
+    requires { ⌜ (h < hops (now facts)) × Held 255 (now reached) ⌝ }
+    ensures { λ r. ⌜ Grows (ByHop (now (ways .entry)) (now (facts .entry)) h m) (now (reached .entry)) (now (reached .exit)) r ⌝ }
+{
+    let at = 3 * (h / 2);
+    let name = facts[at];
+    if name >= RoleName::MOST {
+        return false;
+    }
+    let b = facts[at + 2 - h % 2];
+    if b >= Individual::MOST {
+        return false;
+    }
+    let role = 2 * (name as usize) + h % 2;
+    let led = image(ways, 16 * role, m);
+    join(reached, b as usize, led)
+}
+
+// Every hop at the individual a, from the states m.
+fn follow_all(
+    reached: &mut [u16; 255],
+    ways: &[u16; 1024],
+    links: &[u16; 8447],
+    facts: &[u16],
+    count: usize,
+    a: usize,
+    m: u16,
+) -> bool
+    requires { ⌜ (a < 255) × (count ≡ hops (now facts)) × Held 255 (now reached) ⌝ }
+    ensures { λ r. ⌜ Grows (ByHops (now (ways .entry)) (now (links .entry)) (now (facts .entry)) a m) (now (reached .entry)) (now (reached .exit)) r ⌝ }
+{
+    let mut grew = false;
+    let mut h = wide(links[CHAINS + a]);
+    while h < count {
+        let more = follow(reached, ways, facts, h, m);
+        grew = grew | more;
+        let next = wide(links[h]);
+        if next <= h {
+            return grew;
+        }
+        h = next;
+    }
+    grew
+}
+
+// The states m, and all to which loops at the individual a lead from them.
+fn settle(loops: &[u16; 4080], a: usize, m: u16) -> u16
+    requires { ⌜ a < 255 ⌝ }
+    ensures { λ r. ⌜ Settled (now (loops .entry)) a m r ⌝ }
+{
+    let mut all = m;
+    loop {
+        let more = all | image(loops, 16 * a, all);
+        if more == all {
+            return all;
+        }
+        all = more;
+    }
+}
+
+// The states of the individual a that were not followed yet are followed.
+fn visit(
+    reached: &mut [u16; 255],
+    followed: &mut [u16; 255],
+    loops: &[u16; 4080],
+    ways: &[u16; 1024],
+    links: &[u16; 8447],
+    facts: &[u16],
+    count: usize,
+    a: usize,
+) -> bool
+    requires { ⌜ (a < 255) × (count ≡ hops (now facts)) × Ready (now reached) (now followed) ⌝ }
+    ensures { λ r. ⌜ Visited (now (loops .entry)) (now (ways .entry)) (now (links .entry)) (now (facts .entry)) a (now (reached .entry)) (now (followed .entry)) (now (reached .exit)) (now (followed .exit)) r ⌝ }
+{
+    let own = reached[a];
+    if own == followed[a] {
+        return false;
+    }
+    let all = settle(loops, a, own);
+    let new = all ^ followed[a];
+    reached[a] = all;
+    followed[a] = all;
+    follow_all(reached, ways, links, facts, count, a, new)
+}
+
+// The number of hops: two for each fact that a table may have.
+fn hop_count(facts: &[u16]) -> usize
+    ensures { λ r. ⌜ r ≡ hops (now (facts .entry)) ⌝ }
+{
+    let n = facts.len() / 3;
+    if n > 4096 {
+        return CHAINS;
+    }
+    2 * n
+}
+
+// Once over the individuals; whether one may be left with states to follow.
+fn sweep(
+    reached: &mut [u16; 255],
+    followed: &mut [u16; 255],
+    loops: &[u16; 4080],
+    ways: &[u16; 1024],
+    links: &[u16; 8447],
+    facts: &[u16],
+) -> bool
+    requires { ⌜ Ready (now reached) (now followed) ⌝ }
+    ensures { λ r. ⌜ Swept (now (loops .entry)) (now (ways .entry)) (now (links .entry)) (now (facts .entry)) (now (reached .entry)) (now (followed .entry)) (now (reached .exit)) (now (followed .exit)) r ⌝ }
+{
+    let count = hop_count(facts);
+    let mut again = false;
+    for a in 0..255 {
+        let grew = visit(reached, followed, loops, ways, links, facts, count, a);
+        again = again | grew;
+    }
+    again
+}
+
+// The walk from the first individual in the start state; no set has a state where either has no row.
+pub fn walk(
+    loops: &[u16; 4080],
+    ways: &[u16; 1024],
+    links: &[u16; 8447],
+    facts: &[u16],
+    first: Individual,
+    start: State,
+) -> [u16; 255]
+    ensures { λ r. ⌜ Walked (now (loops .entry)) (now (ways .entry)) (now (links .entry)) (now (facts .entry)) first start r ⌝ }
+{
+    let mut reached = [0u16; 255];
+    let mut followed = [0u16; 255];
+    if first.0 >= Individual::MOST {
+        return reached;
+    }
+    if start.0 >= State::MOST {
+        return reached;
+    }
+    reached[first.0 as usize] = 1 << start.0;
+    loop {
+        if !sweep(&mut reached, &mut followed, loops, ways, links, facts) {
+            return reached;
+        }
+    }
+}
