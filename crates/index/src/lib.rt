@@ -4,6 +4,7 @@ ghost use Prim.Native.Nat.{_<_};
 ghost use Rattle.laws.specs.Masks.{Bit};
 ghost use Rattle.index.specs.Reply.{IfDeclared, FinalIn, Arrived, RepliesTo, Replies};
 ghost use Rattle.index.specs.Mean.{refusal};
+ghost use Rattle.index.specs.Demands.{Demanded};
 ghost use Rattle.index.specs.declared.Found.the-variants.{Needed};
 ghost use Rattle.laws.specs.Found.{Some};
 ghost use lib.ListN.{length};
@@ -300,6 +301,7 @@ pub fn ask(
     spare: &mut [u8],
 ) -> Answer
     ensures { λ r. ⌜ Outcome (asks (lending counts (now (conceptrules .entry)) (now (conceptexclusions .entry)) (now (rolerules .entry)) (now (roleexclusions .entry)) (now (conceptfacts .entry)) (now (rolefacts .entry)) (now (steps .entry)) (now (finals .entry)) allowance (now (area .entry)) (now (spare .entry))) first second) r (now (area .exit)) (now (spare .exit)) ⌝ }
+    ensures { λ r. ⌜ Demanded (asks (lending counts (now (conceptrules .entry)) (now (conceptexclusions .entry)) (now (rolerules .entry)) (now (roleexclusions .entry)) (now (conceptfacts .entry)) (now (rolefacts .entry)) (now (steps .entry)) (now (finals .entry)) allowance (now (area .entry)) (now (spare .entry))) first second) r (now (area .exit)) (now (spare .exit)) ⌝ }
 {
     if !tables::ask(counts, first, second) {
         let checked = check(

@@ -15,6 +15,7 @@ pub mod Fill
 pub mod Adds
 pub mod Found
 pub mod Looking
+pub mod First
 pub mod Rows
 pub mod Marks
 pub mod Warshall

@@ -14,7 +14,7 @@ use Rattle.laws.specs.Masks.{Bit, Held, held-once}
 use Rattle.routes.specs.Routes.{cell, LoopAt, Loops, Packed, hops, noHop, source, FirstHop, found, none, linkCount, Links}
 
 -- two tables with the same sets at each cell
-cells-once : (P : ℕ → ℕ → ℕ → Type 0) (n : ℕ) (r q : List ℕ)
+pub cells-once : (P : ℕ → ℕ → ℕ → Type 0) (n : ℕ) (r q : List ℕ)
     → ((i s t : ℕ) → i < n → s < 16 → t < 16 → Bit (getD r (cell i s) 0) t ↔ P i s t) → ((i s t : ℕ) → i < n → s < 16 → t < 16 → Bit (getD q (cell i s) 0) t ↔ P i s t)
     → Held (16 * n) r → Held (16 * n) q → r ≡ q
 cells-once P n r q a b hr hq = held-once (16 * n) r q hr hq same

@@ -1,7 +1,7 @@
 -- More laws of sets held as masks: what one of two has alone, and what is taken by a bit.
-use mathlib.Core.Path.{_≡_, refl, sym, ap, _∙_}
+use mathlib.Core.Path.{_≡_, sym, ap, _∙_}
 use mathlib.Core.Logic.{_⊎_, inl, inr, ⊎-elim}
-use Prim.Native.Nat.{ℕ, zero, suc, _+_, _-_, _*_, _/_, _%_, _^_, _<_, _≤_}
+use Prim.Native.Nat.{ℕ, zero, suc, _-_, _*_, _/_, _%_, _^_, _<_, _≤_}
 use native.Mathlib.Omega.{arith}
 use native.Mathlib.Decide.{decLt, ℕ-discrete}
 use native.Mathlib.Nat.{mod-lt, div-eq-of-lt, mul-one, mul-zero}
@@ -82,7 +82,6 @@ module _ (x m t : ℕ) where
 
   pub chosen-off : (Bit m t → ⊥) → chosen x m t ≡ 0
   chosen-off h =
-      let k = digit m t in
       let e : m / 2 ^ t % 2 ≡ 0 = side (ℕ-discrete (m / 2 ^ t % 2) 1) in
       rw (and-mask (m / 2 ^ t) 1 ∙ e, mul-zero)
     where

@@ -1,12 +1,12 @@
 -- The walk's start and its end: sets that are closed under strides are those that strides reach.
-use mathlib.Core.Path.{_≡_, refl, sym, _∙_}
+use mathlib.Core.Path.{_≡_, _∙_}
 use mathlib.Core.Bool.{Bool, true, false}
 use mathlib.Core.List.{List}
 use Prim.Native.Nat.{ℕ, _-_, _*_, _%_, _^_, _<_}
 use native.Mathlib.Omega.{arith}
 use native.Mathlib.Nat.{mod-lt}
 use native.Mathlib.Decide.{ℕ-discrete, decLt}
-use lib.ListN.{length, getD, set, length-set, replicate, length-replicate, getD-replicate, List·getD-eq-default}
+use lib.ListN.{length, getD, set, replicate, length-replicate, getD-replicate, List·getD-eq-default}
 use lib.Seq.{getD-set-same, getD-set-other}
 use Rattle.kinds.specs.declared.Individual.{Individual}
 use Rattle.kinds.specs.declared.State.{State}
@@ -16,7 +16,7 @@ use Rattle.meaning.specs.Run.{Run, stop, go}
 use Rattle.walk.specs.Walk.{Stride, Walked}
 use Rattle.walk.specs.Digits.{one-mask}
 use Rattle.walk.specs.Grow.{held-set}
-use Rattle.walk.specs.Steps.{Ready, Walking, Swept}
+use Rattle.walk.specs.Steps.{Ready, Walking, AllFollowed, Passed}
 use Rattle.walk.specs.Sum.{total, held-total}
 
 -- no set has a state
@@ -48,10 +48,10 @@ unfoldable pub room : List ℕ → ℕ
 room r = 2 ^ 16 * mostIndividuals - total r
 
 module _ (loops ways links facts : List ℕ) where
-  -- strides from the first individual in the start state stay in sets that are closed
-  module _ (r f : List ℕ) (from start : ℕ) (ready : Ready r f) (w : Walking loops ways links facts from start r f) (all : (k : ℕ) → k < mostIndividuals → getD f k 0 ≡ getD r k 0) where
+  -- where all was followed, strides lead from reached states to reached states
+  module _ (r f : List ℕ) (from start : ℕ) (ready : Ready r f) (w : Walking loops ways links facts from start r f) (all : AllFollowed mostIndividuals r f) where
     followed : (a s : ℕ) → Bit (getD r a 0) s → Dec (a < mostIndividuals) → Bit (getD f a 0) s
-    followed a s p (yes l) = rw (all a l) p
+    followed a s p (yes l) = rw (all .at a l) p
     followed a s p (no l) = absurd (bit-zero s (rw (List·getD-eq-default r 0 {n = a} (omega (arith, ready .held .long))) at p))
 
     stays : {a b s t : ℕ} → Run (Stride loops ways links facts) a s b t → Bit (getD r a 0) s → Bit (getD r b 0) t
@@ -59,7 +59,7 @@ module _ (loops ways links facts : List ℕ) where
     stays (go m q) p = stays q (w .closed _ _ _ _ (followed _ _ p (decLt _ mostIndividuals)) m)
 
   walk-end : (first : Individual) (start : State) (r f : List ℕ) → first .0 < mostIndividuals → start .0 < mostStates
-      → Ready r f → Walking loops ways links facts (first .0) (start .0) r f → ((k : ℕ) → k < mostIndividuals → getD f k 0 ≡ getD r k 0) → Walked loops ways links facts first start r
+      → Ready r f → Walking loops ways links facts (first .0) (start .0) r f → AllFollowed mostIndividuals r f → Walked loops ways links facts first start r
   walk-end first start r f h k ready w all =
       record {
         at = λ b t p q. (
@@ -99,18 +99,22 @@ module _ (loops ways links facts : List ℕ) where
   pub onward-start : (r f : List ℕ) → Ready r f → Onward r f r f
   onward-start r f ready = record { ready = ready; walks = λ from start w. w }
 
-  pub onward-more : (r f r′ f′ r″ f″ : List ℕ) (again : Bool) → Onward r f r′ f′ → Swept loops ways links facts r′ f′ r″ f″ again → Onward r f r″ f″
+  abbrev pub Swept : List ℕ → List ℕ → List ℕ → List ℕ → Bool → Type 0
+  Swept r f r′ f′ again = Passed loops ways links facts 0 mostIndividuals r f r′ f′ again
+
+  pub onward-more : (r f r′ f′ r″ f″ : List ℕ) (again : Bool) → Onward r f r′ f′ → Swept r′ f′ r″ f″ again → Onward r f r″ f″
   onward-more r f r′ f′ r″ f″ again v w = record { ready = w .ready; walks = λ from start x. w .walks from start (v .walks from start x) }
 
   -- a sweep after which another is needed leaves less room to grow
-  pub onward-less : (r f r′ f′ : List ℕ) (again : Bool) → Swept loops ways links facts r f r′ f′ again → again ≡ true → room r′ < room r
+  pub onward-less : (r f r′ f′ : List ℕ) (again : Bool) → Swept r f r′ f′ again → again ≡ true → room r′ < room r
   unfolding room
   onward-less r f r′ f′ again w e = omega (arith, w .grows e, held-total mostIndividuals r′ (w .ready .held))
 
-  -- and after another the walk has ended
+  -- and after any other the walk has ended
   pub onward-end : (first : Individual) (start : State) (m : ℕ) → first .0 < mostIndividuals → start .0 < mostStates → m ≡ 1 * 2 ^ start .0 % 2 ^ 16 → (r f r′ f′ : List ℕ) (again : Bool)
-      → Onward (set noSets (first .0) m) noSets r f → Swept loops ways links facts r f r′ f′ again → again ≡ false → Walked loops ways links facts first start r′
+      → Onward (set noSets (first .0) m) noSets r f → Swept r f r′ f′ again → again ≡ false → Walked loops ways links facts first start r′
   onward-end first start m h k e r f r′ f′ again v w z =
       let p = one-mask (start .0) k in
       let q = walk-start (first .0) (start .0) m h (e ∙ p) in
-      walk-end first start r′ f′ h k (w .ready) (w .walks (first .0) (start .0) (v .walks (first .0) (start .0) q)) (w .settled z)
+      walk-end first start r′ f′ h k (w .ready) (w .walks (first .0) (start .0) (v .walks (first .0) (start .0) q))
+      (w .settled z (record { at = λ k p. absurd (omega arith) }))

@@ -8,6 +8,7 @@ pub mod Image
 pub mod Grow
 pub mod Hops
 pub mod Steps
+pub mod Behind
 pub mod Ends
 -- What callers use.
 pub mod Edges

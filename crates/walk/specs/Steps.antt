@@ -1,32 +1,35 @@
--- What the walk keeps: the sets reached so far, and in each the states that have been followed.
-use mathlib.Core.Path.{_≡_, refl, sym, ap, _∙_}
-use mathlib.Core.Logic.{_⊎_, inl, inr, ⊎-elim}
+-- What the walk keeps: the sets reached so far, and in each the states that were followed.
+use mathlib.Core.Path.{_≡_, refl, sym, _∙_}
+use mathlib.Core.Logic.{_⊎_, ⊎-elim}
 use mathlib.Core.Bool.{Bool, true, false, _||_, false≢true}
 use mathlib.Core.List.{List}
-use Prim.Native.Nat.{ℕ, _+_, _*_, _%_, _^_, _<_, _≤_}
+use Prim.Native.Nat.{ℕ, _+_, _^_, _<_, _≤_}
 use native.Mathlib.Omega.{arith}
 use native.Mathlib.Decide.{ℕ-discrete, decLt}
-use lib.ListN.{length, getD, set, length-set, replicate, length-replicate, getD-replicate, List·getD-eq-default}
-use lib.Seq.{getD-set-same, getD-set-other, set-getD}
+use lib.ListN.{length, getD, set, length-set}
+use lib.Seq.{getD-set-same, getD-set-other}
 use lib.Bits.{bitXor}
-use Rattle.kinds.specs.Kinds.{mostIndividuals, mostStates, mostRoles}
-use Rattle.laws.specs.Masks.{Bit, bit-one, one-bit, bit-zero, Held}
-use Rattle.laws.specs.Search.{tested}
+use Rattle.kinds.specs.Kinds.{mostIndividuals, mostStates}
+use Rattle.laws.specs.Masks.{Bit, Held}
 use Rattle.laws.specs.Warshall.{or-cases}
-use Rattle.meaning.specs.Run.{Run, stop, go, one}
+use Rattle.meaning.specs.Run.{Run, stop, one}
 use Rattle.meaning.specs.Run as run
-use Rattle.routes.specs.Routes.{cell, target, roleOf}
+use Rattle.routes.specs.Routes.{target}
 use Rattle.walk.specs.Walk.{Stride, along, loop}
-use Rattle.walk.specs.Digits.{bit-below, xor-either, xor-other, one-mask}
+use Rattle.walk.specs.Digits.{bit-below, xor-either, xor-other}
 use Rattle.walk.specs.Sum.{total, total-set}
 use Rattle.walk.specs.Image.{Looped, none, more, Settled}
 use Rattle.walk.specs.Grow.{Grows, raised-most, held-set, or-none}
-use Rattle.walk.specs.Hops.{ByHop, ByHops}
+use Rattle.walk.specs.Hops.{ByHops}
 
 -- arrays of the right sizes, as the types of the code have them
 pub record Ready (reached followed : List ℕ) : Type 0 where
   pub held : Held mostIndividuals reached
   pub long : length followed ≡ mostIndividuals
+
+-- each state of the individuals below n was followed
+pub record AllFollowed (n : ℕ) (reached followed : List ℕ) : Type 0 where
+  pub at : (k : ℕ) → k < n → getD followed k 0 ≡ getD reached k 0
 
 module _ (loops ways links facts : List ℕ) where
   -- reached holds what strides reach, and has what they reach in one stride from the states that were followed
@@ -36,45 +39,58 @@ module _ (loops ways links facts : List ℕ) where
     pub within : (a s : ℕ) → Bit (getD followed a 0) s → Bit (getD reached a 0) s
     pub closed : (a s b t : ℕ) → Bit (getD followed a 0) s → Stride loops ways links facts a s b t → Bit (getD reached b 0) t
 
-  -- the individual a was visited: grew says whether another set may have grown
-  pub record Visited (a : ℕ) (r f r′ f′ : List ℕ) (grew : Bool) : Type 0 where
-    pub ready : Ready r′ f′
-    pub walks : (from start : ℕ) → Walking from start r f → Walking from start r′ f′
-    pub most : total r ≤ total r′
-    pub grows : grew ≡ true → total r < total r′
-    pub still : grew ≡ false → (v : ℕ) × (r′ ≡ set r a v) × (f′ ≡ set f a v)
-
-  -- every individual was: again says whether one may be left with states to follow
-  pub record Swept (r f r′ f′ : List ℕ) (again : Bool) : Type 0 where
-    pub ready : Ready r′ f′
-    pub walks : (from start : ℕ) → Walking from start r f → Walking from start r′ f′
-    pub grows : again ≡ true → total r < total r′
-    pub settled : again ≡ false → (k : ℕ) → k < mostIndividuals → getD f′ k 0 ≡ getD r′ k 0
-
-  -- the individuals below a were
-  pub record Sweeping (a : ℕ) (r f r′ f′ : List ℕ) (again : Bool) : Type 0 where
-    pub below : a ≤ mostIndividuals
+  -- the individuals from lo up to hi were visited; again says whether another set may have grown by it
+  pub record Passed (lo hi : ℕ) (r f r′ f′ : List ℕ) (again : Bool) : Type 0 where
     pub ready : Ready r′ f′
     pub walks : (from start : ℕ) → Walking from start r f → Walking from start r′ f′
     pub most : total r ≤ total r′
     pub grows : again ≡ true → total r < total r′
-    pub settled : again ≡ false → (k : ℕ) → k < a → getD f′ k 0 ≡ getD r′ k 0
+    pub settled : again ≡ false → AllFollowed lo r f → AllFollowed hi r′ f′
 
   -- loops are strides
   looped-run : (a s t : ℕ) → Looped loops a s t → Run (Stride loops ways links facts) a s a t
   looped-run a s t none = stop
   looped-run a s t (more l h b) = run.join (looped-run a s _ l) (one (loop h b))
 
-  -- a visit where every state was followed
-  pub visited-none : (a : ℕ) (r f : List ℕ) → Ready r f → getD r a 0 ≡ getD f a 0 → Visited a r f r f false
-  visited-none a r f ready e =
+  -- individuals of which each state was followed
+  pub passed-clean : (lo hi : ℕ) (r f : List ℕ) → Ready r f → ((k : ℕ) → lo ≤ k → k < hi → getD f k 0 ≡ getD r k 0) → Passed lo hi r f r f false
+  passed-clean lo hi r f ready clean =
       record {
         ready = ready;
         walks = λ from start w. w;
         most = omega arith;
         grows = λ z. absurd (false≢true z);
-        still = λ z. (getD r a 0, sym (set-getD r a 0), rw e (sym (set-getD f a 0)));
+        settled = λ z all. record { at = λ k p. side all k p (decLt k lo) };
       }
+    where
+      side : AllFollowed lo r f → (k : ℕ) → k < hi → Dec (k < lo) → getD f k 0 ≡ getD r k 0
+      side all k p (yes l) = all .at k l
+      side all k p (no l) = clean k (omega arith) p
+
+  pub passed-start : (lo hi : ℕ) (r f : List ℕ) → hi ≡ lo → Ready r f → Passed lo hi r f r f false
+  passed-start lo hi r f e ready = passed-clean lo hi r f ready (λ k l h. absurd (omega arith))
+
+  pub passed-one : (a : ℕ) (r f : List ℕ) → Ready r f → getD r a 0 ≡ getD f a 0 → Passed a (a + 1) r f r f false
+  passed-one a r f ready e = passed-clean a (a + 1) r f ready (λ k l h. let q : k ≡ a = omega arith in rw q (sym e))
+
+  -- one part after the other
+  pub passed-then : (lo mid hi top : ℕ) (r f r′ f′ r″ f″ : List ℕ) (x y : Bool) → hi ≡ top → Passed lo mid r f r′ f′ x → Passed mid hi r′ f′ r″ f″ y
+      → Passed lo top r f r″ f″ (x || y)
+  passed-then lo mid hi top r f r′ f′ r″ f″ x y e v w =
+      let m = v .most in
+      let n = w .most in
+      rw (← e)
+      (record {
+        ready = w .ready;
+        walks = λ from start k. w .walks from start (v .walks from start k);
+        most = omega arith;
+        grows = λ e. ⊎-elim (λ p. omega (arith, v .grows p)) (λ p. omega (arith, w .grows p)) (or-cases x y e);
+        settled = λ e all. let z = or-none x y e in w .settled (z .1) (v .settled (z .0) all);
+      })
+
+  -- no more than there are
+  pub passed-end : (lo hi top : ℕ) (r f r′ f′ : List ℕ) (again : Bool) → hi ≡ top → Passed lo hi r f r′ f′ again → Passed lo top r f r′ f′ again
+  passed-end lo hi top r f r′ f′ again e w = rw e at w
 
   -- a visit: all is what a's loops reach from its set
   module _ (a : ℕ) (r f : List ℕ) (all : ℕ) (ready : Ready r f) (h : a < mostIndividuals) (set-all : Settled loops a (getD r a 0) all) where
@@ -147,7 +163,12 @@ module _ (loops ways links facts : List ℕ) where
             small : {t : ℕ} (b : ℕ) → ByHops ways links facts a new b t → getD r′ b 0 < 2 ^ 16
             small b q = held .small b (let e = q .by .there in let i = q .by .individual in rw e i)
 
-      pub visited : Visited a r f r′ (set f a all) grew
+      -- where no other set grew, the individuals below a are as they were, and a's states have been followed
+      followed-to : grew ≡ false → AllFollowed a r f → (k : ℕ) → k < a + 1 → Dec (k ≡ a) → getD (set f a all) k 0 ≡ getD r′ k 0
+      followed-to z before k p (yes e) = rw (e, followed-at, hops .raised .still z, at-a)
+      followed-to z before k p (no ne) = rw (getD-set-other f a k all 0 ne, hops .raised .still z, getD-set-other r a k all 0 ne) (before .at k (omega arith))
+
+      pub visited : Passed a (a + 1) r f r′ (set f a all) grew
       visited =
           let k = set-all .reached .more in
           let q = total-set r a all (omega (arith, ready .held .long)) in
@@ -156,44 +177,5 @@ module _ (loops ways links facts : List ℕ) where
             walks = walks;
             most = omega (arith, raised-most (hops .raised));
             grows = λ e. omega (arith, hops .raised .grows e);
-            still = λ e. (all, hops .raised .still e, refl);
+            settled = λ z before. record { at = λ k p. followed-to z before k p (ℕ-discrete k a) };
           }
-
-  -- a sweep: its start, one individual more, and its end
-  module _ (r f : List ℕ) where
-    pub sweep-start : Ready r f → Sweeping 0 r f r f false
-    sweep-start ready =
-        record {
-          below = omega arith;
-          ready = ready;
-          walks = λ from start w. w;
-          most = omega arith;
-          grows = λ e. absurd (false≢true e);
-          settled = λ e k p. absurd (omega arith);
-        }
-
-    module _ (a : ℕ) (r′ f′ : List ℕ) (again : Bool) (w : Sweeping a r f r′ f′ again) (h : a < mostIndividuals)
-        (r″ f″ : List ℕ) (grew : Bool) (v : Visited a r′ f′ r″ f″ grew) where
-      settled : again ≡ false → grew ≡ false → (k : ℕ) → k < a + 1 → Dec (k ≡ a) → getD f″ k 0 ≡ getD r″ k 0
-      settled z g k p (yes q) =
-          let s = v .still g in
-          rw (q, s .1, s .2, getD-set-same r′ a (s .0) 0 (omega (arith, w .ready .held .long)), getD-set-same f′ a (s .0) 0 (omega (arith, w .ready .long)))
-      settled z g k p (no ne) =
-          let s = v .still g in
-          rw (s .1, s .2, getD-set-other r′ a k (s .0) 0 ne, getD-set-other f′ a k (s .0) 0 ne) (w .settled z k (omega arith))
-
-      pub sweep-more : Sweeping (a + 1) r f r″ f″ (again || grew)
-      sweep-more =
-          let m = w .most in
-          let n = v .most in
-          record {
-            below = omega arith;
-            ready = v .ready;
-            walks = λ from start x. v .walks from start (w .walks from start x);
-            most = omega arith;
-            grows = λ e. ⊎-elim (λ p. omega (arith, w .grows p)) (λ p. omega (arith, v .grows p)) (or-cases again grew e);
-            settled = λ e k p. let z = or-none again grew e in settled (z .0) (z .1) k p (ℕ-discrete k a);
-          }
-
-    pub sweep-end : (a : ℕ) (r′ f′ : List ℕ) (again : Bool) → mostIndividuals ≤ a → Sweeping a r f r′ f′ again → Swept r f r′ f′ again
-    sweep-end a r′ f′ again h w = record { ready = w .ready; walks = w .walks; grows = w .grows; settled = λ e k p. w .settled e k (omega arith) }

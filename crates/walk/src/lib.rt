@@ -8,7 +8,9 @@ ghost use Rattle.walk.specs.Walk.{Walked};
 ghost use Rattle.walk.specs.Image.{Image, Settled};
 ghost use Rattle.walk.specs.Grow.{Grows, InSet};
 ghost use Rattle.walk.specs.Hops.{ByHop, ByHops};
-ghost use Rattle.walk.specs.Steps.{Ready, Visited, Swept};
+ghost use Rattle.walk.specs.Steps.{Ready, Passed};
+ghost use Rattle.walk.specs.Behind.{part, Behind};
+ghost use Rattle.walk.specs.Ends.{Swept};
 use kinds::Individual;
 use kinds::RoleName;
 use kinds::State;
@@ -16,8 +18,20 @@ use kinds::State;
 // A set of states for each individual, the state t as the bit t.
 type Sets = [u16; 255];
 
-// Where a chain begins: the place of the first individual's first hop.
-const CHAINS: usize = 8192;
+// The tables of `routes`: 16 sets for each individual and for each signed role, and the chains of hops.
+type Loops = [u16; 4080];
+
+type Ways = [u16; 1024];
+
+type Links = [u16; 8447];
+
+// The hop after the last one; the chains' first hops stand after it.
+const NO_HOP: usize = 8192;
+
+// The individuals are tested in 17 parts of 15.
+const PART: usize = 15;
+
+const PARTS: usize = 17;
 
 fn wide(x: u16) -> usize
     ensures { λ r. ⌜ r ≡ x ⌝ }
@@ -25,7 +39,19 @@ fn wide(x: u16) -> usize
     x as usize
 }
 
-// The states to which those of m lead, by the 16 sets of a table from a place on. A set is taken once or not at all, so that no branch stands in the loop.
+// The number of hops: two for each fact that a table may have.
+fn hop_count(facts: &[u16]) -> usize
+    ensures { λ r. ⌜ r ≡ hops (now (facts .entry)) ⌝ }
+{
+    let n = facts.len() / 3;
+    if n > 4096 {
+        return NO_HOP;
+    }
+    2 * n
+}
+
+// The states to which those of m lead, by the 16 sets of a table from a place on. Each is taken once or not at all: without a branch the
+// compiler takes many at a time.
 fn image(table: &[u16], at: usize, m: u16) -> u16
     requires { ⌜ at + 16 ≤ length (now table) ⌝ }
     ensures { λ r. ⌜ Image (now (table .entry)) at m r ⌝ }
@@ -39,7 +65,7 @@ fn image(table: &[u16], at: usize, m: u16) -> u16
 }
 
 // A set put into that of the individual b; whether b gets a new state by it.
-fn join(reached: &mut [u16; 255], b: usize, m: u16) -> bool
+fn join(reached: &mut Sets, b: usize, m: u16) -> bool
     requires { ⌜ (b < 255) × Held 255 (now reached) ⌝ }
     ensures { λ r. ⌜ Grows (InSet b m) (now (reached .entry)) (now (reached .exit)) r ⌝ }
 {
@@ -53,7 +79,7 @@ fn join(reached: &mut [u16; 255], b: usize, m: u16) -> bool
 }
 
 // One hop from the states m; one whose role or individual has no row is passed over.
-fn follow(reached: &mut [u16; 255], ways: &[u16; 1024], facts: &[u16], h: usize, m: u16) -> bool
+fn follow(reached: &mut Sets, ways: &Ways, facts: &[u16], h: usize, m: u16) -> bool
     requires { ⌜ (h < hops (now facts)) × Held 255 (now reached) ⌝ }
     ensures { λ r. ⌜ Grows (ByHop (now (ways .entry)) (now (facts .entry)) h m) (now (reached .entry)) (now (reached .exit)) r ⌝ }
 {
@@ -73,9 +99,9 @@ fn follow(reached: &mut [u16; 255], ways: &[u16; 1024], facts: &[u16], h: usize,
 
 // Every hop at the individual a, from the states m.
 fn follow_all(
-    reached: &mut [u16; 255],
-    ways: &[u16; 1024],
-    links: &[u16; 8447],
+    reached: &mut Sets,
+    ways: &Ways,
+    links: &Links,
     facts: &[u16],
     count: usize,
     a: usize,
@@ -85,7 +111,7 @@ fn follow_all(
     ensures { λ r. ⌜ Grows (ByHops (now (ways .entry)) (now (links .entry)) (now (facts .entry)) a m) (now (reached .entry)) (now (reached .exit)) r ⌝ }
 {
     let mut grew = false;
-    let mut h = wide(links[CHAINS + a]);
+    let mut h = wide(links[NO_HOP + a]);
     while h < count {
         let more = follow(reached, ways, facts, h, m);
         grew = grew | more;
@@ -99,7 +125,7 @@ fn follow_all(
 }
 
 // The states m, and all to which loops at the individual a lead from them.
-fn settle(loops: &[u16; 4080], a: usize, m: u16) -> u16
+fn settle(loops: &Loops, a: usize, m: u16) -> u16
     requires { ⌜ a < 255 ⌝ }
     ensures { λ r. ⌜ Settled (now (loops .entry)) a m r ⌝ }
 {
@@ -113,19 +139,19 @@ fn settle(loops: &[u16; 4080], a: usize, m: u16) -> u16
     }
 }
 
-// The states of the individual a that were not followed yet are followed.
+// The states of the individual a that were not followed yet are followed, its loops first; whether another set grew by it.
 fn visit(
-    reached: &mut [u16; 255],
-    followed: &mut [u16; 255],
-    loops: &[u16; 4080],
-    ways: &[u16; 1024],
-    links: &[u16; 8447],
+    reached: &mut Sets,
+    followed: &mut Sets,
+    loops: &Loops,
+    ways: &Ways,
+    links: &Links,
     facts: &[u16],
     count: usize,
     a: usize,
 ) -> bool
     requires { ⌜ (a < 255) × (count ≡ hops (now facts)) × Ready (now reached) (now followed) ⌝ }
-    ensures { λ r. ⌜ Visited (now (loops .entry)) (now (ways .entry)) (now (links .entry)) (now (facts .entry)) a (now (reached .entry)) (now (followed .entry)) (now (reached .exit)) (now (followed .exit)) r ⌝ }
+    ensures { λ r. ⌜ Passed (now (loops .entry)) (now (ways .entry)) (now (links .entry)) (now (facts .entry)) a (a + 1) (now (reached .entry)) (now (followed .entry)) (now (reached .exit)) (now (followed .exit)) r ⌝ }
 {
     let own = reached[a];
     if own == followed[a] {
@@ -138,24 +164,50 @@ fn visit(
     follow_all(reached, ways, links, facts, count, a, new)
 }
 
-// The number of hops: two for each fact that a table may have.
-fn hop_count(facts: &[u16]) -> usize
-    ensures { λ r. ⌜ r ≡ hops (now (facts .entry)) ⌝ }
+// Whether one individual of the part from a place on has states to follow. Without a branch again: most parts are passed over.
+fn behind(reached: &Sets, followed: &Sets, at: usize) -> bool
+    requires { ⌜ at + part ≤ 255 ⌝ }
+    ensures { λ r. ⌜ Behind at part (now (reached .entry)) (now (followed .entry)) r ⌝ }
 {
-    let n = facts.len() / 3;
-    if n > 4096 {
-        return CHAINS;
+    let mut differs: u16 = 0;
+    for i in 0..PART {
+        differs = differs | (reached[at + i] ^ followed[at + i]);
     }
-    2 * n
+    differs != 0
+}
+
+// Visits to the individuals of a part, where one of them has.
+fn pass(
+    reached: &mut Sets,
+    followed: &mut Sets,
+    loops: &Loops,
+    ways: &Ways,
+    links: &Links,
+    facts: &[u16],
+    count: usize,
+    at: usize,
+) -> bool
+    requires { ⌜ (at + part ≤ 255) × (count ≡ hops (now facts)) × Ready (now reached) (now followed) ⌝ }
+    ensures { λ r. ⌜ Passed (now (loops .entry)) (now (ways .entry)) (now (links .entry)) (now (facts .entry)) at (at + part) (now (reached .entry)) (now (followed .entry)) (now (reached .exit)) (now (followed .exit)) r ⌝ }
+{
+    let mut again = false;
+    if !behind(reached, followed, at) {
+        return again;
+    }
+    for i in 0..PART {
+        let grew = visit(reached, followed, loops, ways, links, facts, count, at + i);
+        again = again | grew;
+    }
+    again
 }
 
 // Once over the individuals; whether one may be left with states to follow.
 fn sweep(
-    reached: &mut [u16; 255],
-    followed: &mut [u16; 255],
-    loops: &[u16; 4080],
-    ways: &[u16; 1024],
-    links: &[u16; 8447],
+    reached: &mut Sets,
+    followed: &mut Sets,
+    loops: &Loops,
+    ways: &Ways,
+    links: &Links,
     facts: &[u16],
 ) -> bool
     requires { ⌜ Ready (now reached) (now followed) ⌝ }
@@ -163,9 +215,18 @@ fn sweep(
 {
     let count = hop_count(facts);
     let mut again = false;
-    for a in 0..255 {
-        let grew = visit(reached, followed, loops, ways, links, facts, count, a);
-        again = again | grew;
+    for p in 0..PARTS {
+        let more = pass(
+            reached,
+            followed,
+            loops,
+            ways,
+            links,
+            facts,
+            count,
+            PART * p,
+        );
+        again = again | more;
     }
     again
 }

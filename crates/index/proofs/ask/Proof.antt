@@ -2,6 +2,7 @@
 use borrow.Author.Needs.{needs}
 use Rattle.laws.specs.Decide.{refused, past}
 use Rattle.index.specs.Mean.{outcome-unasked, outcome-asked}
+use Rattle.index.specs.Demands.{outcome-demanded}
 use Rattle.index.proofs.ask.Statement.{statement}
 use Rattle.index.proofs.ask.Tie as tie
 
@@ -15,7 +16,9 @@ unasked-requires : tie.Need-unasked-requires
 unasked-requires c κs = search needs
 
 returns : tie.Need-returns
-returns c = outcome-unasked _ _ _ (c .before .check .ensures) (refused (c .before .before .before .ask .ensures) (c .before .before .if1 .taken)) _ (c .unasked .ensures)
+returns c =
+    let o = outcome-unasked _ _ _ (c .before .check .ensures) (refused (c .before .before .before .ask .ensures) (c .before .before .if1 .taken)) _ (c .unasked .ensures) in
+    (o, outcome-demanded o)
 
 prepare-requires : tie.Need-prepare-requires
 prepare-requires c κs = search needs
@@ -33,7 +36,8 @@ returns-2 : tie.Need-returns-2
 returns-2 c =
     let p = c .before .before .before .before .before in
     let e = p .before .before .before in
-    outcome-asked _ _ _ (past (e .before .ask .ensures) (e .if1 .left)) (p .prepare .ensures) (c .reply .ensures)
+    let o = outcome-asked _ _ _ (past (e .before .ask .ensures) (e .if1 .left)) (p .prepare .ensures) (c .reply .ensures) in
+    (o, outcome-demanded o)
 
 pub ask-spec : {M : Type 1} → statement M
 ask-spec =

@@ -1,12 +1,8 @@
-use native.Mathlib.Omega.{arith}
-use borrow.Author.Needs.{needs}
+-- `follow` meets its contract: a hop without a row adds nothing, and any other the image of its role.
 use Rattle.walk.specs.Hops.{hop-no-role, hop-no-individual, hop-joins}
+use borrow.Author.Needs.{needs}
 use Rattle.walk.proofs.follow.Statement.{statement}
 use Rattle.walk.proofs.follow.Tie as tie
-use Rattle.walk.proofs.follow.Reads as reads
-use Rattle.walk.proofs.follow.Lts as lts
-use Rattle.walk.proofs.image.Reads as image-reads
-use Rattle.walk.proofs.join.Reads as join-reads
 
 mul-at : tie.Need-mul-at
 mul-at c = search needs

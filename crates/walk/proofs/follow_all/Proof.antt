@@ -1,15 +1,11 @@
 -- `follow_all` meets its contract. The hops of the chain before h have been followed.
-use borrow.Author.Needs.{needs}
-use native.Mathlib.Omega.{arith}
 use Prim.Native.Nat.{_-_, _<_}
 use Rattle.routes.specs.Routes.{hops}
 use Rattle.walk.specs.Hops.{Following, follow-start, follow-more, follow-last, follow-end}
+use borrow.Author.Needs.{needs}
+use native.Mathlib.Omega.{arith}
 use Rattle.walk.proofs.follow_all.Statement.{statement}
 use Rattle.walk.proofs.follow_all.Tie as tie
-use Rattle.walk.proofs.follow_all.Reads as reads
-use Rattle.walk.proofs.follow_all.Lts as lts
-use Rattle.walk.proofs.follow.Reads as follow-reads
-use Rattle.walk.proofs.wide.Reads as wide-reads
 
 abbrev Inv-loop : tie.InvT-loop
 Inv-loop reached₀ ways links facts count a m grew₀ h₀ reached grew h = Following ways links facts a m reached₀ h reached grew

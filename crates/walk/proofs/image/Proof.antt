@@ -1,10 +1,10 @@
 -- `image` meets its contract. The states below s have been followed.
-use borrow.Author.Needs.{needs}
-use native.Mathlib.Omega.{arith}
 use Prim.Native.Nat.{_+_, _-_}
 use lib.ListN.{getD}
 use Rattle.walk.specs.Digits.{chosen-most}
 use Rattle.walk.specs.Image.{Imaging, imaging-start, imaging-more, imaging-end}
+use borrow.Author.Needs.{needs}
+use native.Mathlib.Omega.{arith}
 use Rattle.walk.proofs.image.Statement.{statement}
 use Rattle.walk.proofs.image.Tie as tie
 

@@ -1,9 +1,9 @@
 -- `join` meets its contract: a union that is no larger is not stored.
-use native.Mathlib.Omega.{arith}
-use borrow.Author.Needs.{needs}
 use mathlib.Core.Path.{refl}
 use lib.Bits.{or-lt}
 use Rattle.walk.specs.Grow.{join-none, join-some}
+use borrow.Author.Needs.{needs}
+use native.Mathlib.Omega.{arith}
 use Rattle.walk.proofs.join.Statement.{statement}
 use Rattle.walk.proofs.join.Tie as tie
 

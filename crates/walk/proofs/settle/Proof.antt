@@ -1,15 +1,12 @@
 -- `settle` meets its contract. At the loop's head all has only states that loops reach from m; it grows until its image adds none.
-use borrow.Author.Needs.{needs}
-use native.Mathlib.Omega.{arith}
 use Prim.Native.Nat.{_-_, _^_}
 use lib.Bits.{or-lt}
 use Rattle.laws.specs.Masks.{or-more}
 use Rattle.walk.specs.Image.{Settling, settling-start, settling-more, settling-end}
+use borrow.Author.Needs.{needs}
+use native.Mathlib.Omega.{arith}
 use Rattle.walk.proofs.settle.Statement.{statement}
 use Rattle.walk.proofs.settle.Tie as tie
-use Rattle.walk.proofs.settle.Reads as reads
-use Rattle.walk.proofs.settle.Lts as lts
-use Rattle.walk.proofs.image.Reads as image-reads
 
 abbrev Inv-loop : tie.InvT-loop
 Inv-loop loops a m all₀ all = Settling loops a m all

@@ -1,35 +1,35 @@
--- `sweep` meets its contract. Every individual below a was visited; where no visit grew another set, none of them has a state to follow.
+-- `sweep` meets its contract. The first p parts of 15 individuals were visited.
+use Prim.Native.Nat.{_*_, _-_, _≤_}
+use Rattle.walk.specs.Behind.{part}
+use Rattle.walk.specs.Steps.{Passed, passed-start, passed-then, passed-end}
 use borrow.Author.Needs.{needs}
 use native.Mathlib.Omega.{arith}
-use Prim.Native.Nat.{_-_}
-use Rattle.walk.specs.Steps.{Sweeping, sweep-start, sweep-more, sweep-end}
 use Rattle.walk.proofs.sweep.Statement.{statement}
 use Rattle.walk.proofs.sweep.Tie as tie
-use Rattle.walk.proofs.sweep.Reads as reads
-use Rattle.walk.proofs.sweep.Lts as lts
-use Rattle.walk.proofs.hop_count.Reads as hop-count-reads
-use Rattle.walk.proofs.visit.Reads as visit-reads
 
 abbrev Inv-loop : tie.InvT-loop
-Inv-loop reached₀ followed₀ loops ways links facts count again₀ a₀ reached followed again a =
-    Sweeping loops ways links facts a reached₀ followed₀ reached followed again
+Inv-loop reached₀ followed₀ loops ways links facts count again₀ p₀ reached followed again p =
+    (p ≤ 17) × Passed loops ways links facts 0 (part * p) reached₀ followed₀ reached followed again
 
 abbrev μ-loop : tie.MeasureT-loop
-μ-loop reached₀ followed₀ loops ways links facts count again₀ a₀ reached followed again a = 255 - a
+μ-loop reached₀ followed₀ loops ways links facts count again₀ p₀ reached followed again p = 17 - p
 
 hop-count-requires : tie.Need-hop-count-requires Inv-loop μ-loop
 hop-count-requires c κs = search needs
 
 loop-holds : tie.Need-loop-holds Inv-loop μ-loop
-loop-holds c = sweep-start _ _ _ _ _ _ (c .before .before .pre)
+loop-holds c = (omega arith, passed-start _ _ _ _ _ _ _ _ (omega arith) (c .before .before .pre))
 
-visit-requires : tie.Need-visit-requires Inv-loop μ-loop
-visit-requires c κs =
+mul-pass : tie.Need-mul-pass Inv-loop μ-loop
+mul-pass c = search needs
+
+pass-requires : tie.Need-pass-requires Inv-loop μ-loop
+pass-requires c κs =
     let l = c .before .before in
-    (l .loop-test .taken, l .before .before .hop-count .ensures, l .before .loop .inv .ready)
+    (omega (arith, l .loop-test .taken), l .before .before .hop-count .ensures, l .before .loop .inv .1 .ready)
 
-add-a : tie.Need-add-a Inv-loop μ-loop
-add-a c = search needs
+add-p : tie.Need-add-p Inv-loop μ-loop
+add-p c = search needs
 
 loop-less : tie.Need-loop-less Inv-loop μ-loop
 loop-less c = search needs
@@ -37,10 +37,10 @@ loop-less c = search needs
 loop-again : tie.Need-loop-again Inv-loop μ-loop
 loop-again c =
     let l = c .before .before .before in
-    sweep-more _ _ _ _ _ _ _ _ _ _ (l .before .loop .inv) (l .loop-test .taken) _ _ _ (c .visit .ensures)
+    (omega (arith, l .loop-test .taken), passed-then _ _ _ _ _ _ _ _ _ _ _ _ _ _ _ _ (omega arith) (l .before .loop .inv .1) (c .pass .ensures))
 
 returns : tie.Need-returns Inv-loop μ-loop
-returns c = sweep-end _ _ _ _ _ _ _ _ _ _ (omega arith) (c .before .loop .inv)
+returns c = passed-end _ _ _ _ _ _ _ _ _ _ _ _ (omega arith) (c .before .loop .inv .1)
 
 pub sweep-spec : {M : Type 1} → statement M
 sweep-spec =
@@ -50,8 +50,9 @@ sweep-spec =
     μ-loop
     hop-count-requires
     loop-holds
-    visit-requires
-    add-a
+    mul-pass
+    pass-requires
+    add-p
     loop-less
     loop-again
     returns)

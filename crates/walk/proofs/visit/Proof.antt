@@ -1,15 +1,11 @@
 -- `visit` meets its contract: what is in the set and was not followed is followed.
-use native.Mathlib.Omega.{arith}
-use borrow.Author.Needs.{needs}
 use mathlib.Core.Path.{refl}
 use Rattle.walk.specs.Grow.{held-set}
-use Rattle.walk.specs.Steps.{visited-none, visited}
+use Rattle.walk.specs.Steps.{passed-one, visited}
+use borrow.Author.Needs.{needs}
+use native.Mathlib.Omega.{arith}
 use Rattle.walk.proofs.visit.Statement.{statement}
 use Rattle.walk.proofs.visit.Tie as tie
-use Rattle.walk.proofs.visit.Reads as reads
-use Rattle.walk.proofs.visit.Lts as lts
-use Rattle.walk.proofs.follow_all.Reads as follow-all-reads
-use Rattle.walk.proofs.settle.Reads as settle-reads
 
 mul-own : tie.Need-mul-own
 mul-own c = search needs
@@ -26,7 +22,7 @@ element-copy-out-if1 c = search needs
 returns : tie.Need-returns
 returns c =
     let s = c .before .before .before .before in
-    visited-none _ _ _ _ _ _ _ (s .pre .2) (c .if1 .taken)
+    passed-one _ _ _ _ _ _ _ (s .pre .2) (c .if1 .taken)
 
 settle-requires : tie.Need-settle-requires
 settle-requires c κs = search needs

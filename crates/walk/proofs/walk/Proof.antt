@@ -1,14 +1,11 @@
 -- `walk` meets its contract. Sweeps keep what the walk knows of its sets; the last one leaves them closed under strides.
-use borrow.Author.Needs.{needs}
-use native.Mathlib.Omega.{arith}
 use mathlib.Core.Path.{refl}
 use borrow.Author.Tests.{not-true, not-false}
 use Rattle.walk.specs.Ends.{start-ready, room, Onward, onward-start, onward-more, onward-less, onward-end, walk-none}
+use borrow.Author.Needs.{needs}
+use native.Mathlib.Omega.{arith}
 use Rattle.walk.proofs.walk.Statement.{statement}
 use Rattle.walk.proofs.walk.Tie as tie
-use Rattle.walk.proofs.walk.Reads as reads
-use Rattle.walk.proofs.walk.Lts as lts
-use Rattle.walk.proofs.sweep.Reads as sweep-reads
 
 abbrev Inv-loop : tie.InvT-loop
 Inv-loop loops ways links facts reached₀ followed₀ reached followed = Onward loops ways links facts reached₀ followed₀ reached followed
