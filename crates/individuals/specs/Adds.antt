@@ -6,7 +6,7 @@ use mathlib.Core.Bool.{Bool, true, false, _||_, false≢true}
 use mathlib.Core.List.{List, []}
 use native.Mathlib.Omega.{arith}
 use native.Mathlib.Decide.{ℕ-discrete}
-use lib.ListN.{length, getD, set, replicate, getD-replicate}
+use lib.ListN.{length, getD, set, length-set, replicate, getD-replicate}
 use lib.Seq.{getD-set-same, getD-set-other}
 use Rattle.kinds.specs.Kinds.{mostIndividuals}
 use Rattle.laws.specs.Exactly.{Exactly, exactly-same}
@@ -21,8 +21,9 @@ OrMark a b j x = x ≡ (getD a j false || getD b j false)
 pub record OrRow (a b r : List Bool) : Type 0 where
   pub at : (j : ℕ) → j < conceptNumbers → OrMark a b j (getD r j false)
 
--- r has the marks of m, and marks the pairs of E
+-- r has as many rows as m, has the marks of m, and marks the pairs of E. The number of rows stands here because the type of borrowed rows does not give it.
 pub record Adds (m : List (List Bool)) (E : ℕ → ℕ → Type 0) (r : List (List Bool)) : Type 0 where
+  pub long : length r ≡ length m
   pub at : (i j : ℕ) → i < mostIndividuals → j < conceptNumbers → Exactly (mark r i j) ((mark m i j ≡ true) ⊎ E i j)
 
 -- the marks of a row, in the row of a
@@ -47,12 +48,16 @@ module _ (m : List (List Bool)) (E F : ℕ → ℕ → Type 0) where
   -- the same pairs, said otherwise
   pub adds-same : (r : List (List Bool)) → Adds m E r → ((i j : ℕ) → i < 255 → j < 128 → E i j → F i j) → ((i j : ℕ) → i < 255 → j < 128 → F i j → E i j) → Adds m F r
   adds-same r a to from =
-      record { at = λ i j hi hj. exactly-same (a .at i j hi hj) (⊎-elim (λ p. inl p) (λ p. inr (to i j hi hj p))) (⊎-elim (λ p. inl p) (λ p. inr (from i j hi hj p))) }
+      record {
+        long = a .long;
+        at = λ i j hi hj. exactly-same (a .at i j hi hj) (⊎-elim (λ p. inl p) (λ p. inr (to i j hi hj p))) (⊎-elim (λ p. inl p) (λ p. inr (from i j hi hj p)));
+      }
 
   -- first the pairs of E, then those of F
   pub adds-then : (s r : List (List Bool)) → Adds m E s → Adds s F r → Adds m (Either E F) r
   adds-then s r a b =
       record {
+        long = b .long ∙ a .long;
         at = λ i j hi hj.
             exactly-same (b .at i j hi hj)
             (⊎-elim (λ p. ⊎-elim (λ q. inl q) (λ q. inr (inl q)) (a .at i j hi hj .holds p)) (λ p. inr (inr p)))
@@ -61,7 +66,7 @@ module _ (m : List (List Bool)) (E F : ℕ → ℕ → Type 0) where
 
 -- nothing to add
 pub adds-not : (m : List (List Bool)) (E : ℕ → ℕ → Type 0) → ((i j : ℕ) → i < 255 → j < 128 → E i j → ⊥) → Adds m E m
-adds-not m E h = record { at = λ i j hi hj. record { holds = λ p. inl p; shows = ⊎-elim (λ p. p) (λ p. absurd (h i j hi hj p)) } }
+adds-not m E h = record { long = refl; at = λ i j hi hj. record { holds = λ p. inl p; shows = ⊎-elim (λ p. p) (λ p. absurd (h i j hi hj p)) } }
 
 -- to rows with no mark
 pub adds-blank : (E : ℕ → ℕ → Type 0) (r : List (List Bool)) → Adds blank E r → (i j : ℕ) → i < 255 → j < 128 → Exactly (mark r i j) (E i j)
@@ -87,7 +92,7 @@ module _ (E : ℕ → ℕ → ℕ → Type 0) (m₀ : List (List Bool)) where
 
 -- a row put into that of a
 pub adds-row : (m : List (List Bool)) (a : ℕ) (row x : List Bool) → length m ≡ 255 → a < 255 → OrRow (getD m a []) row x → Adds m (InRow a row) (set m a x)
-adds-row m a row x long h o = record { at = λ i j hi hj. by i j hj (ℕ-discrete i a) }
+adds-row m a row x long h o = record { long = length-set m a x; at = λ i j hi hj. by i j hj (ℕ-discrete i a) }
   where
     new : getD (set m a x) a [] ≡ x
     new = getD-set-same m a x [] (omega (arith, long))

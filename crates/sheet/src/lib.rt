@@ -172,10 +172,10 @@ fn valid(b: usize, counts: Counts) -> bool
     Concept::read(b as u16).declared(counts)
 }
 
-// The valid concepts from which d follows.
-fn below_row(order: [[bool; 128]; 128], d: usize, counts: Counts) -> [bool; 128]
+// The valid concepts from which d follows. The order is lent, as it is read once for each of 128 rows.
+fn below_row(order: &[[bool; 128]; 128], d: usize, counts: Counts) -> [bool; 128]
     requires { ⌜ d < 128 ⌝ }
-    ensures { λ r. ⌜ BelowRow order d counts r ⌝ }
+    ensures { λ r. ⌜ BelowRow (now (order .entry)) d counts r ⌝ }
 {
     let mut out = [false; 128];
     for b in 0..128 {
@@ -192,15 +192,15 @@ fn below_rows(order: [[bool; 128]; 128], counts: Counts) -> [[bool; 128]; 128]
     let blank = [false; 128];
     let mut out = [blank; 128];
     for d in 0..128 {
-        out[d] = below_row(order, d, counts);
+        out[d] = below_row(&order, d, counts);
     }
     out
 }
 
-// One test step: every concept below its name is marked.
+// One test step: every concept below its name is marked. The rows are lent: a copy for each step of each round would be 16 KB.
 fn test_one(
     new: &mut [u8],
-    below: [[bool; 128]; 128],
+    below: &[[bool; 128]; 128],
     states: usize,
     kind: u16,
     from: State,
@@ -208,7 +208,7 @@ fn test_one(
     to: State,
 )
     requires { ⌜ (length (now new) ≡ areaLength) × (states ≤ 16) ⌝ }
-    ensures { λ _. ⌜ Adds (TestPlace below states kind from by to) (now (new .entry)) (now (new .exit)) ⌝ }
+    ensures { λ _. ⌜ Adds (TestPlace (now (below .entry)) states kind from by to) (now (new .entry)) (now (new .exit)) ⌝ }
 {
     if kind != 1 {
         return;
@@ -229,9 +229,9 @@ fn test_one(
     add_row(new, (16 * s + t) * 128, row);
 }
 
-fn tests(new: &mut [u8], below: [[bool; 128]; 128], states: usize, steps: &[u16])
+fn tests(new: &mut [u8], below: &[[bool; 128]; 128], states: usize, steps: &[u16])
     requires { ⌜ (length (now new) ≡ areaLength) × (states ≤ 16) ⌝ }
-    ensures { λ _. ⌜ Adds (Upto (TestTurn below states (now (steps .entry))) (length (now (steps .entry)) / 4)) (now (new .entry)) (now (new .exit)) ⌝ }
+    ensures { λ _. ⌜ Adds (Upto (TestTurn (now (below .entry)) states (now (steps .entry))) (length (now (steps .entry)) / 4)) (now (new .entry)) (now (new .exit)) ⌝ }
 {
     let n = steps.len() / 4;
     for k in 0..n {
@@ -252,12 +252,12 @@ fn tests(new: &mut [u8], below: [[bool; 128]; 128], states: usize, steps: &[u16]
 fn hangs(
     new: &mut [u8],
     old: &[u8],
-    below: [[bool; 128]; 128],
-    ways: [[bool; 256]; 64],
+    below: &[[bool; 128]; 128],
+    ways: &[[bool; 256]; 64],
     states: usize,
 )
     requires { ⌜ (length (now new) ≡ areaLength) × (length (now old) ≡ areaLength) ⌝ }
-    ensures { λ _. ⌜ Adds (Upto (HangPlace below ways states (now (old .entry))) 64) (now (new .entry)) (now (new .exit)) ⌝ }
+    ensures { λ _. ⌜ Adds (Upto (HangPlace (now (below .entry)) (now (ways .entry)) states (now (old .entry))) 64) (now (new .entry)) (now (new .exit)) ⌝ }
 {
     for r in 0..64 {
         let back = turned(r);
@@ -277,17 +277,17 @@ fn copy(new: &mut [u8], old: &[u8])
     }
 }
 
-// One round: reads the old area only, and writes every byte of the new one.
+// One round: reads the old area only, and writes every byte of the new one. The tables are lent, as no round changes them.
 fn round(
     new: &mut [u8],
     old: &[u8],
-    below: [[bool; 128]; 128],
-    ways: [[bool; 256]; 64],
+    below: &[[bool; 128]; 128],
+    ways: &[[bool; 256]; 64],
     states: usize,
     steps: &[u16],
 )
     requires { ⌜ (length (now new) ≡ areaLength) × (length (now old) ≡ areaLength) × (states ≤ 16) ⌝ }
-    ensures { λ _. ⌜ Adds (RoundPlace below ways states (now (steps .entry)) (now (old .entry))) (now (old .entry)) (now (new .exit)) ⌝ }
+    ensures { λ _. ⌜ Adds (RoundPlace (now (below .entry)) (now (ways .entry)) states (now (steps .entry)) (now (old .entry))) (now (old .entry)) (now (new .exit)) ⌝ }
 {
     copy(new, old);
     tests(new, below, states, steps);
@@ -358,7 +358,7 @@ fn rounds(
     let states = counts.states as usize;
     let mut n: u16 = 0;
     loop {
-        round(second, first, below, ways, states, steps);
+        round(second, first, &below, &ways, states, steps);
         if same(first, second) {
             clear(second);
             return Ran::Needed(n);

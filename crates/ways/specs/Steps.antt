@@ -7,13 +7,13 @@ use Prim.Native.Nat.{ℕ, zero, suc, _+_, _*_, _/_, _≤_, _<_}
 use native.Mathlib.Decide.{ℕ-discrete}
 use native.Mathlib.Nat.{add-zero}
 use native.Mathlib.Omega.{arith}
-use lib.ListN.{length, getD, set, replicate, getD-replicate, List·getD-eq-default}
+use lib.ListN.{length, getD, set, length-set, replicate, length-replicate, getD-replicate, List·getD-eq-default}
 use lib.Seq.{getD-set-same, getD-set-other}
 use Rattle.kinds.specs.declared.State.{State}
 use Rattle.kinds.specs.declared.SignedRole.{SignedRole}
 use Rattle.kinds.specs.Kinds.{state, signed}
 use Rattle.laws.specs.Exactly.{Exactly}
-use Rattle.laws.specs.Marks.{mark}
+use Rattle.laws.specs.Marks.{mark, Sized}
 use Rattle.laws.specs.Numbers.{numbered, numbered-in, numbered-out}
 use Rattle.laws.specs.Warshall.{or-left, or-right, or-cases}
 use Rattle.meaning.specs.Collection.{role, test, Step, step}
@@ -29,6 +29,14 @@ with-step w m r at by long row = record {
   here = λ i h. ap (λ (x : List Bool). getD x at false) (row i h) ∙ getD-set-same (getD w i []) at _ false (long i h);
   else = λ i p h ne. ap (λ (x : List Bool). getD x p false) (row i h) ∙ getD-set-other (getD w i []) at p _ false ne;
 }
+
+-- a turn keeps the size of the table, of which a lent array tells nothing
+pub sized-turn : (w : List (List Bool)) (i at : ℕ) (x : Bool) → i < 64 → Sized 64 256 w → Sized 64 256 (set w i (set (getD w i []) at x))
+sized-turn w i at x h s = record { high = length-set w i (set (getD w i []) at x) ∙ s .high; wide = λ j l. side j l (ℕ-discrete j i) }
+  where
+    side : (j : ℕ) → j < 64 → Dec (j ≡ i) → length (getD (set w i (set (getD w i []) at x)) j []) ≡ 256
+    side j l (yes e) = rw (e, getD-set-same w i (set (getD w i []) at x) [] (omega (arith, s .high))) (length-set (getD w i []) at x ∙ s .wide i h)
+    side j l (no ne) = rw (getD-set-other w i j (set (getD w i []) at x) [] ne) (s .wide j l)
 
 module _ (w m : List (List Bool)) (kind : ℕ) (from : State) (by : SignedRole) (to : State) where
   -- a step that adds nothing
@@ -75,6 +83,9 @@ module _ (w m : List (List Bool)) (kind : ℕ) (from : State) (by : SignedRole) 
 
 pub blank : (n k i p : ℕ) → i < n → p < k → mark (replicate n (replicate k false)) i p ≡ false
 blank n k i p h l = ap (λ (x : List Bool). getD x p false) (getD-replicate n i (replicate k false) [] h) ∙ getD-replicate k p false false l
+
+pub blank-sized : (n k : ℕ) → Sized n k (replicate n (replicate k false))
+blank-sized n k = record { high = length-replicate n (replicate k false); wide = λ i h. rw (getD-replicate n i (replicate k false) [] h) (length-replicate k false) }
 
 -- a blank matrix has the ways of no step
 pub no-ways : (f : ℕ → Step) (m w : List (List Bool)) → ((i p : ℕ) → i < 64 → p < 256 → mark w i p ≡ false) → WaysOf (numbered f 0) m w

@@ -11,7 +11,7 @@ with-role-facts-requires : tie.Need-with-role-facts-requires
 with-role-facts-requires c κs = search needs
 
 returns : tie.Need-returns
-returns c = all-facts _ _ _ _ _ (c .before .with-concept-facts .ensures) (c .with-role-facts .ensures)
+returns c = all-facts _ _ _ _ _ (c .before .before .before .with-concept-facts .ensures) (c .with-role-facts .ensures)
 
 pub individual-concepts-spec : {M : Type 1} → statement M
 individual-concepts-spec =

@@ -17,8 +17,8 @@ cast-row c = search needs
 mul-row : tie.Need-mul-row
 mul-row c = search needs
 
-array-copy-out-row : tie.Need-array-copy-out-row
-array-copy-out-row c = search needs
+element-copy-out-row : tie.Need-element-copy-out-row
+element-copy-out-row c = search needs
 
 cast-with-row : tie.Need-cast-with-row
 cast-with-row c = search needs
@@ -37,7 +37,7 @@ one-concept-fact-spec =
     returns-2
     cast-row
     mul-row
-    array-copy-out-row
+    element-copy-out-row
     cast-with-row
     with-row-requires
     returns-3)

@@ -26,8 +26,8 @@ add-at c = search needs
 mul-ahead : tie.Need-mul-ahead
 mul-ahead c = search needs
 
-array-copy-out-ahead : tie.Need-array-copy-out-ahead
-array-copy-out-ahead c = search needs
+element-copy-out-ahead : tie.Need-element-copy-out-ahead
+element-copy-out-ahead c = search needs
 
 add-back : tie.Need-add-back
 add-back c = search needs
@@ -35,8 +35,8 @@ add-back c = search needs
 mul-back : tie.Need-mul-back
 mul-back c = search needs
 
-array-copy-out-back : tie.Need-array-copy-out-back
-array-copy-out-back c = search needs
+element-copy-out-back : tie.Need-element-copy-out-back
+element-copy-out-back c = search needs
 
 cast-with-row : tie.Need-cast-with-row
 cast-with-row c = search needs
@@ -48,11 +48,12 @@ cast-with-row-2 : tie.Need-cast-with-row-2
 cast-with-row-2 c = search needs
 
 with-row-requires-2 : tie.Need-with-row-requires-2
-with-row-requires-2 c κs = search needs
+with-row-requires-2 c κs = (search needs, omega (arith, c .before .before .with-row .ensures .long))
 
 returns-4 : tie.Need-returns-4
 returns-4 c =
-    role-fact _ _ _ _ _ _ _ (record { role = omega arith; first = omega arith; second = omega arith }) (c .before .before .with-row .ensures) (c .with-row2 .ensures)
+    let one = c .before .before .before in
+    role-fact _ _ _ _ _ _ _ (record { role = omega arith; first = omega arith; second = omega arith }) (one .with-row .ensures) (c .with-row2 .ensures)
 
 pub one-role-fact-spec : {M : Type 1} → statement M
 one-role-fact-spec =
@@ -65,10 +66,10 @@ one-role-fact-spec =
     mul-at
     add-at
     mul-ahead
-    array-copy-out-ahead
+    element-copy-out-ahead
     add-back
     mul-back
-    array-copy-out-back
+    element-copy-out-back
     cast-with-row
     with-row-requires
     cast-with-row-2

@@ -7,17 +7,17 @@ use Rattle.individuals.proofs.with_row.Tie as tie
 mul-own : tie.Need-mul-own
 mul-own c = search needs
 
-array-copy-out-own : tie.Need-array-copy-out-own
-array-copy-out-own c = search needs
+element-copy-out-own : tie.Need-element-copy-out-own
+element-copy-out-own c = search needs
 
 or-row-requires : tie.Need-or-row-requires
 or-row-requires c κs = search needs
 
-mul-out : tie.Need-mul-out
-mul-out c = search needs
+mul-t5 : tie.Need-mul-t5
+mul-t5 c = search needs
 
-array-set-from-out : tie.Need-array-set-from-out
-array-set-from-out c = search needs
+element-set-from-rows : tie.Need-element-set-from-rows
+element-set-from-rows c = search needs
 
 returns : tie.Need-returns
 returns c = adds-row _ _ _ _ (search needs) (search needs) (c .or-row .ensures)
@@ -25,4 +25,4 @@ returns c = adds-row _ _ _ _ (search needs) (search needs) (c .or-row .ensures)
 pub with-row-spec : {M : Type 1} → statement M
 with-row-spec =
     tie.close
-    (tie.spec mul-own array-copy-out-own or-row-requires mul-out array-set-from-out returns)
+    (tie.spec mul-own element-copy-out-own or-row-requires mul-t5 element-set-from-rows returns)

@@ -10,10 +10,10 @@ use Rattle.sheet.proofs.below_row.Statement.{statement}
 use Rattle.sheet.proofs.below_row.Tie as tie
 
 abbrev Inv-loop : tie.InvT-loop
-Inv-loop d counts order out₀ b₀ out b = Filling (λ k x. Exactly x (Below order counts d k)) false 128 out₀ out b
+Inv-loop order d counts out₀ b₀ out b = Filling (λ k x. Exactly x (Below order counts d k)) false 128 out₀ out b
 
 abbrev μ-loop : tie.MeasureT-loop
-μ-loop d counts order out₀ b₀ out b = 128 - b
+μ-loop order d counts out₀ b₀ out b = 128 - b
 
 loop-holds : tie.Need-loop-holds Inv-loop μ-loop
 loop-holds c = none-done _ false 128 _ (search needs)
@@ -21,8 +21,8 @@ loop-holds c = none-done _ false 128 _ (search needs)
 mul-row : tie.Need-mul-row Inv-loop μ-loop
 mul-row c = search needs
 
-array-copy-out-row : tie.Need-array-copy-out-row Inv-loop μ-loop
-array-copy-out-row c = search needs
+element-copy-out-row : tie.Need-element-copy-out-row Inv-loop μ-loop
+element-copy-out-row c = search needs
 
 valid-requires : tie.Need-valid-requires Inv-loop μ-loop
 valid-requires c κs = search needs
@@ -43,7 +43,7 @@ loop-again : tie.Need-loop-again Inv-loop μ-loop
 loop-again c =
     let a = c .before .before .before .before .args in
     let l = c .before .before .before .loop in
-    one-more _ false 128 _ _ _ _ (l .inv) (search needs) (λ e. below-turn (a .t1) (a .d) (l .b) (a .counts) (c .valid .ensures))
+    one-more _ false 128 _ _ _ _ (l .inv) (search needs) (λ e. below-turn (a .order .now) (a .d) (l .b) (a .counts) (c .valid .ensures))
 
 returns : tie.Need-returns Inv-loop μ-loop
 returns c = below-row _ _ _ _ (all-done _ false 128 _ _ _ (c .before .loop .inv) (search needs))
@@ -56,7 +56,7 @@ below-row-spec =
     μ-loop
     loop-holds
     mul-row
-    array-copy-out-row
+    element-copy-out-row
     valid-requires
     array-read-out
     array-write-out

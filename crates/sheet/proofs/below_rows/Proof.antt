@@ -9,10 +9,10 @@ use Rattle.sheet.proofs.below_rows.Statement.{statement}
 use Rattle.sheet.proofs.below_rows.Tie as tie
 
 abbrev Inv-loop : tie.InvT-loop
-Inv-loop order counts out₀ d₀ out d = Filling (λ k x. BelowRow order k counts x) [] 128 out₀ out d
+Inv-loop counts order out₀ d₀ out d = Filling (λ k x. BelowRow order k counts x) [] 128 out₀ out d
 
 abbrev μ-loop : tie.MeasureT-loop
-μ-loop order counts out₀ d₀ out d = 128 - d
+μ-loop counts order out₀ d₀ out d = 128 - d
 
 loop-holds : tie.Need-loop-holds Inv-loop μ-loop
 loop-holds c = none-done _ [] 128 _ (search needs)
@@ -33,7 +33,7 @@ loop-less : tie.Need-loop-less Inv-loop μ-loop
 loop-less c = search needs
 
 loop-again : tie.Need-loop-again Inv-loop μ-loop
-loop-again c = one-more _ [] 128 _ _ _ _ (c .before .before .loop .inv) (search needs) (λ e. c .below-row .ensures)
+loop-again c = one-more _ [] 128 _ _ _ _ (c .before .before .before .loop .inv) (search needs) (λ e. c .below-row .ensures)
 
 returns : tie.Need-returns Inv-loop μ-loop
 returns c = below-rows _ _ _ (all-done _ [] 128 _ _ _ (c .before .loop .inv) (search needs))

@@ -10,10 +10,10 @@ use Rattle.sheet.proofs.hangs.Statement.{statement}
 use Rattle.sheet.proofs.hangs.Tie as tie
 
 abbrev Inv-loop : tie.InvT-loop
-Inv-loop new₀ old states below ways r₀ new r = (r ≤ 64) × Adds (Upto (HangPlace below ways states old) r) new₀ new
+Inv-loop new₀ old below ways states r₀ new r = (r ≤ 64) × Adds (Upto (HangPlace below ways states old) r) new₀ new
 
 abbrev μ-loop : tie.MeasureT-loop
-μ-loop new₀ old states below ways r₀ new r = 64 - r
+μ-loop new₀ old below ways states r₀ new r = 64 - r
 
 loop-holds : tie.Need-loop-holds Inv-loop μ-loop
 loop-holds c = (omega arith, adds-start _ _)
@@ -24,8 +24,8 @@ turned-requires c κs = search needs
 mul-down-table : tie.Need-mul-down-table Inv-loop μ-loop
 mul-down-table c = search needs
 
-array-copy-out-down-table : tie.Need-array-copy-out-down-table Inv-loop μ-loop
-array-copy-out-down-table c = search needs
+element-copy-out-down-table : tie.Need-element-copy-out-down-table Inv-loop μ-loop
+element-copy-out-down-table c = search needs
 
 add-down-table : tie.Need-add-down-table Inv-loop μ-loop
 add-down-table c = search needs
@@ -36,8 +36,8 @@ down-table-requires c κs = omega (arith, c .before .turned .ensures, flip-below
 mul-product : tie.Need-mul-product Inv-loop μ-loop
 mul-product c = search needs
 
-array-copy-out-product : tie.Need-array-copy-out-product Inv-loop μ-loop
-array-copy-out-product c = omega (arith, c .before .before .turned .ensures, flip-below (c .before .before .before .before .loop .r) 32 (omega arith))
+element-copy-out-product : tie.Need-element-copy-out-product Inv-loop μ-loop
+element-copy-out-product c = omega (arith, c .before .before .turned .ensures, flip-below (c .before .before .before .before .loop .r) 32 (omega arith))
 
 product-requires : tie.Need-product-requires Inv-loop μ-loop
 product-requires c κs = search needs
@@ -48,8 +48,8 @@ add-hang-role c = search needs
 mul-hang-role : tie.Need-mul-hang-role Inv-loop μ-loop
 mul-hang-role c = search needs
 
-array-copy-out-hang-role : tie.Need-array-copy-out-hang-role Inv-loop μ-loop
-array-copy-out-hang-role c = search needs
+element-copy-out-hang-role : tie.Need-element-copy-out-hang-role Inv-loop μ-loop
+element-copy-out-hang-role c = search needs
 
 hang-role-requires : tie.Need-hang-role-requires Inv-loop μ-loop
 hang-role-requires c κs = search needs
@@ -84,15 +84,15 @@ hangs-spec =
     loop-holds
     turned-requires
     mul-down-table
-    array-copy-out-down-table
+    element-copy-out-down-table
     add-down-table
     down-table-requires
     mul-product
-    array-copy-out-product
+    element-copy-out-product
     product-requires
     add-hang-role
     mul-hang-role
-    array-copy-out-hang-role
+    element-copy-out-hang-role
     hang-role-requires
     add-r
     loop-less

@@ -18,11 +18,11 @@ use Rattle.sheet.proofs.round.Reads as round-reads
 use Rattle.sheet.proofs.same.Reads as same-reads
 
 abbrev Inv-loop : tie.InvT-loop
-Inv-loop first₀ second₀ ways steps allowance below states n₀ first second n =
+Inv-loop first₀ second₀ steps allowance ways below states n₀ first second n =
     Turning ways steps below states first₀ second₀ allowance n first second
 
 abbrev μ-loop : tie.MeasureT-loop
-μ-loop first₀ second₀ ways steps allowance below states n₀ first second n = allowance - n
+μ-loop first₀ second₀ steps allowance ways below states n₀ first second n = allowance - n
 
 below-rows-requires : tie.Need-below-rows-requires Inv-loop μ-loop
 below-rows-requires c κs = search needs
@@ -33,7 +33,7 @@ cast-states c = search needs
 loop-holds : tie.Need-loop-holds Inv-loop μ-loop
 loop-holds c = first-turn _ _ _ _ _ _ _
 
--- what the calls before the loop have made
+-- what the calls before the loop have made; `t4` is the parameter `ways`, which is lent from its local
 abbrev Claims : lts.Claims
 Claims = (
   below-rows-reads.Asked,
@@ -57,13 +57,13 @@ Start = lts.Start Claims reads.Pre reads.Post Inv-loop μ-loop
 abbrev start : Head → Start
 start c = c .before .before .before .before .before .before
 
-stands : (c : Head) → Before (start c .args .counts) (start c .args .order) (start c .args .ways) (start c .args .steps .now)
+stands : (c : Head) → Before (start c .args .counts) (start c .args .order) (start c .args .t4) (start c .args .steps .now)
     (c .before .before .below-rows .result) (start c .args .counts .states) (start c .args .first .now) (start c .args .second .now)
 stands c =
     let p = start c .pre in
     record { fit = p .0; rows = c .before .before .below-rows .ensures; same-states = refl; lays = p .1; second-long = p .2 }
 
-running : (c : Head) → Running (start c .args .counts) (start c .args .order) (start c .args .ways) (start c .args .steps .now)
+running : (c : Head) → Running (start c .args .counts) (start c .args .order) (start c .args .t4) (start c .args .steps .now)
     (start c .args .allowance) (c .loop .n) (c .loop .first) (c .loop .second)
 running c = c .loop .inv (start c .args .counts) (start c .args .order) (stands c)
 
@@ -72,7 +72,7 @@ Compared = lts.After-same Claims reads.Pre reads.Post Inv-loop μ-loop
 
 -- the round that was compared, and the loop's head before it
 abbrev head : Compared → Head
-head e = e .before .before .before .before .before .before .before .before
+head e = e .before .before .before .before .before .before .before .before .before .before
 
 cleared-long : (l : Head) (P : ℕ → Type 0) (made z : List ℕ) → Adds P (l .loop .first) made → z ≡ replicate (length made) 0
     → length z ≡ length (start l .args .second .now)
@@ -80,8 +80,8 @@ cleared-long l P made z a q = ap length q ∙ length-replicate (length made) 0 �
 
 round-requires : tie.Need-round-requires Inv-loop μ-loop
 round-requires c κs =
-    let r = running (c .before .before) in
-    let b = stands (c .before .before) in
+    let r = running (c .before .before .before .before) in
+    let b = stands (c .before .before .before .before) in
     (r .second-long, r .lays .long, omega (arith, b .same-states, b .fit .states))
 
 same-requires : tie.Need-same-requires Inv-loop μ-loop
@@ -102,7 +102,7 @@ returns : tie.Need-returns Inv-loop μ-loop
 returns c =
     let e = c .before .before .before .before .before in
     let m = e .before .before .before .before .before in
-    let l = m .before .before .before in
+    let l = m .before .before .before .before .before in
     let b = stands l in
     closes _ _ _ _ (b .fit) _ (b .rows) _ (b .same-states) _ _ _ _ (running l) _ (m .round .ensures) _ (e .same .ensures)
     (c .before .before .before .before .if1 .taken) _ (c .before .before .clear .ensures)
@@ -123,7 +123,7 @@ returns-2 c =
     let o = c .before .before .before .before .before in
     let e = o .before in
     let m = e .before .before .before .before .before in
-    let l = m .before .before .before in
+    let l = m .before .before .before .before .before in
     let b = stands l in
     spends _ _ _ _ (b .fit) _ (b .rows) _ (b .same-states) _ _ _ _ (running l) _ (m .round .ensures) _ (e .same .ensures)
     (o .if1 .left) (c .before .before .before .before .if2 .taken) _ (c .before .before .clear2 .ensures)
@@ -146,7 +146,7 @@ loop-again c =
     let o = c .before .before .before .before .before .before in
     let e = o .before in
     let m = e .before .before .before .before .before in
-    let l = m .before .before .before in
+    let l = m .before .before .before .before .before in
     λ counts order b.
     goes-on counts order _ _ (b .fit) _ (b .rows) _ (b .same-states) _ _ _ _ (l .loop .inv counts order b) _ (m .round .ensures) _ (e .same .ensures)
     (o .if1 .left) (c .before .before .before .before .before .if2 .left) _ (c .before .before .copy .ensures)

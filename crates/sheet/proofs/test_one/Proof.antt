@@ -29,8 +29,8 @@ returns-4 c = no-name _ _ _ _ _ _ _ (omega arith)
 mul-row : tie.Need-mul-row
 mul-row c = search needs
 
-array-copy-out-row : tie.Need-array-copy-out-row
-array-copy-out-row c = search needs
+element-copy-out-row : tie.Need-element-copy-out-row
+element-copy-out-row c = search needs
 
 mul-add-row : tie.Need-mul-add-row
 mul-add-row c = search needs
@@ -62,7 +62,7 @@ test-one-spec =
     cast-a
     returns-4
     mul-row
-    array-copy-out-row
+    element-copy-out-row
     mul-add-row
     add-add-row
     mul-add-row-2

@@ -1,25 +1,23 @@
 -- `one_way` meets its contract: a step whose numbers have no place adds nothing, and any other its way in every row.
 use borrow.Author.Needs.{needs}
 use native.Mathlib.Omega.{arith}
-use denote.Plain.{Boolean}
-use Rattle.laws.specs.Rows.{rows-long}
 use Rattle.ways.specs.Steps.{other-kind, from-nowhere, to-nowhere, by-nothing, one-way}
 use Rattle.ways.proofs.one_way.Statement.{statement}
 use Rattle.ways.proofs.one_way.Tie as tie
 
 returns : tie.Need-returns
-returns c = other-kind _ _ _ _ _ _ (λ e. omega arith)
+returns c = (other-kind _ _ _ _ _ _ (λ e. omega arith), c .before .pre .0)
 
 returns-2 : tie.Need-returns-2
-returns-2 c = from-nowhere _ _ _ _ _ _ (omega arith)
+returns-2 c = (from-nowhere _ _ _ _ _ _ (omega arith), c .before .before .before .pre .0)
 
 returns-3 : tie.Need-returns-3
-returns-3 c = to-nowhere _ _ _ _ _ _ (omega arith)
+returns-3 c = (to-nowhere _ _ _ _ _ _ (omega arith), c .before .before .before .before .before .pre .0)
 
 returns-4 : tie.Need-returns-4
 returns-4 c =
-    let s = c .before .before .before .before .before .before .before in
-    by-nothing _ _ _ _ _ _ (λ i h. rows-long Boolean 64 (s .args .m) _ (s .good .1 .0 .1 .1) i (search needs)) (omega arith)
+    let p = c .before .before .before .before .before .before .before .pre in
+    (by-nothing _ _ _ _ _ _ (p .1 .wide) (omega arith), p .0)
 
 cast-at : tie.Need-cast-at
 cast-at c = search needs
@@ -40,7 +38,9 @@ with-step-requires : tie.Need-with-step-requires
 with-step-requires c κs = search needs
 
 returns-5 : tie.Need-returns-5
-returns-5 c = one-way _ _ _ _ _ _ _ _ _ (c .with-step .ensures) (omega arith) (omega arith) (omega arith) (omega arith) (omega arith)
+returns-5 c =
+    let e = c .with-step .ensures in
+    (one-way _ _ _ _ _ _ _ _ _ (e .0) (omega arith) (omega arith) (omega arith) (omega arith) (omega arith), e .1)
 
 pub one-way-spec : {M : Type 1} → statement M
 one-way-spec =
