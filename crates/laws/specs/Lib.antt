@@ -11,6 +11,9 @@ pub mod Rounds
 pub mod Settle
 pub mod Chain
 pub mod Masks
+pub mod Digits
+pub mod Sets
+pub mod Sum
 pub mod Fill
 pub mod Adds
 pub mod Found

@@ -41,7 +41,8 @@ bit-or a b t h =
     ⊎-elim (λ p. inl (record { set = p })) (λ p. inr (record { set = p }))
     (max-one (a / 2 ^ t % 2) (b / 2 ^ t % 2) (sym (last-or (a / 2 ^ t) (b / 2 ^ t)) ∙ (rw e at k)))
 
-digit : (x t : ℕ) → x / 2 ^ t % 2 < 2
+-- a digit is 0 or 1
+pub digit : (x t : ℕ) → x / 2 ^ t % 2 < 2
 digit x t = mod-lt (x / 2 ^ t) (omega arith)
 
 either : (a b t : ℕ) → max (a / 2 ^ t % 2) (b / 2 ^ t % 2) ≡ 1 → Bit (bitOr a b) t

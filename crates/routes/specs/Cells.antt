@@ -14,7 +14,7 @@ use Rattle.laws.specs.Found.{Some, found-both, found-self, found-more}
 use Rattle.laws.specs.Masks.{Bit, bit-zero}
 use Rattle.meaning.specs.Layout.{areaLength, conceptNumbers}
 use Rattle.routes.specs.Routes.{cell, LoopAt, Loops, Packed}
-use Rattle.routes.specs.Sets.{Gathered}
+use Rattle.laws.specs.Sets.{Gathered}
 
 -- the row marks the concept b, and the area has it in the part that begins at `at`
 pub record Meets (row : List Bool) (area : List ℕ) (at b : ℕ) : Type 0 where

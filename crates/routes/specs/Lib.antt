@@ -1,5 +1,4 @@
 pub mod Routes
-pub mod Sets
 pub mod Cells
 pub mod Chains
 pub mod Followed

@@ -6,7 +6,7 @@ ghost use Rattle.laws.specs.Exactly.{Exactly};
 ghost use Rattle.laws.specs.Found.{Some};
 ghost use Rattle.meaning.specs.Layout.{areaLength};
 ghost use Rattle.routes.specs.Routes.{Loops, Packed, Links, hops, source};
-ghost use Rattle.routes.specs.Sets.{With, Gathered};
+ghost use Rattle.laws.specs.Sets.{With, Gathered};
 ghost use Rattle.routes.specs.Cells.{Meets, LoopTo, WayTo};
 use kinds::Individual;
 

@@ -14,10 +14,10 @@ use Rattle.kinds.specs.Kinds.{mostIndividuals, mostStates}
 use Rattle.laws.specs.Masks.{Bit, bit-one, one-bit, bit-zero, Held}
 use Rattle.meaning.specs.Run.{Run, stop, go}
 use Rattle.walk.specs.Walk.{Stride, Walked}
-use Rattle.walk.specs.Digits.{one-mask}
+use Rattle.laws.specs.Digits.{one-mask}
 use Rattle.walk.specs.Grow.{held-set}
 use Rattle.walk.specs.Steps.{Ready, Walking, AllFollowed, Passed}
-use Rattle.walk.specs.Sum.{total, held-total}
+use Rattle.laws.specs.Sum.{total, held-total}
 
 -- no set has a state
 abbrev pub noSets : List ℕ

@@ -13,7 +13,7 @@ use Rattle.kinds.specs.Kinds.{mostIndividuals}
 use Rattle.laws.specs.Masks.{Bit, bit-or, or-bit-left, or-bit-right, or-more, or-same, Held}
 use Rattle.laws.specs.Search.{tested}
 use Rattle.laws.specs.Warshall.{or-cases}
-use Rattle.walk.specs.Sum.{total, total-set}
+use Rattle.laws.specs.Sum.{total, total-set}
 
 -- new has what old has, and grew says whether it has more
 pub record Raised (old new : List ℕ) (grew : Bool) : Type 0 where

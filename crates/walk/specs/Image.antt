@@ -10,7 +10,7 @@ use lib.Bits.{bitOr}
 use Rattle.kinds.specs.Kinds.{mostStates}
 use Rattle.laws.specs.Masks.{Bit, bit-or, or-bit-left, or-bit-right, bit-zero, or-more, or-same}
 use Rattle.routes.specs.Routes.{cell}
-use Rattle.walk.specs.Digits.{bit-below, chosen, chosen-on, chosen-off, bit-known}
+use Rattle.laws.specs.Digits.{bit-below, chosen, chosen-on, chosen-off, bit-known}
 
 -- a state of m leads to t, by the part of the table that begins at `at`
 pub record Leads (table : List ℕ) (at m t : ℕ) : Type 0 where

@@ -2,8 +2,6 @@
 pub mod Walk
 pub mod Unique
 -- What the loops keep.
-pub mod Digits
-pub mod Sum
 pub mod Image
 pub mod Grow
 pub mod Hops

@@ -16,8 +16,8 @@ use Rattle.meaning.specs.Run.{Run, stop, one}
 use Rattle.meaning.specs.Run as run
 use Rattle.routes.specs.Routes.{target}
 use Rattle.walk.specs.Walk.{Stride, along, loop}
-use Rattle.walk.specs.Digits.{bit-below, xor-either, xor-other}
-use Rattle.walk.specs.Sum.{total, total-set}
+use Rattle.laws.specs.Digits.{bit-below, xor-either, xor-other}
+use Rattle.laws.specs.Sum.{total, total-set}
 use Rattle.walk.specs.Image.{Looped, none, more, Settled}
 use Rattle.walk.specs.Grow.{Grows, raised-most, held-set, or-none}
 use Rattle.walk.specs.Hops.{ByHops}

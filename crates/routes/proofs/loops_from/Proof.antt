@@ -1,7 +1,7 @@
 -- `loops_from` meets its contract. The set so far has the states below t that a loop leads to.
 use Prim.Native.Nat.{_≤_, _-_}
 use Rattle.routes.specs.Cells.{LoopTo}
-use Rattle.routes.specs.Sets.{Gathered, gathered-none, gathered-more, gathered-all}
+use Rattle.laws.specs.Sets.{Gathered, gathered-none, gathered-more, gathered-all}
 use borrow.Author.Needs.{needs}
 use native.Mathlib.Omega.{arith}
 use Rattle.routes.proofs.loops_from.Statement.{statement}

@@ -2,7 +2,7 @@
 use Prim.Native.Nat.{_≤_, _-_}
 use Rattle.laws.specs.Found.{found-self}
 use Rattle.routes.specs.Cells.{WayTo}
-use Rattle.routes.specs.Sets.{Gathered, gathered-none, gathered-more, gathered-all}
+use Rattle.laws.specs.Sets.{Gathered, gathered-none, gathered-more, gathered-all}
 use borrow.Author.Needs.{needs}
 use native.Mathlib.Omega.{arith}
 use Rattle.routes.proofs.ways_from.Statement.{statement}

@@ -1,6 +1,6 @@
 -- `with` meets its contract: the shifted bit is the set of t alone.
 use borrow.Author.Needs.{needs}
-use Rattle.routes.specs.Sets.{with-it, without}
+use Rattle.laws.specs.Sets.{with-it, without}
 use Rattle.routes.proofs.with.Statement.{statement}
 use Rattle.routes.proofs.with.Tie as tie
 

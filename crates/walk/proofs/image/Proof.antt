@@ -1,7 +1,7 @@
 -- `image` meets its contract. The states below s have been followed.
 use Prim.Native.Nat.{_+_, _-_}
 use lib.ListN.{getD}
-use Rattle.walk.specs.Digits.{chosen-most}
+use Rattle.laws.specs.Digits.{chosen-most}
 use Rattle.walk.specs.Image.{Imaging, imaging-start, imaging-more, imaging-end}
 use borrow.Author.Needs.{needs}
 use native.Mathlib.Omega.{arith}

@@ -7,7 +7,7 @@ use native.Mathlib.Decide.{decLt, ℕ-discrete}
 use native.Mathlib.Nat.{mod-lt, div-eq-of-lt, mul-one, mul-zero}
 use lib.Pow.{pow-mono, shl-exact}
 use lib.Bits.{differ, bitXor, bitAnd, xor-step, xor-shr, and-mask}
-use Rattle.laws.specs.Masks.{Bit}
+use Rattle.laws.specs.Masks.{Bit, digit}
 
 -- a set of numbers below n has no other
 pub bit-below : (n m t : ℕ) → m < 2 ^ n → Bit m t → t < n
@@ -36,9 +36,6 @@ one-differs : (x y : ℕ) → x < 2 → y < 2 → x ≡ 1 → (y ≡ 1) ⊎ (dif
 one-differs zero y h k e = absurd (omega arith)
 one-differs (suc x) zero h k e = inr e
 one-differs (suc x) (suc y) h k e = inl (omega arith)
-
-digit : (x t : ℕ) → x / 2 ^ t % 2 < 2
-digit x t = mod-lt (x / 2 ^ t) (omega arith)
 
 last-xor : (a b : ℕ) → bitXor a b % 2 ≡ differ (a % 2) (b % 2)
 last-xor a b =
