@@ -1,17 +1,17 @@
 // The library's public calls: one pair asked of a collection, or a collection prepared once and any number of pairs answered from it.
 ghost use mathlib.Core.Path.{_≡_};
 ghost use Prim.Native.Nat.{_<_};
-ghost use Rattle.laws.specs.Masks.{Bit};
-ghost use Rattle.index.specs.Reply.{IfDeclared, FinalIn, Arrived, RepliesTo, Replies};
-ghost use Rattle.index.specs.Mean.{refusal};
-ghost use Rattle.index.specs.Demands.{Demanded};
-ghost use Rattle.index.specs.declared.Found.the-variants.{Needed};
-ghost use Rattle.laws.specs.Found.{Some};
 ghost use lib.ListN.{length};
 ghost use Rattle.laws.specs.Exactly.{Exactly};
+ghost use Rattle.laws.specs.Found.{Some};
+ghost use Rattle.laws.specs.Masks.{Bit};
 ghost use Rattle.meaning.specs.Outcome.{Outcome};
+ghost use Rattle.index.specs.declared.Found.the-variants.{Needed};
 ghost use Rattle.index.specs.Prepare.{asks, idle, Prepares};
+ghost use Rattle.index.specs.Reply.{IfDeclared, FinalIn, Arrived, RepliesTo, Replies};
+ghost use Rattle.index.specs.Mean.{refusal};
 ghost use Rattle.index.specs.Settle.{lending, Finishes, Readies};
+ghost use Rattle.index.specs.Demands.{Demanded};
 use clash::clash;
 use individuals::individual_concepts;
 use kinds::Answer;

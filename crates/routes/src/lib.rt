@@ -9,14 +9,10 @@ ghost use Rattle.routes.specs.Routes.{Loops, Packed, Links, hops, source
 ghost use Rattle.laws.specs.Sets.{With, Gathered};
 ghost use Rattle.routes.specs.Cells.{Meets, LoopTo, WayTo};
 use kinds::Individual;
+use tables::AREA;
+use tables::ROLE_FACTS;
 
-// The bytes of an area.
-const AREA: usize = 32768;
-
-// The most facts of which the hops are read.
-const FACTS: usize = 4096;
-
-// The number after that of the last hop.
+// The number after that of the last hop: two for each role fact that a table may have.
 const NO_HOP: u16 = 8192;
 
 // The set m, with the state t in it where on is true.
@@ -97,8 +93,8 @@ fn hop_count(facts: &[u16]) -> usize
     ensures { λ r. ⌜ r ≡ hops (now (facts .entry)) ⌝ }
 {
     let n = facts.len() / 3;
-    if n > FACTS {
-        return 2 * FACTS;
+    if n > ROLE_FACTS {
+        return 2 * ROLE_FACTS;
     }
     2 * n
 }

@@ -14,6 +14,7 @@ ghost use Rattle.walk.specs.Ends.{Swept};
 use kinds::Individual;
 use kinds::RoleName;
 use kinds::State;
+use tables::ROLE_FACTS;
 
 // A set of states for each individual, the state t as the bit t.
 type Sets = [u16; 255];
@@ -44,7 +45,7 @@ fn hop_count(facts: &[u16]) -> usize
     ensures { λ r. ⌜ r ≡ hops (now (facts .entry)) ⌝ }
 {
     let n = facts.len() / 3;
-    if n > 4096 {
+    if n > ROLE_FACTS {
         return NO_HOP;
     }
     2 * n
