@@ -1,25 +1,23 @@
 -- What the answer means to a caller: of a collection whose numbers are declared, the rows clash exactly when its canonical model does.
-use Prim.Native.Nat.{ℕ, _+_, _-_, _*_, _/_, _<_}
+use Prim.Native.Nat.{ℕ, _+_, _*_, _/_, _<_}
 use mathlib.Core.Path.{_≡_, refl, _∙_, ap}
 use mathlib.Core.Logic.{_↔_}
 use mathlib.Core.Bool.{Bool, true, false}
 use mathlib.Core.List.{List, []}
 use native.Mathlib.Omega.{arith}
 use native.Mathlib.Nat.{add-zero}
-use borrow.Author.Tests.{le-ltb}
 use lib.ListN.{length, getD}
-use Rattle.kinds.specs.declared.RoleName.{RoleName}
 use Rattle.kinds.specs.declared.Individual.{Individual}
 use Rattle.kinds.specs.declared.SignedRole.{SignedRole}
 use Rattle.kinds.specs.declared.Concept.{Concept}
 use Rattle.kinds.specs.declared.Concept.the-variants.{Exists}
 use Rattle.kinds.specs.declared.Counts.{Counts}
-use Rattle.kinds.specs.Kinds.{mostRoles, mostIndividuals, base, flip, flip-below, inverse, inverse-inverse, inverse-forward, inverse-backward, signed, individual, forward, backward, numberOf, conceptOf, number-concept, concept-number, CountsFit, SignedDeclared, IndividualDeclared, ConceptDeclared}
+use Rattle.kinds.specs.Kinds.{mostRoles, mostIndividuals, base, flip, flip-below, inverse, inverse-inverse, inverse-forward, inverse-backward, signed, individual, numberOf, conceptOf, number-concept, concept-number, role-concept, CountsFit, SignedDeclared, ConceptDeclared}
 use Rattle.laws.specs.Exactly.{Exactly}
 use Rattle.laws.specs.Marks.{mark}
 use Rattle.laws.specs.Member.{_∈_}
 use Rattle.laws.specs.Numbers.{numbered-in, numbered-out}
-use Rattle.meaning.specs.Collection.{Collection, NumbersDeclared}
+use Rattle.meaning.specs.Collection.{NumbersDeclared}
 use Rattle.meaning.specs.Lent.{Tables, collection, records, ruleWidth}
 use Rattle.meaning.specs.Layout.{conceptNumbers}
 use Rattle.meaning.specs.Orders.{RoleFollows, RoleLe, ConceptLe, turned}
@@ -29,10 +27,10 @@ use Rattle.meaning.specs.Clash.{Alive, Clash, individual-clash, unnamed-clash, 
 use Rattle.orders.specs.Rows.{RoleMarks, ConceptMarks}
 use Rattle.orders.specs.Table.{pairOf}
 use Rattle.orders.specs.Mean.{role-below, concept-below, all-role-rules, all-concept-rules}
-use Rattle.individuals.specs.Concepts as shown
-use Rattle.individuals.specs.Concepts.{HasRows, Shown, Concepts}
-use Rattle.individuals.specs.Mean.{concepts-mean}
-use Rattle.living.specs.Living.{Lives, sprouts, grows, Living}
+use Rattle.individuals.specs.Concepts.{Concepts}
+use Rattle.individuals.specs.Mean.{has-rows, shown-declared, concepts-mean}
+use Rattle.living.specs.Living.{Living}
+use Rattle.living.specs.Reach.{lives-below}
 use Rattle.living.specs.Mean.{living-mean}
 use Rattle.clash.specs.Clashes.{Marked, Breaks, FactRole, ahead, behind, Clashes, named, unnamed, joined, down, up}
 
@@ -83,12 +81,8 @@ marked e = (λ m. e .holds (m .marked), λ p. record { marked = e .shows p })
 
 -- an unnamed element that ends by R has what follows from this concept
 inverse-concept : (R : ℕ) → conceptOf (base + flip R) ≡ Exists (inverse (signed R))
-unfolding conceptOf inverse
-inverse-concept R = let e : base + flip R - base ≡ flip R = omega arith in rw (le-ltb (base + flip R) base (omega arith), e)
-
-lives-below : {concepts order : List (List Bool)} {R : ℕ} → Lives concepts order R → R < 2 * mostRoles
-lives-below (sprouts a R ha hR p) = hR
-lives-below (grows R S hS l p) = hS
+unfolding inverse
+inverse-concept R = role-concept (flip R)
 
 -- S follows from the inverse of R, said the other way round
 turned-back : {ρ : List (SignedRole × SignedRole)} (R S : SignedRole) → RoleFollows ρ (inverse R) S → RoleFollows ρ R (inverse S)
@@ -97,17 +91,6 @@ turned-back R S l = rw (inverse-inverse R) at (turned l)
 module _ (c : Counts) (t : Tables) (fit : CountsFit c) (ok : NumbersDeclared (collection c t)) (roles order concepts : List (List Bool)) (living : List Bool)
     (roles-mean : RoleMarks (t .role-rules) roles) (order-mean : ConceptMarks (t .concept-rules) (t .role-rules) order)
     (concepts-hold : Concepts (t .concept-facts) (t .role-facts) order concepts) (living-hold : Living concepts order living) where
-  -- whoever a mark shows a concept of has a fact, and is declared
-  shown-declared : {a : Individual} {B : ℕ} → Shown (t .concept-facts) (t .role-facts) order a B → IndividualDeclared c a
-  shown-declared {a} (shown.named A m l p) = ok .concept-facts (A, a) m .1
-  shown-declared {a} (shown.first r b m l p) = ok .role-facts (r, a, b) m .1
-  shown-declared {a} (shown.second r b m l p) = ok .role-facts (r, b, a) m .2
-
-  has-rows : (r : RoleName) (a b : Individual) → (r, a, b) ∈ collection c t .role-facts → HasRows r a b
-  has-rows r a b m =
-      let d = ok .role-facts (r, a, b) m in
-      record { role = omega (arith, d .0, fit .roles); first = omega (arith, d .1, fit .individuals); second = omega (arith, d .2, fit .individuals) }
-
   -- the row of a role, and that of the concept of an unnamed element, whether the role is declared or not
   role-le : (Q : ℕ) (S : SignedRole) → Q < 2 * mostRoles → SignedDeclared c S → Exactly (mark roles Q (S .0)) (RoleLe (collection c t) (signed Q) S)
   role-le Q S hQ hS = rw (all-role-rules c t fit ok) at (roles-mean .at Q (S .0) hQ (role-below c t fit ok S hS))
@@ -136,10 +119,10 @@ module _ (c : Counts) (t : Tables) (fit : CountsFit c) (ok : NumbersDeclared (co
 
   edge→fact : {a b : Individual} {S : SignedRole} → SignedDeclared c S → FactEdge (collection c t) a S b → FactRole (t .role-facts) roles a b (S .0)
   edge→fact h (model.ahead {r = r} {a = a} {b = b} {S = S} m le) =
-      let l = has-rows r a b m in
+      let l = has-rows c t fit ok r a b m in
       ahead r m l (role-le (2 * r .0) S (omega (arith, l .role)) h .shows le)
   edge→fact h (model.behind {r = r} {a = a} {b = b} {S = S} m le) =
-      let l = has-rows r a b m in
+      let l = has-rows c t fit ok r a b m in
       behind r m l (role-le (2 * r .0 + 1) (inverse S) (omega (arith, l .role)) h .shows (rw (inverse-forward r) at (turned le)))
 
   concept-sides : (M : ℕ → Type 0) (P : Concept → Type 0) → ((C : Concept) → ConceptDeclared c C → M (numberOf C) ↔ P C)
@@ -164,7 +147,7 @@ module _ (c : Counts) (t : Tables) (fit : CountsFit c) (ok : NumbersDeclared (co
   named-breaks a h =
       concept-sides (Marked (getD concepts a [])) (IndividualHas (collection c t) (individual a)) (λ C hC. (
         λ m.
-            let d = shown-declared (concepts-hold .at a (numberOf C) h (concept-below c t fit ok C hC) .holds (m .marked)) in
+            let d = shown-declared c t fit ok (concepts-hold .at a (numberOf C) h (concept-below c t fit ok C hC) .holds (m .marked)) in
             concepts-mean c t fit ok order order-mean C hC concepts-hold (individual a) d .holds (m .marked),
         λ w.
             record {

@@ -2,7 +2,7 @@
 use mathlib.Core.Path.{_≡_, refl, sym, ap, _∙_, subst}
 use mathlib.Core.Logic.{_↔_, _⊎_, inl, inr}
 use mathlib.Core.List.{List}
-use Prim.Native.Nat.{ℕ, _+_, _*_, _/_, _≤_, _<_}
+use Prim.Native.Nat.{ℕ, _+_, _*_, _/_, _<_}
 use native.Mathlib.Nat.{div-one}
 use native.Mathlib.Omega.{arith}
 use lib.ListN.{length, getD}
@@ -15,7 +15,7 @@ use Rattle.kinds.specs.Kinds.{state}
 use Rattle.laws.specs.Member.{_∈_}
 use Rattle.laws.specs.Numbers.{numbered-in, numbered-out}
 use Rattle.meaning.specs.Collection.{WellFormed}
-use Rattle.meaning.specs.Lent.{Call, collectionOf, Sound, AskOk, records, finalWidth, finalAt}
+use Rattle.meaning.specs.Lent.{Sound, records, finalWidth, finalAt}
 use Rattle.meaning.specs.Model.{canonical}
 use Rattle.meaning.specs.Tree.{root}
 use Rattle.meaning.specs.Question as question
@@ -34,7 +34,7 @@ use Rattle.index.specs.declared.Found.{Found}
 use Rattle.index.specs.declared.Found.the-variants.{BadCount, BadTable, BadNumber, EqualEnds, Contradiction, Spent, Needed}
 use Rattle.index.specs.declared.Prepared.{Prepared}
 use Rattle.index.specs.Prepare as prepare
-use Rattle.index.specs.Prepare.{Lending, asks, lentOf, Fit, idle, NeededRounds, Settles, Prepares}
+use Rattle.index.specs.Prepare.{Lending, asks, lentOf, Fit, NeededRounds, Settles, Prepares}
 use Rattle.index.specs.Reply.{Arrives, Passed, Says, RepliesTo, bad-count, bad-table, bad-number, equal-ends, bad-ask, says, yes, no, Replies}
 use Rattle.index.specs.Reply as reply
 

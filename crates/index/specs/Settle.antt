@@ -12,8 +12,6 @@ use Rattle.laws.specs.Decide.{exactly-not}
 use Rattle.meaning.specs.Clash.{contradiction↔clash}
 use Rattle.meaning.specs.Demands.{rounds-suffice}
 use Rattle.meaning.specs.Layout.{zeros}
-use Rattle.meaning.specs.Sheet.{Unchanged}
-use Rattle.meaning.specs.Lite.{lite}
 use Rattle.tables.specs.declared.Checked.{Checked}
 use Rattle.tables.specs.declared.Checked.the-variants as checked
 use Rattle.tables.specs.Checks as checks

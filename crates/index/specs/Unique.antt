@@ -1,14 +1,13 @@
 -- The contract of `prepare` leaves one preparation of the type, and one content of both areas. That of `ask` does by `outcome-unique`, that of `reply` by `replies-once`.
 use mathlib.Core.Path.{_≡_, refl, sym, ap, _∙_}
 use mathlib.Core.List.{List}
-use Prim.Native.Nat.{ℕ, _*_, _≤_, _<_}
+use Prim.Native.Nat.{ℕ, _*_}
 use native.Mathlib.Omega.{arith}
 use lib.ListN.{length}
 use Rattle.kinds.specs.Kinds.{mostIndividuals, mostStates, mostRoles, individual, signed, state, CountsFit}
 use Rattle.laws.specs.First.{First, fails, holds, first-once}
 use Rattle.laws.specs.Masks.{Held}
 use Rattle.meaning.specs.Lent.{TablesFit, NumbersFit, EndsFit}
-use Rattle.meaning.specs.Sheet.{Mark}
 use Rattle.meaning.specs.SheetLaws.{rounds-unique}
 use Rattle.meaning.specs.LayoutLaws.{lays-once}
 use Rattle.meaning.specs.Lite.{lite, StepDown}
@@ -16,9 +15,9 @@ use Rattle.routes.specs.Routes.{linkCount}
 use Rattle.routes.specs.Mean.{LoopOf, RoutesOf}
 use Rattle.routes.specs.Unique.{cells-once, links-once}
 use Rattle.index.specs.declared.Found.{Found}
-use Rattle.index.specs.declared.Found.the-variants.{BadCount, BadTable, BadNumber, EqualEnds, Contradiction, Spent, Needed}
+use Rattle.index.specs.declared.Found.the-variants.{BadCount, BadTable, BadNumber, EqualEnds, Needed}
 use Rattle.index.specs.declared.Prepared.{Prepared}
-use Rattle.index.specs.Prepare.{Lending, lentOf, Fit, idle, NeededRounds, Laid, Settles, contradiction, spent, needed, Prepares, bad-count, bad-table, bad-number, equal-ends, settled}
+use Rattle.index.specs.Prepare.{Lending, lentOf, idle, NeededRounds, Settles, contradiction, spent, needed, Prepares, bad-count, bad-table, bad-number, equal-ends, settled}
 
 -- what the type says of the tables: their lengths, and 16 bits to a number
 pub record Typed (p : Prepared) : Type 0 where

@@ -1,5 +1,5 @@
 -- What the rows mean to a caller: of a collection whose numbers are declared they are the concepts of its individuals.
-use Prim.Native.Nat.{_+_, _*_}
+use Prim.Native.Nat.{ℕ, _+_, _*_}
 use mathlib.Core.Path.{_≡_}
 use mathlib.Core.Bool.{Bool}
 use mathlib.Core.List.{List}
@@ -25,10 +25,16 @@ use Rattle.individuals.specs.Concepts.{HasRows, Shown, named, first, sec
 
 module _ (c : Counts) (t : Tables) (fit : CountsFit c) (ok : NumbersDeclared (collection c t)) where
   -- each role fact has its rows
-  has-rows : (r : RoleName) (a b : Individual) → (r, a, b) ∈ collection c t .role-facts → HasRows r a b
+  pub has-rows : (r : RoleName) (a b : Individual) → (r, a, b) ∈ collection c t .role-facts → HasRows r a b
   has-rows r a b m =
       let d = ok .role-facts (r, a, b) m in
       record { role = omega (arith, d .0, fit .roles); first = omega (arith, d .1, fit .individuals); second = omega (arith, d .2, fit .individuals) }
+
+  -- whoever a mark shows a concept of has a fact, and is declared
+  pub shown-declared : {order : List (List Bool)} {a : Individual} {B : ℕ} → Shown (t .concept-facts) (t .role-facts) order a B → IndividualDeclared c a
+  shown-declared {a = a} (named A m l p) = ok .concept-facts (A, a) m .1
+  shown-declared {a = a} (first r b m l p) = ok .role-facts (r, a, b) m .1
+  shown-declared {a = a} (second r b m l p) = ok .role-facts (r, b, a) m .2
 
   module _ (order : List (List Bool)) (q : ConceptMarks (t .concept-rules) (t .role-rules) order) (B : Concept) (hB : ConceptDeclared c B) where
     -- the marks in the three rows that a fact puts in

@@ -148,3 +148,8 @@ concept-number c few (Name A) h = rw (lt-ltb (A .0) base (omega arith))
 concept-number c few (Exists R) h =
     let e : base + R .0 - base ≡ R .0 = omega arith in
     rw (le-ltb (base + R .0) base (omega arith)) (ap (λ (n : ℕ). Exists (signed n)) e)
+
+-- a number from the base on is that of a role's neighbours
+pub role-concept : (n : ℕ) → conceptOf (base + n) ≡ Exists (signed n)
+unfolding conceptOf
+role-concept n = let e : base + n - base ≡ n = omega arith in rw (le-ltb (base + n) base (omega arith), e)

@@ -1,16 +1,15 @@
 -- What the answer means to a caller: of a collection whose numbers are declared, the roles that live are those alive in its canonical model.
-use Prim.Native.Nat.{ℕ, _+_, _-_, _*_, _<_}
+use Prim.Native.Nat.{ℕ, _+_, _*_, _<_}
 use mathlib.Core.Path.{_≡_}
 use mathlib.Core.Logic.{_↔_}
 use mathlib.Core.Bool.{Bool, true}
 use mathlib.Core.List.{List}
 use native.Mathlib.Omega.{arith}
-use borrow.Author.Tests.{le-ltb}
 use Rattle.kinds.specs.declared.SignedRole.{SignedRole}
 use Rattle.kinds.specs.declared.Concept.{Concept}
 use Rattle.kinds.specs.declared.Concept.the-variants.{Name, Exists}
 use Rattle.kinds.specs.declared.Counts.{Counts}
-use Rattle.kinds.specs.Kinds.{mostRoles, base, numberOf, conceptOf, signed, individual, forward, backward, inverse, inverse-declared, concept-number, CountsFit, SignedDeclared, IndividualDeclared, ConceptDeclared}
+use Rattle.kinds.specs.Kinds.{mostRoles, base, numberOf, signed, individual, forward, backward, inverse, inverse-declared, concept-number, role-concept, CountsFit, SignedDeclared, IndividualDeclared, ConceptDeclared}
 use Rattle.laws.specs.Marks.{mark}
 use Rattle.meaning.specs.Collection.{NumbersDeclared}
 use Rattle.meaning.specs.Lent.{Tables, collection}
@@ -23,10 +22,6 @@ use Rattle.orders.specs.Mean.{role-below, concept-below, all-role-rules, all-co
 use Rattle.individuals.specs.Concepts.{Shown, named, first, second, Concepts}
 use Rattle.individuals.specs.Mean.{concepts-mean}
 use Rattle.living.specs.Living.{Lives, sprouts, grows}
-
-role-concept : (S : ℕ) → conceptOf (base + S) ≡ Exists (signed S)
-unfolding conceptOf
-role-concept S = let e : base + S - base ≡ S = omega arith in rw (le-ltb (base + S) base (omega arith), e)
 
 module _ (c : Counts) (t : Tables) (fit : CountsFit c) (ok : NumbersDeclared (collection c t)) (order concepts : List (List Bool))
     (q : ConceptMarks (t .concept-rules) (t .role-rules) order) (h : Concepts (t .concept-facts) (t .role-facts) order concepts) where

@@ -85,12 +85,13 @@ reach-more from closed k old r g o =
     let v = mark closed k j in
     record { holds = λ p. record { begins = and-left u v p; marked = and-right u v p }; shows = λ p. and-make u v (p .begins) (p .marked) })
 
+-- a living role has a row
+pub lives-below : {concepts order : List (List Bool)} {R : ℕ} → Lives concepts order R → R < 64
+lives-below (sprouts a R ha hR p) = hR
+lives-below (grows R S hS l p) = hS
+
 module _ (concepts order m closed : List (List Bool)) (from r : List Bool) (s : Steps order m) (c : Closes 64 (mark m) (mark closed))
     (g : Gathers (SproutAt concepts) 255 from) (q : Gathers (ReachAt from closed) 64 r) where
-  below : {R : ℕ} → Lives concepts order R → R < 64
-  below (sprouts a R ha hR p) = hR
-  below (grows R S hS l p) = hS
-
   onward : {R S : ℕ} → Star (Edge 64 (mark m)) R S → Lives concepts order R → Lives concepts order S
   onward here l = l
   onward (edge {a = R} {b = S} e) l = grows R S (e .col) l (sym (s .at R (e .row) .at S (e .col)) ∙ e .mark)
@@ -101,7 +102,7 @@ module _ (concepts order m closed : List (List Bool)) (from r : List Bool) (s : 
   back (sprouts a R ha hR p) = (R, hR, g .at R hR .shows (a, ha, record { marked = p }), here)
   back (grows R S hS l p) =
       let w = back l in
-      let hR = below l in
+      let hR = lives-below l in
       (w .0, w .1, w .2, then (w .3) (edge (record { row = hR; col = hS; mark = s .at R hR .at S hS ∙ p })))
 
   pub all-living : Living concepts order r

@@ -25,8 +25,8 @@ use Rattle.orders.specs.Rows.{RoleMarks, ConceptMarks}
 use Rattle.orders.specs.Mean.{concept-below}
 use Rattle.ways.specs.Ways.{Ways}
 use Rattle.ways.specs.Mean.{ways-mean}
-use Rattle.individuals.specs.Concepts.{Shown, named, first, second, Concepts}
-use Rattle.individuals.specs.Mean.{concepts-mean}
+use Rattle.individuals.specs.Concepts.{Concepts}
+use Rattle.individuals.specs.Mean.{shown-declared, concepts-mean}
 use Rattle.routes.specs.Routes.{cell, LoopAt, Loops, Packed, Links}
 
 -- from s to t at a: a has some B with (s, t, B) on the sheet after n rounds
@@ -51,12 +51,6 @@ module _ (c : Counts) (t : Tables) (fit : CountsFit c) (ok : NumbersDeclared (co
   abbrev 𝓒 : Collection
   𝓒 = collection c t
 
-  -- only declared individuals have marks in their row
-  shown-declared : {a : Individual} {B : ℕ} → Shown (t .concept-facts) (t .role-facts) order a B → a .0 < c .individuals
-  shown-declared {a} (named A m l p) = ok .concept-facts (A, a) m .1
-  shown-declared {a} (first r b m l p) = ok .role-facts (r, a, b) m .1
-  shown-declared {a} (second r b m l p) = ok .role-facts (r, b, a) m .2
-
   loop-to : (a s u : ℕ) → a < mostIndividuals → s < mostStates → u < mostStates → LoopAt concepts area a s u → LoopOf 𝓒 n (individual a) (state s) (state u)
   loop-to a s u ha hs hu y =
       let B = y .some .0 in
@@ -75,7 +69,7 @@ module _ (c : Counts) (t : Tables) (fit : CountsFit c) (ok : NumbersDeclared (co
       let es : s′ ≡ state s = ap state (e .0) in
       let eu : u′ ≡ state u = ap state (e .1) in
       let g = b .has in
-      let da = shown-declared (h .at a B ha hB .holds g) in
+      let da = shown-declared c t fit ok (h .at a B ha hB .holds g) in
       (C, concepts-mean c t fit ok order q C dC h (individual a) da .holds (rw (← e .2) at g), rw (es, eu) at (m .3))
 
   loop-from : (a s u : ℕ) → LoopOf 𝓒 n (individual a) (state s) (state u) → LoopAt concepts area a s u

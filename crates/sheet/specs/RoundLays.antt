@@ -1,18 +1,17 @@
 -- A round of the code is a round of the definition: an area that holds a sheet, with what a round adds, holds the next sheet.
 use mathlib.Core.Path.{_≡_, refl, sym, ap, _∙_}
 use mathlib.Core.Bool.{Bool, true, false}
-use mathlib.Core.Logic.{_⊎_, inl, inr, ⊎-elim}
+use mathlib.Core.Logic.{inl, inr, ⊎-elim}
 use mathlib.Core.List.{List, []}
-use Prim.Native.Nat.{ℕ, suc, _+_, _-_, _*_, _/_, _%_, _<_}
+use Prim.Native.Nat.{ℕ, suc, _+_, _*_, _/_, _%_, _<_}
 use native.Mathlib.Omega.{arith}
 use lib.ListN.{length, getD}
-use borrow.Author.Tests.{le-ltb}
 use Rattle.kinds.specs.declared.State.{State}
 use Rattle.kinds.specs.declared.SignedRole.{SignedRole}
 use Rattle.kinds.specs.declared.Concept.{Concept}
 use Rattle.kinds.specs.declared.Concept.the-variants.{Name, Exists}
 use Rattle.kinds.specs.declared.Counts.{Counts}
-use Rattle.kinds.specs.Kinds.{flip, flip-below, base, inverse, signed, state, numberOf, conceptOf, number-concept, concept-number, CountsFit, StateDeclared, ConceptDeclared}
+use Rattle.kinds.specs.Kinds.{flip, flip-below, inverse, signed, state, numberOf, conceptOf, number-concept, concept-number, role-concept, CountsFit, StateDeclared, ConceptDeclared}
 use Rattle.laws.specs.Adds.{Adds, Upto}
 use Rattle.laws.specs.Marks.{mark}
 use Rattle.laws.specs.Member.{_∈_}
@@ -26,11 +25,6 @@ use Rattle.sheet.specs.Below.{BelowRows}
 use Rattle.sheet.specs.Rules.{JoinPair}
 use Rattle.sheet.specs.Places.{TestTurn, HangPlace, RoundPlace}
 use Rattle.sheet.specs.Data.{WayAt, dataKind}
-
--- the concept of a number from the base on
-pub concept-exists : (n : ℕ) → conceptOf (64 + n) ≡ Exists (signed n)
-unfolding conceptOf
-concept-exists n = let e : 64 + n - 64 ≡ n = omega arith in rw (le-ltb (64 + n) base (omega arith)) (ap (λ (k : ℕ). Exists (signed k)) e)
 
 -- the number of the inverse of a signed role
 pub flip-inverse : (r : ℕ) → inverse (signed r) ≡ signed (flip r)
@@ -154,7 +148,7 @@ module _ (c : Counts) (fit : CountsFit c) where
         let low = flip-below r 32 (w .1) in
         let x = row-out (64 + r) b (let g = w .1 in omega arith) (v .1) (v .2 .marked) in
         let m = mark-of (l .x) (l .y) (64 + flip r) (l .x-low) (l .y-low) (omega arith) (l .along) in
-        let e : conceptOf (64 + flip r) ≡ Exists (inverse (signed r)) = concept-exists (flip r) ∙ ap Exists (sym (flip-inverse r)) in
+        let e : conceptOf (64 + flip r) ≡ Exists (inverse (signed r)) = role-concept (flip r) ∙ ap Exists (sym (flip-inverse r)) in
         let u : WayAt ways (inverse (signed r)) (state (l .y)) (state (h .q % 16)) = rw (flip-inverse r) (record { low = low; marked = l .goes-up }) in
         found (h .q / 16) (h .q % 16) b p (markable (h .q / 16) (h .q % 16) b (h .from-declared) (h .to-declared) (x .1))
         (hung {R = signed r} {u = state (l .x)} {v = state (l .y)} (record { low = w .1; marked = rw (number-concept b) (x .0) }) (record { low = w .1; marked = l .goes-down }) (rw e at m) u) (v .2 .there ∙ omega arith)

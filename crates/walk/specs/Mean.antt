@@ -9,7 +9,7 @@ use lib.ListN.{length}
 use Rattle.kinds.specs.declared.Individual.{Individual}
 use Rattle.kinds.specs.declared.State.{State}
 use Rattle.kinds.specs.declared.Counts.{Counts}
-use Rattle.kinds.specs.Kinds.{individual, signed, state, CountsFit, IndividualDeclared, StateDeclared}
+use Rattle.kinds.specs.Kinds.{individual, state, CountsFit, IndividualDeclared, StateDeclared}
 use Rattle.meaning.specs.Collection.{Collection, NumbersDeclared, WellFormed, step, role}
 use Rattle.meaning.specs.Lent.{Tables, collection, roleFactWidth, mostRoleFacts}
 use Rattle.meaning.specs.Model.{individuals}
