@@ -1,0 +1,13 @@
+pub mod Lines
+pub mod Tables
+pub mod Reading
+pub mod Pasted
+pub mod Store
+pub mod TableLaws
+pub mod StoreLaws
+pub mod ReadingLaws
+pub mod Prefix
+pub mod Judging
+pub mod Keeping
+pub mod Kept
+pub mod Reads
