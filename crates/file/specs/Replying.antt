@@ -1,7 +1,7 @@
 -- The asks of a file replied to one after the other from one preparation; with the file's own, its answers.
 use Prim.Native.Nat.{ℕ, zero, suc, _+_, _*_, _/_, _<_, _≤_}
 use mathlib.Core.Path.{_≡_, refl, sym, ap, _∙_, subst}
-use mathlib.Core.List.{List, [], _∷_, _++_, append-nil}
+use mathlib.Core.List.{List, [], _++_}
 use lib.ListN.{length, getD, take, drop, length-append}
 use lib.Seq.{paste}
 use native.Mathlib.Nat.{add-zero}
@@ -30,8 +30,8 @@ use Rattle.index.specs.Reply.{Replies}
 use Rattle.index.specs.Mean.{replies-answered}
 use Rattle.file.specs.declared.Output.{Output}
 use Rattle.file.specs.Text.{text, answerLine}
-use Rattle.file.specs.Writes.{Answers, Answered}
-use Rattle.file.specs.Output.{outputLength, filled, Holds, filled-more, filled-length, text-length}
+use Rattle.file.specs.Writes.{Answered}
+use Rattle.file.specs.Output.{outputLength, filled, Holds, filled-more, filled-length}
 
 -- an answer's line has 13 bytes
 pub answer-length : (a b : Individual) (r : Answer) → length (answerLine a b r) ≡ 13
@@ -200,6 +200,13 @@ module _ {held : Held} {store : List ℕ} (w : Shelved held store) where
 
   pub few-asks : (r : List ℕ) → TableIn store (held .used) 11 r → FewAsks r
   few-asks r m = rw (table-read 11 r (omega arith) m) (record { few = asks-few fs (w .sound .within .few 11); bytes = w .sound .asks })
+
+  -- without an ask nothing is answered
+  pub answers-none : getD (held .used) 11 0 ≡ 0 → (r : Output) → r ≡ record { text = filled []; length = 0 } → AnsweredIn fs r
+  unfolding Answered
+  answers-none z r e =
+      let n : entries 11 fs ≡ 0 = sym (used-at fs (w .holds) 11 (omega arith)) ∙ z in
+      record { out = []; answered = rw n refl; holds = rw e (record { bytes = refl; long = refl }) }
 
   -- THEOREM: replies from a preparation of the tables that are read from the store answer the file's asks
   pub answers-all : (cr ce rr re cf rf st fi asks area spare : List ℕ) → TableIn store (held .used) 2 cr → TableIn store (held .used) 3 ce → TableIn store (held .used) 4 rr

@@ -2,9 +2,8 @@
 use Prim.Native.Nat.{ℕ, zero, suc, _+_, _≤_}
 use mathlib.Core.Path.{_≡_, refl, sym, ap, ap₂, _∙_}
 use mathlib.Core.List.{List, [], _++_}
-use lib.ListN.{length, take}
+use lib.ListN.{take}
 use native.Mathlib.Omega.{arith}
-use Rattle.kinds.specs.declared.Answer.{Answer}
 use Rattle.meaning.specs.OutcomeLaws.{outcome-unique}
 use Rattle.frames.specs.declared.Frame.{Frame}
 use Rattle.reading.specs.Lines.{lines}
@@ -14,7 +13,7 @@ use Rattle.reading.specs.Reading.{Result, faulty, sound, framesOf, lineAfter, R
 use Rattle.reading.specs.ReadingLaws.{reading-once}
 use Rattle.reading.specs.Prefix.{mostBytes, reading-start, reading-whole}
 use Rattle.reading.specs.Kept.{sound-none, reading-sound}
-use Rattle.file.specs.Text.{faultLine, answerLine}
+use Rattle.file.specs.Text.{answerLine}
 use Rattle.file.specs.Writes.{Answers, Answered, Writes, fault, answers}
 
 numberIn : Result → ℕ

@@ -1,22 +1,21 @@
 -- What comes back for an input: the text that it writes, and zeros after it.
 use Prim.Native.Nat.{ℕ, zero, suc, _+_, _*_, _<_, _≤_}
 use mathlib.Core.Path.{_≡_, refl, sym, ap, _∙_}
-use mathlib.Core.List.{List, [], _++_}
+use mathlib.Core.List.{List, []}
 use lib.ListN.{length, replicate, length-append, length-replicate}
 use native.Mathlib.Omega.{arith}
 use Rattle.frames.specs.declared.Frame.{Frame}
-use Rattle.reading.specs.declared.Held.{Held}
 use Rattle.reading.specs.declared.Read.{Read}
 use Rattle.reading.specs.Lines.{lines}
 use Rattle.reading.specs.Tables.{most, entries, askedFirst, askedSecond}
-use Rattle.reading.specs.Reading.{Result, faulty, sound, framesOf, lineAfter, Reading}
+use Rattle.reading.specs.Reading.{sound, lineAfter}
 use Rattle.reading.specs.Store.{storeLength, shelve, heldOf}
 use Rattle.reading.specs.StoreLaws.{store-length}
 use Rattle.reading.specs.Kept.{sound-none, reading-sound}
 use Rattle.reading.specs.Reads.{Reads, no-store, refused, whole}
 use Rattle.file.specs.declared.Output.{Output}
 use Rattle.file.specs.Text.{text, faultLine}
-use Rattle.file.specs.Writes.{Answers, Answered, Writes, fault, answers}
+use Rattle.file.specs.Writes.{Answered, Writes, fault, answers}
 use Rattle.file.specs.WritesLaws.{writes-once, fault-line}
 use Rattle.file.specs.Output.{outputLength, filled, Holds, filled-length}
 use Rattle.file.specs.Replying.{answer-length, Shelved, AnswersAll}

@@ -122,13 +122,19 @@ fn area() -> [u8; 32768]
     [0; 32768]
 }
 
-// Every ask of a sound file answered.
+// Every ask of a sound file answered; where there is none, nothing is worked out.
 fn answers(held: Held, store: &[u16]) -> Output
     requires { ⌜ Shelved held (now store) ⌝ }
     ensures { λ r. ⌜ AnswersAll held (now (store .entry)) r ⌝ }
 {
     let counts = held.counts;
     let used = held.used;
+    if used[11] == 0 {
+        return Output {
+            text: [0; 3328],
+            length: 0,
+        };
+    }
     let rolefacts = table(store, used, 7);
     let finals = table(store, used, 10);
     let mut first = area();

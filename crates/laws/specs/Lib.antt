@@ -22,3 +22,4 @@ pub mod First
 pub mod Rows
 pub mod Marks
 pub mod Warshall
+pub mod Pasted

@@ -2,12 +2,12 @@
 use Prim.Native.Nat.{ℕ, _<_, _≤_}
 use native.Mathlib.Omega.{arith}
 use mathlib.Core.Path.{_≡_, refl, sym, ap, _∙_, subst}
-use mathlib.Core.Bool.{Bool, true, false, not, _&&_, false≢true}
+use mathlib.Core.Bool.{Bool, true, not}
 use mathlib.Core.List.{List}
 use lib.Dec.{eqb, ltb}
 use lib.ListN.{length, getD}
-use Rattle.laws.specs.Exactly.{Exactly, exactly-same, exactly-holds, below-exactly}
-use Rattle.laws.specs.First.{First, fails, holds}
+use Rattle.laws.specs.Exactly.{Exactly, exactly-same, below-exactly}
+use Rattle.laws.specs.First.{First, fails, holds, first-pick}
 use Rattle.laws.specs.Search.{pick}
 use Rattle.laws.specs.Numbers.{getD-numbered}
 use Rattle.kinds.specs.declared.Counts.{Counts}
@@ -30,19 +30,6 @@ pub record HasRoom (used : List ℕ) (t : ℕ) : Type 0 where
 
 pub record Judges (held : Held) (f : Frame) (n : ℕ) : Type 0 where
   pub by : (before : List Frame) → held ≡ heldOf before → Judged before f n
-
--- a test, and what the rest answers where it passes
-pub first-pick : {P : Type 0} (n m : ℕ) (Rest : ℕ → Type 0) (b : Bool) → Exactly b P → Rest m → First P n Rest (pick b m n)
-first-pick n m Rest true h r = holds (h .holds refl) r
-first-pick n m Rest false h r = fails (λ p. false≢true (h .shows p))
-
--- two tests at once
-pub exactly-both : {P Q : Type 0} (a b : Bool) → Exactly a P → Exactly b Q → Exactly (a && b) (P × Q)
-exactly-both true b h k = exactly-same k (λ q. (h .holds refl, q)) (λ w. w .1)
-exactly-both false b h k = record { holds = λ e. absurd (false≢true e); shows = λ w. h .shows (w .0) }
-
-pub exactly-three : {P Q R : Type 0} (a b d : Bool) → Exactly a P → Exactly b Q → Exactly d R → Exactly ((a && b) && d) (P × Q × R)
-exactly-three a b d h k l = exactly-same (exactly-both (a && b) d (exactly-both a b h k) l) (λ w. (w .0 .0, w .0 .1, w .1)) (λ w. ((w .0, w .1), w .2))
 
 -- the code's `!=` tests that two individuals differ
 pub ends-exactly : (a b : Individual) → Exactly (not (eqb (a .0) (b .0))) (a ≡ b → ⊥)

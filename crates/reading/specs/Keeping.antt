@@ -1,16 +1,12 @@
 -- Keeping a frame that is taken: its record goes into the store, and what is held is brought up to it.
-use Prim.Native.Nat.{ℕ, zero, suc, _+_, _*_, _<_, _≤_}
-use mathlib.Core.Path.{_≡_, refl, sym, ap, _∙_, subst}
-use mathlib.Core.Bool.{Bool, true, false}
-use mathlib.Core.List.{List, [], _∷_, _++_, append-nil}
+use Prim.Native.Nat.{ℕ, zero, suc, _+_, _*_, _<_}
+use mathlib.Core.Path.{_≡_, refl, sym, subst}
+use mathlib.Core.List.{List, [], _∷_}
 use lib.Dec.{eqb}
-use lib.ListN.{length, getD, take, drop, set, length-set, length-append}
-use lib.Seq.{paste, getD-take, getD-set-same, getD-set-other, ext-getD, take-length}
-use native.Mathlib.Nat.{mul-zero}
+use lib.ListN.{length, getD, take, set}
+use lib.Seq.{paste}
 use native.Mathlib.Omega.{arith}
-use borrow.Author.Tests.{eqb-true, eqb-false}
 use Rattle.laws.specs.Search.{pick}
-use Rattle.laws.specs.Numbers.{numbered, length-numbered, getD-numbered}
 use Rattle.kinds.specs.declared.Counts.{Counts}
 use Rattle.kinds.specs.declared.Concept.{Concept}
 use Rattle.kinds.specs.declared.Concept.the-variants.{Name, Exists}
@@ -20,12 +16,10 @@ use Rattle.frames.specs.declared.Frame.{Frame}
 use Rattle.frames.specs.declared.Frame.the-variants.{BadLine, BadFrame, Declared, ConceptRule, ConceptExclusion, RoleRule, RoleExclusion, ConceptFact, RoleFact, RoleStep, TestStep, Final, Ask, Allowance}
 use Rattle.reading.specs.declared.Held.{Held}
 use Rattle.reading.specs.declared.Row.{Row}
-use Rattle.reading.specs.Tables.{tableOf, recordOf, width, most, entries, table, countsAt, declaredBy, allowanceOf}
-use Rattle.reading.specs.TableLaws.{entries-more, table-more, record-width, table-length}
+use Rattle.reading.specs.Tables.{tableOf, recordOf, width, most, entries, table, countsAt, declaredBy}
 use Rattle.reading.specs.Reading.{Begun, Into, Judged}
-use Rattle.reading.specs.ReadingLaws.{passed}
-use Rattle.reading.specs.Store.{place, tableCount, storeLength, spot, shelved, heldOf}
-use Rattle.reading.specs.StoreLaws.{table-below}
+use Rattle.laws.specs.First.{first-passed}
+use Rattle.reading.specs.Store.{place, tableCount, storeLength}
 
 -- a frame whose concepts have numbers of 16 bits
 abbrev pub SmallConcepts : Concept → Concept → Type 0
@@ -105,10 +99,10 @@ concepts-small c k C D h = (concept-small c k C (h .0), concept-small c k D (h .
 
 module _ (before : List Frame) where
   begun : (t : ℕ) {rest : ℕ → Type 0} → Into before t rest 0 → Begun before
-  begun t h = passed h (λ e. omega arith) .0
+  begun t h = first-passed h (λ e. omega arith) .0
 
   rest-of : (t : ℕ) {rest : ℕ → Type 0} → Into before t rest 0 → rest 0
-  rest-of t h = passed (passed h (λ e. omega arith) .1) (λ e. omega arith) .1
+  rest-of t h = first-passed (first-passed h (λ e. omega arith) .1) (λ e. omega arith) .1
 
   -- a frame of a table whose numbers are small in any case
   plainly : (f : Frame) (t : ℕ) {rest : ℕ → Type 0} → Into before t rest 0 → (tableOf f ≡ 1 → ⊥) → (tableOf f ≡ 11 → ⊥) → (tableOf f ≡ 12 → ⊥) → Small f → Taking before f
@@ -118,12 +112,12 @@ module _ (before : List Frame) where
   taking BadLine h = absurd (omega (arith, h))
   taking BadFrame h = absurd (omega (arith, h))
   taking (Declared c) h =
-      let w = passed h (λ e. omega arith) in
-      line-one c refl (w .0) (passed (w .1) (λ e. omega arith) .0)
+      let w = first-passed h (λ e. omega arith) in
+      line-one c refl (w .0) (first-passed (w .1) (λ e. omega arith) .0)
   taking (ConceptRule C D) h =
-      later (begun 2 h) (λ e. omega arith) (λ e. absurd (omega arith)) (λ k. concepts-small (declaredBy before) k C D (passed (rest-of 2 h) (λ e. omega arith) .0)) (λ k e. absurd (omega arith))
+      later (begun 2 h) (λ e. omega arith) (λ e. absurd (omega arith)) (λ k. concepts-small (declaredBy before) k C D (first-passed (rest-of 2 h) (λ e. omega arith) .0)) (λ k e. absurd (omega arith))
   taking (ConceptExclusion C D) h =
-      later (begun 3 h) (λ e. omega arith) (λ e. absurd (omega arith)) (λ k. concepts-small (declaredBy before) k C D (passed (rest-of 3 h) (λ e. omega arith) .0)) (λ k e. absurd (omega arith))
+      later (begun 3 h) (λ e. omega arith) (λ e. absurd (omega arith)) (λ k. concepts-small (declaredBy before) k C D (first-passed (rest-of 3 h) (λ e. omega arith) .0)) (λ k e. absurd (omega arith))
   taking (RoleRule R S) h = plainly (RoleRule R S) 4 h (λ e. omega arith) (λ e. omega arith) (λ e. omega arith) tt
   taking (RoleExclusion R S) h = plainly (RoleExclusion R S) 5 h (λ e. omega arith) (λ e. omega arith) (λ e. omega arith) tt
   taking (ConceptFact A a) h = plainly (ConceptFact A a) 6 h (λ e. omega arith) (λ e. omega arith) (λ e. omega arith) tt
@@ -132,10 +126,10 @@ module _ (before : List Frame) where
   taking (TestStep s A t) h = plainly (TestStep s A t) 8 h (λ e. omega arith) (λ e. omega arith) (λ e. omega arith) tt
   taking (Final s) h = plainly (Final s) 10 h (λ e. omega arith) (λ e. omega arith) (λ e. omega arith) tt
   taking (Ask a b) h =
-      let w = passed (rest-of 11 h) (λ e. omega arith) .0 in
+      let w = first-passed (rest-of 11 h) (λ e. omega arith) .0 in
       later (begun 11 h) (λ e. omega arith) (λ e. absurd (omega arith)) (λ k. tt) (λ k e. two-bytes (a .0) (b .0) (omega (arith, w .0, k .individuals)) (omega (arith, w .1, k .individuals)))
   taking (Allowance n) h =
-      let w = passed h (λ e. omega arith) .0 in
+      let w = first-passed h (λ e. omega arith) .0 in
       later (w .0) (λ e. omega arith) (λ e. w .1) (λ k. tt) (λ k e. absurd (omega arith))
 
 -- the same frame by another name

@@ -12,18 +12,16 @@ use borrow.Author.Tests.{eq-eqb, ne-eqb, eqb-true, eqb-false}
 use Rattle.laws.specs.First.{First, fails, holds}
 use Rattle.laws.specs.Search.{pick}
 use Rattle.laws.specs.Numbers.{numbered, length-numbered, getD-numbered}
-use Rattle.kinds.specs.declared.Counts.{Counts}
 use Rattle.kinds.specs.Kinds.{CountsFit}
 use Rattle.frames.specs.declared.Frame.{Frame}
-use Rattle.frames.specs.declared.Frame.the-variants.{Declared}
 use Rattle.reading.specs.declared.Held.{Held}
 use Rattle.reading.specs.declared.Row.{Row}
-use Rattle.reading.specs.Tables.{tableOf, recordOf, width, most, entries, table, countsAt, declaredBy, usualAllowance, allowanceOf}
+use Rattle.reading.specs.Tables.{tableOf, recordOf, width, entries, table, countsAt, declaredBy, usualAllowance, allowanceOf}
 use Rattle.reading.specs.TableLaws.{entries-more, table-more, record-width, table-length, Within, within-none}
-use Rattle.reading.specs.Reading.{Taken, Begun, Judged, Result, faulty, framesOf, Reading}
+use Rattle.reading.specs.Reading.{Begun, Judged, Result, faulty, framesOf, Reading}
 use Rattle.reading.specs.ReadingLaws.{taken-room, within-more}
-use Rattle.reading.specs.Store.{place, tableCount, storeLength, spot, shelved, shelve, heldOf}
-use Rattle.reading.specs.StoreLaws.{table-below, shelved-length}
+use Rattle.reading.specs.Store.{place, tableCount, storeLength, shelved, heldOf}
+use Rattle.reading.specs.StoreLaws.{table-below}
 use Rattle.reading.specs.Keeping.{Bytes, Small, RowOf, keptCounts, keptAllowance, keptHeld, Keepable, Keeps, Taking, line-one, later, taking}
 
 -- a file read so far: no table above its most, counts that fit, and asks of bytes

@@ -1,7 +1,6 @@
 pub mod Lines
 pub mod Tables
 pub mod Reading
-pub mod Pasted
 pub mod Store
 pub mod TableLaws
 pub mod StoreLaws

@@ -1,6 +1,6 @@
 -- The first 467,155 bytes of an input decide what reading finds: a sound file has at most 7,186 lines of at most 64 characters and their ends.
 use Prim.Native.Nat.{ℕ, zero, suc, _+_, _-_, _*_, _<_, _≤_}
-use mathlib.Core.Path.{_≡_, refl, sym, ap, _∙_, subst}
+use mathlib.Core.Path.{_≡_, refl, sym, ap, subst}
 use mathlib.Core.Bool.{Bool, true, false}
 use mathlib.Core.List.{List, [], _∷_, _++_}
 use lib.Dec.{eqb}
@@ -8,15 +8,15 @@ use lib.ListN.{length, getD, take, length-append}
 use lib.Seq.{take-all, take-append-add, take-take}
 use native.Mathlib.Omega.{arith}
 use borrow.Author.Tests.{eqb-true, eqb-false, ne-eqb}
-use Rattle.laws.specs.First.{First, fails, holds}
-use Rattle.frames.specs.Digits.{lineLength, LineOk}
+use Rattle.laws.specs.First.{fails, holds, first-onward}
+use Rattle.frames.specs.Digits.{lineLength}
 use Rattle.frames.specs.Frames.{FrameOf}
 use Rattle.frames.specs.declared.Frame.{Frame}
 use Rattle.frames.specs.declared.Frame.the-variants.{BadLine}
 use Rattle.reading.specs.Lines.{newline, longer, lines, Plain, no-lines, line-first, line-last}
 use Rattle.reading.specs.TableLaws.{Within, within-none, mostLines, within-lines}
-use Rattle.reading.specs.Reading.{Taken, Judged, Result, Reading}
-use Rattle.reading.specs.ReadingLaws.{onward, within-more}
+use Rattle.reading.specs.Reading.{Result, Reading}
+use Rattle.reading.specs.ReadingLaws.{within-more}
 
 -- the bytes of a line of the most characters and its end
 abbrev pub lineBytes : ℕ
@@ -54,11 +54,11 @@ module _ (q : Result) where
   reading-alike far before w h x = absurd (omega (arith, within-lines before w))
   reading-alike ended before w h x = x
   reading-alike (same l a) before w h (f, n, o, j, x) =
-      (f, n, o, j, onward (λ t y. reading-alike a (before ++ f ∷ []) (within-more before w f (rw t at j)) (omega (arith, length-append before (f ∷ []))) y) x)
+      (f, n, o, j, first-onward (λ t y. reading-alike a (before ++ f ∷ []) (within-more before w f (rw t at j)) (omega (arith, length-append before (f ∷ []))) y) x)
   reading-alike (long {ls = ls} {ms = ms} l m h k) before w u (f, n, o, j, x) =
       let e = long-line l f h o in
       let d : n ≡ 9 = rw e at j in
-      (BadLine, n, long-bad m k, d, onward (λ t y. absurd (omega arith)) x)
+      (BadLine, n, long-bad m k, d, first-onward (λ t y. absurd (omega arith)) x)
 
 -- the start of an input, looked at for k characters: a line that ends, a last line, or a line that is longer
 data Scanned (k : ℕ) (x : List ℕ) : Type 0 where

@@ -1,20 +1,20 @@
 -- A frame is judged in one way, reading finds one result, and no table is ever above its most.
 use Prim.Native.Nat.{ℕ, _+_, _<_, _≤_}
-use mathlib.Core.Path.{_≡_, refl, sym, ap, _∙_, subst}
+use mathlib.Core.Path.{_≡_, refl, sym, _∙_}
 use mathlib.Core.Bool.{Bool, true, false}
 use mathlib.Core.List.{List, [], _∷_, _++_}
 use lib.Dec.{eqb}
 use lib.ListN.{length}
 use native.Mathlib.Omega.{arith}
 use borrow.Author.Tests.{eqb-true}
-use Rattle.laws.specs.First.{First, fails, holds, first-once}
+use Rattle.laws.specs.First.{first-once, first-passed}
 use Rattle.laws.specs.Search.{pick}
-use Rattle.frames.specs.Frames.{FrameOf, frame-once}
+use Rattle.frames.specs.Frames.{frame-once}
 use Rattle.frames.specs.declared.Frame.{Frame}
 use Rattle.frames.specs.declared.Frame.the-variants.{BadLine, BadFrame, Declared, ConceptRule, ConceptExclusion, RoleRule, RoleExclusion, ConceptFact, RoleFact, RoleStep, TestStep, Final, Ask, Allowance}
 use Rattle.reading.specs.Tables.{tableOf, most, entries}
-use Rattle.reading.specs.TableLaws.{entries-more, Within, within-lines, mostLines}
-use Rattle.reading.specs.Reading.{Taken, Begun, Into, Judged, Result, faulty, sound, Reading}
+use Rattle.reading.specs.TableLaws.{entries-more, Within}
+use Rattle.reading.specs.Reading.{Taken, Into, Judged, Result, Reading}
 
 module _ (before : List Frame) where
   once : (n m : ℕ) → Taken n → Taken m → n ≡ m
@@ -47,26 +47,16 @@ reading-once (l ∷ ls) before r q (f, n, m, j, h) (g, i, o, u, k) =
     let d : n ≡ i = judged-once before g n i (rw e at j) u in
     first-once (reading-once ls (before ++ g ∷ [])) r q (rw (e, d) at h) k
 
--- a condition whose own answer was not given holds
-pub passed : {A : Type 0} {P : Type 0} {answer : A} {Rest : A → Type 0} {r : A} → First P answer Rest r → (answer ≡ r → ⊥) → P × Rest r
-passed (fails a) n = absurd (n refl)
-passed (holds a h) n = (a, h)
-
--- what the rest answers, under the condition, may be put in other words
-pub onward : {A : Type 0} {P : Type 0} {answer : A} {Rest Other : A → Type 0} {r : A} → (P → Rest r → Other r) → First P answer Rest r → First P answer Other r
-onward go (fails a) = fails a
-onward go (holds a h) = holds a (go a h)
-
 -- a frame that is taken had room in its table
 module _ (before : List Frame) where
   into-room : (t : ℕ) {rest : ℕ → Type 0} → Into before t rest 0 → entries t before < most t
-  into-room t h = passed (passed h (λ e. omega arith) .1) (λ e. omega arith) .0
+  into-room t h = first-passed (first-passed h (λ e. omega arith) .1) (λ e. omega arith) .0
 
   pub taken-room : (f : Frame) → Judged before f 0 → entries (tableOf f) before < most (tableOf f)
   unfolding entries most
   taken-room BadLine h = absurd (omega (arith, h))
   taken-room BadFrame h = absurd (omega (arith, h))
-  taken-room (Declared c) h = empty before (passed h (λ e. omega arith) .0)
+  taken-room (Declared c) h = empty before (first-passed h (λ e. omega arith) .0)
     where
       empty : (fs : List Frame) → length fs ≡ 0 → entries 1 fs < most 1
       empty [] e = omega arith
@@ -81,7 +71,7 @@ module _ (before : List Frame) where
   taken-room (TestStep s A t) h = into-room 8 h
   taken-room (Final s) h = into-room 10 h
   taken-room (Ask a b) h = into-room 11 h
-  taken-room (Allowance n) h = one (passed h (λ e. omega arith) .0 .1)
+  taken-room (Allowance n) h = one (first-passed h (λ e. omega arith) .0 .1)
     where
       one : entries 12 before ≡ 0 → entries 12 before < most 12
       one e = omega arith

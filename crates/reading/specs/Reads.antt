@@ -1,10 +1,10 @@
 -- Reading a whole input into the store: what comes back and what the store then holds, for every input and every store.
-use Prim.Native.Nat.{ℕ, zero, suc, _+_, _-_, _*_, _<_, _≤_}
-use mathlib.Core.Path.{_≡_, refl, sym, ap, _∙_, subst}
+use Prim.Native.Nat.{ℕ, suc, _+_, _-_, _*_, _<_, _≤_}
+use mathlib.Core.Path.{_≡_, refl, sym, ap, _∙_}
 use mathlib.Core.Logic.{_⊎_, inl, inr}
 use mathlib.Core.List.{List, [], _∷_, _++_}
 use lib.ListN.{length, getD, take, drop, drop-of-length-le, length-drop}
-use lib.Seq.{take-all, getD-take, getD-drop, split-at, drop-drop, drop-cons, length-take-le}
+use lib.Seq.{take-all, getD-take, getD-drop, split-at, drop-drop, length-take-le}
 use native.Mathlib.Nat.{eq-or-lt-of-le}
 use native.Mathlib.Omega.{arith}
 use Rattle.laws.specs.First.{First, fails, holds, first-once}
@@ -14,7 +14,7 @@ use Rattle.reading.specs.declared.Held.{Held}
 use Rattle.reading.specs.declared.Read.{Read}
 use Rattle.reading.specs.Lines.{newline, lines, Plain, no-lines, line-first, line-last}
 use Rattle.reading.specs.Tables.{width, most}
-use Rattle.reading.specs.TableLaws.{mostLines, within-lines}
+use Rattle.reading.specs.TableLaws.{within-lines}
 use Rattle.reading.specs.Reading.{Judged, Result, faulty, sound, framesOf, Reading}
 use Rattle.reading.specs.ReadingLaws.{reading-once}
 use Rattle.reading.specs.Store.{place, tableCount, storeLength, shelved, shelve, heldOf}

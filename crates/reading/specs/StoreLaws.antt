@@ -5,8 +5,8 @@ use mathlib.Core.Logic.{_⊎_, inl, inr}
 use mathlib.Core.Bool.{Bool, true, false}
 use mathlib.Core.List.{List, [], _∷_, _++_, append-assoc, append-nil}
 use lib.Dec.{T, eqb, ltb, leb}
-use lib.ListN.{length, getD, take, drop, length-append, length-drop, List·getD-append}
-use lib.Seq.{paste, length-paste, getD-append-add, getD-take, getD-drop, ext-getD, length-take-le}
+use lib.ListN.{length, getD, take, drop, length-drop, List·getD-append}
+use lib.Seq.{length-paste, getD-append-add, getD-take, getD-drop, ext-getD, length-take-le}
 use native.Mathlib.Nat.{eq-or-lt-of-le, mul-le-mul-left, mul-suc, mul-zero, add-zero}
 use native.Mathlib.Numerals.{add-one}
 use native.Mathlib.Omega.{arith}
@@ -16,7 +16,7 @@ use Rattle.frames.specs.declared.Frame.{Frame}
 use Rattle.frames.specs.declared.Frame.the-variants.{BadLine, BadFrame, Declared, ConceptRule, ConceptExclusion, RoleRule, RoleExclusion, ConceptFact, RoleFact, RoleStep, TestStep, Final, Ask, Allowance}
 use Rattle.reading.specs.Tables.{tableOf, recordOf, widths, width, mosts, most, entries, table}
 use Rattle.reading.specs.TableLaws.{entries-more, table-more, record-width, table-length, Within}
-use Rattle.reading.specs.Pasted.{paste-before, paste-within, paste-after}
+use Rattle.laws.specs.Pasted.{paste-before, paste-within, paste-after}
 use Rattle.reading.specs.Store.{place, tableCount, storeLength, spot, shelved, shelve}
 
 either : (a b : ℕ) → (a < b) ⊎ (b ≤ a)

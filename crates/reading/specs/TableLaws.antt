@@ -1,10 +1,10 @@
 -- Laws of a file's tables: one more frame, whole records, and how many frames a file can have.
-use Prim.Native.Nat.{ℕ, zero, suc, _+_, _*_, _<_, _≤_}
+use Prim.Native.Nat.{ℕ, suc, _+_, _*_, _≤_}
 use mathlib.Core.Path.{_≡_, refl, sym, ap, ap₂, _∙_}
 use mathlib.Core.Bool.{Bool, true, false}
 use mathlib.Core.List.{List, [], _∷_, _++_, append-assoc, append-nil}
 use lib.Dec.{eqb}
-use lib.ListN.{length, getD, length-append}
+use lib.ListN.{length, length-append}
 use native.Mathlib.Nat.{mul-one, mul-zero, mul-add}
 use native.Mathlib.Omega.{arith}
 use borrow.Author.Tests.{eqb-true}

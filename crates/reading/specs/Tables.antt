@@ -1,8 +1,8 @@
 -- The tables of a file: each frame adds a record to the table of its kind. Both kinds of step stand in one table.
-use Prim.Native.Nat.{ℕ, _+_, _*_}
+use Prim.Native.Nat.{ℕ, _+_}
 use mathlib.Core.List.{List, [], _∷_, _++_}
 use lib.Dec.{eqb}
-use lib.ListN.{length, getD}
+use lib.ListN.{getD}
 use Rattle.kinds.specs.declared.Counts.{Counts}
 use Rattle.kinds.specs.declared.Individual.{Individual}
 use Rattle.kinds.specs.Kinds.{individual, state, numberOf}

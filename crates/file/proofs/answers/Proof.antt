@@ -1,8 +1,15 @@
 -- `answers` meets its contract: what it reads from the store are the file's tables.
+use mathlib.Core.Path.{refl}
 use borrow.Author.Needs.{needs}
-use Rattle.file.specs.Replying.{few-asks, answers-all}
+use Rattle.file.specs.Replying.{few-asks, answers-none, answers-all}
 use Rattle.file.proofs.answers.Statement.{statement}
 use Rattle.file.proofs.answers.Tie as tie
+
+array-read-if1 : tie.Need-array-read-if1
+array-read-if1 c = search needs
+
+returns : tie.Need-returns
+returns c = record { by = λ w. answers-none w (c .if1 .taken) _ refl }
 
 table-requires : tie.Need-table-requires
 table-requires c κs = search needs
@@ -47,10 +54,10 @@ table-requires-9 : tie.Need-table-requires-9
 table-requires-9 c κs = search needs
 
 replies-requires : tie.Need-replies-requires
-replies-requires c κs = few-asks (c .before .before .before .before .before .before .before .before .before .before .before .before .before .before .before .before .before .before .before .pre) _ (c .table9 .ensures)
+replies-requires c κs = few-asks (c .before .before .before .before .before .before .before .before .before .before .before .before .before .before .before .before .before .before .before .before .pre) _ (c .table9 .ensures)
 
-returns : tie.Need-returns
-returns c =
+returns-2 : tie.Need-returns-2
+returns-2 c =
     let t = c .before in
     let q = t .before .before .before in
     let u = q .before .before .before in
@@ -62,6 +69,8 @@ pub answers-spec : {M : Type 1} → statement M
 answers-spec =
     tie.close
     (tie.spec
+    array-read-if1
+    returns
     table-requires
     table-requires-2
     area-requires
@@ -77,4 +86,4 @@ answers-spec =
     prepare-requires
     table-requires-9
     replies-requires
-    returns)
+    returns-2)

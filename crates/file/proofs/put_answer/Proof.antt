@@ -1,6 +1,4 @@
 -- `put_answer` meets its contract.
-use mathlib.Core.Path.{refl, _∙_}
-use native.Mathlib.Omega.{arith}
 use borrow.Author.Needs.{needs}
 use Rattle.file.specs.Text.{text}
 use Rattle.file.proofs.put_answer.Statement.{statement}

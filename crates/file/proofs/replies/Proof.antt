@@ -2,7 +2,6 @@
 use Prim.Native.Nat.{_+_, _-_, _*_}
 use mathlib.Core.Path.{refl, sym}
 use denote.Ref.{now}
-use native.Mathlib.Omega.{arith}
 use borrow.Author.Needs.{needs}
 use Rattle.file.specs.Replying.{Replying, first-at, replying-none, replying-length, replying-room, replying-more, replying-end}
 use Rattle.file.proofs.replies.Statement.{statement}

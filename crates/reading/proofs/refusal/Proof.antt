@@ -1,27 +1,16 @@
-use borrow.Author.Needs.{needs}
-use borrow.Author.Tests.{ltb-true, ltb-false, not-true, not-false}
-use native.Mathlib.Omega.{arith}
-use Rattle.kinds.specs.Kinds.{StateDeclared, IndividualDeclared}
+-- `refusal` meets its contract: in each arm the tests of the frame's kind, in the order of their numbers.
 use mathlib.Core.Path.{_≡_, refl}
 use mathlib.Core.Bool.{true, false}
-use Rattle.laws.specs.Exactly.{exactly-holds, exactly-never}
-use Rattle.laws.specs.Decide.{exactly-not}
-use Rattle.meaning.specs.Collection.{role, test, step, ConceptsDeclared, RolesDeclared, ConceptFactDeclared, RoleFactDeclared, StepDeclared}
-use Rattle.reading.specs.Judging.{exactly-both, exactly-three, ends-exactly, judges-told, judges-declared, judges-ends, judges-asked, judges-again, judges-counts, judges-early, judges-allowance}
+use native.Mathlib.Omega.{arith}
 use borrow.Author.Needs.{needs}
+use borrow.Author.Tests.{ltb-true, ltb-false, not-true, not-false}
+use Rattle.kinds.specs.Kinds.{StateDeclared, IndividualDeclared}
+use Rattle.laws.specs.Exactly.{exactly-holds, exactly-never}
+use Rattle.laws.specs.Decide.{exactly-not, exactly-both, exactly-three}
+use Rattle.meaning.specs.Collection.{role, test, step, ConceptsDeclared, RolesDeclared, ConceptFactDeclared, RoleFactDeclared, StepDeclared}
+use Rattle.reading.specs.Judging.{ends-exactly, judges-told, judges-declared, judges-ends, judges-asked, judges-again, judges-counts, judges-early, judges-allowance}
 use Rattle.reading.proofs.refusal.Statement.{statement}
 use Rattle.reading.proofs.refusal.Tie as tie
-use Rattle.reading.proofs.refusal.Reads as reads
-use Rattle.reading.proofs.refusal.Lts as lts
-use Rattle.kinds.proofs.Concept.declared.Reads as Concept-declared-reads
-use Rattle.kinds.proofs.ConceptName.declared.Reads as ConceptName-declared-reads
-use Rattle.kinds.proofs.Counts.fit.Reads as fit-reads
-use Rattle.kinds.proofs.Individual.declared.Reads as Individual-declared-reads
-use Rattle.kinds.proofs.RoleName.declared.Reads as RoleName-declared-reads
-use Rattle.kinds.proofs.SignedRole.declared.Reads as SignedRole-declared-reads
-use Rattle.kinds.proofs.State.declared.Reads as State-declared-reads
-use Rattle.reading.proofs.has_room.Reads as has-room-reads
-use Rattle.reading.proofs.judge.Reads as judge-reads
 
 enum-told : tie.Need-enum-told
 enum-told c = search needs
