@@ -21,8 +21,9 @@ pub fn lent(dice: &mut Dice) -> Lent {
         0..=449 => ("small", small(dice)),
         450..=529 => ("medium", medium(dice)),
         530..=549 => ("full", full(dice)),
-        550..=554 => ("many rounds", some_many_rounds(dice)),
-        555..=599 => ("wild", small(dice)),
+        // few, since under an emulator each takes seconds
+        550..=551 => ("many rounds", some_many_rounds(dice)),
+        552..=599 => ("wild", small(dice)),
         _ => ("damaged", small(dice)),
     };
     let fills = [dice.below(256) as u8, dice.below(256) as u8];

@@ -26,10 +26,11 @@ pub type Outcome = Result<(), Difference>;
 fn desk_case(dice: &mut Dice, tally: &mut Tally) -> (Vec<u8>, Option<Damaged>) {
     type Make = fn(&mut Dice) -> Asked;
     let (kind, sound): (&str, Option<Make>) = match dice.below(1_000) {
-        0..=399 => ("small", Some(small)),
-        400..=469 => ("medium", Some(medium)),
-        470..=489 => ("full", Some(full)),
-        490..=499 => ("many rounds", Some(some_many_rounds)),
+        0..=405 => ("small", Some(small)),
+        406..=475 => ("medium", Some(medium)),
+        476..=495 => ("full", Some(full)),
+        // few, since under an emulator each takes seconds
+        496..=499 => ("many rounds", Some(some_many_rounds)),
         500..=514 => ("long", None),
         _ => ("damaged", None),
     };
