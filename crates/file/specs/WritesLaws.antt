@@ -9,16 +9,12 @@ use Rattle.frames.specs.declared.Frame.{Frame}
 use Rattle.reading.specs.Lines.{lines}
 use Rattle.reading.specs.Tables.{entries, asked, askedFirst, askedSecond}
 use Rattle.reading.specs.TableLaws.{mostLines, within-lines}
-use Rattle.reading.specs.Reading.{Result, faulty, sound, framesOf, lineAfter, Reading}
+use Rattle.reading.specs.Reading.{Result, faulty, sound, framesOf, refusalOf, lineAfter, Reading}
 use Rattle.reading.specs.ReadingLaws.{reading-once}
 use Rattle.reading.specs.Prefix.{mostBytes, reading-start, reading-whole}
 use Rattle.reading.specs.Kept.{sound-none, reading-sound}
 use Rattle.file.specs.Text.{answerLine}
 use Rattle.file.specs.Writes.{Answers, Answered, Writes, fault, answers}
-
-numberIn : Result → ℕ
-numberIn (faulty before n) = n
-numberIn (sound fs) = 0
 
 -- a fault is no sound file
 isSound : Result → ℕ
@@ -39,11 +35,11 @@ module _ (fs : List Frame) where
 module _ {input : List ℕ} where
   -- THEOREM: an input writes one text
   pub writes-once : {x y : List ℕ} → Writes input x → Writes input y → x ≡ y
-  unfolding numberIn isSound
+  unfolding isSound
   writes-once (fault f n h) (fault g m k) =
       let e = reading-once (lines input) [] (faulty f n) (faulty g m) h k in
       let d : f ≡ g = ap framesOf e in
-      let i : n ≡ m = ap numberIn e in
+      let i : n ≡ m = ap refusalOf e in
       rw (d, i) refl
   writes-once (fault f n h) (answers g y k b) = absurd (omega (arith, ap isSound (reading-once (lines input) [] (faulty f n) (sound g) h k)))
   writes-once (answers f x h a) (fault g m k) = absurd (omega (arith, ap isSound (reading-once (lines input) [] (sound f) (faulty g m) h k)))

@@ -55,6 +55,10 @@ abbrev pub framesOf : Result → List Frame
 framesOf (faulty before n) = before
 framesOf (sound fs) = fs
 
+abbrev pub refusalOf : Result → ℕ
+refusalOf (faulty before n) = n
+refusalOf (sound fs) = 0
+
 -- the faulty line is the one after those frames, counted from 1
 abbrev pub lineAfter : List Frame → ℕ
 lineAfter before = length before + 1

@@ -15,7 +15,7 @@ use Rattle.reading.specs.declared.Read.{Read}
 use Rattle.reading.specs.Lines.{newline, lines, Plain, no-lines, line-first, line-last}
 use Rattle.reading.specs.Tables.{width, most}
 use Rattle.reading.specs.TableLaws.{within-lines}
-use Rattle.reading.specs.Reading.{Judged, Result, faulty, sound, framesOf, Reading}
+use Rattle.reading.specs.Reading.{Judged, Result, faulty, sound, framesOf, refusalOf, Reading}
 use Rattle.reading.specs.ReadingLaws.{reading-once}
 use Rattle.reading.specs.Store.{place, tableCount, storeLength, shelved, shelve, heldOf}
 use Rattle.reading.specs.StoreLaws.{shelve-more, shelve-length}
@@ -31,12 +31,7 @@ pub data Reads (input old : List ℕ) : Read → List ℕ → Type 0 where
   whole : (fs : List Frame) → length old ≡ storeLength → Reading [] (lines input) (sound fs) → Reads input old (readAs fs 0) (shelve old [] fs)
 
 -- THEOREM: two outcomes of reading an input into a store are equal
-refusalOf : Result → ℕ
-refusalOf (faulty before n) = n
-refusalOf (sound fs) = 0
-
 pub reads-once : {input old : List ℕ} {r q : Read} {x y : List ℕ} → Reads input old r x → Reads input old q y → (r ≡ q) × (x ≡ y)
-unfolding refusalOf
 reads-once (no-store a) (no-store b) = (refl, refl)
 reads-once (no-store a) (refused g m l n h) = absurd (a l)
 reads-once (no-store a) (whole g l h) = absurd (a l)
