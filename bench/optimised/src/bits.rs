@@ -3,47 +3,26 @@
 /// The places of the ones, lowest first.
 pub struct Places<T>(pub T);
 
-impl Iterator for Places<u16> {
-    type Item = usize;
+/// One iterator, at each width that is used.
+macro_rules! places {
+    ($($width:ty),*) => {$(
+        impl Iterator for Places<$width> {
+            type Item = usize;
 
-    #[inline(always)]
-    fn next(&mut self) -> Option<usize> {
-        if self.0 == 0 {
-            return None;
+            #[inline(always)]
+            fn next(&mut self) -> Option<usize> {
+                if self.0 == 0 {
+                    return None;
+                }
+                let place = self.0.trailing_zeros() as usize;
+                self.0 &= self.0 - 1;
+                Some(place)
+            }
         }
-        let place = self.0.trailing_zeros() as usize;
-        self.0 &= self.0 - 1;
-        Some(place)
-    }
+    )*};
 }
 
-impl Iterator for Places<u64> {
-    type Item = usize;
-
-    #[inline(always)]
-    fn next(&mut self) -> Option<usize> {
-        if self.0 == 0 {
-            return None;
-        }
-        let place = self.0.trailing_zeros() as usize;
-        self.0 &= self.0 - 1;
-        Some(place)
-    }
-}
-
-impl Iterator for Places<u128> {
-    type Item = usize;
-
-    #[inline(always)]
-    fn next(&mut self) -> Option<usize> {
-        if self.0 == 0 {
-            return None;
-        }
-        let place = self.0.trailing_zeros() as usize;
-        self.0 &= self.0 - 1;
-        Some(place)
-    }
-}
+places!(u16, u64, u128);
 
 /// Bit t of row s: from state s to state t.
 #[derive(Clone, Copy, PartialEq, Eq)]

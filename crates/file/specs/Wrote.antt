@@ -8,7 +8,7 @@ use Rattle.frames.specs.declared.Frame.{Frame}
 use Rattle.reading.specs.declared.Read.{Read}
 use Rattle.reading.specs.Lines.{lines}
 use Rattle.reading.specs.Tables.{most, entries, askedFirst, askedSecond}
-use Rattle.reading.specs.Reading.{sound, lineAfter}
+use Rattle.reading.specs.Reading.{sound, lineAfter, Reading}
 use Rattle.reading.specs.Store.{storeLength, shelve, heldOf}
 use Rattle.reading.specs.StoreLaws.{store-length}
 use Rattle.reading.specs.Kept.{sound-none, reading-sound}
@@ -48,17 +48,20 @@ wrote-fault long (no-store n) h q o = absurd (n long)
 wrote-fault long (refused before n l z k) h q o = record { text = faultLine (lineAfter before) n; writes = fault before n k; holds = o }
 wrote-fault long (whole fs l k) h q o = absurd (h refl)
 
+-- a sound file, all of it held and stored
+abbrev wholly : (input old : List ℕ) (fs : List Frame) → length old ≡ storeLength → Reading [] (lines input) (sound fs) → Shelved (heldOf fs) (shelve old [] fs)
+wholly input old fs l k = record { frames = fs; old = old; sound = reading-sound (lines input) [] (sound fs) sound-none k; holds = refl; long = l; stored = refl }
+
 pub shelved : {input old : List ℕ} {r : Read} {new : List ℕ} → length old ≡ storeLength → Reads input old r new → r .number ≡ 0 → Shelved (r .held) new
 shelved long (no-store n) h = absurd (n long)
 shelved long (refused before n l z k) h = absurd (z h)
-shelved {input} {old} long (whole fs l k) h = record { frames = fs; old = old; sound = reading-sound (lines input) [] (sound fs) sound-none k; holds = refl; long = l; stored = refl }
+shelved {input} {old} long (whole fs l k) h = wholly input old fs l k
 
 pub wrote-answers : {input old : List ℕ} {r : Read} {new : List ℕ} → length old ≡ storeLength → Reads input old r new → r .number ≡ 0 → (q : Output) → AnswersAll (r .held) new q → Wrote input q
 wrote-answers long (no-store n) h q o = absurd (n long)
 wrote-answers long (refused before n l z k) h q o = absurd (z h)
 wrote-answers {input} {old} long (whole fs l k) h q o =
-    let w : Shelved (heldOf fs) (shelve old [] fs) = record { frames = fs; old = old; sound = reading-sound (lines input) [] (sound fs) sound-none k; holds = refl; long = l; stored = refl } in
-    let y = o .by w in
+    let y = o .by (wholly input old fs l k) in
     record { text = y .out; writes = answers fs (y .out) k (y .answered); holds = y .holds }
 
 -- THEOREM: an output is never longer than its room

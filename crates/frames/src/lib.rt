@@ -32,7 +32,7 @@ pub enum Frame {
 }
 
 // The characters of the longest line.
-pub const LINE: usize = 64;
+const LINE: usize = 64;
 
 // What each character is worth as a digit; 255 is no digit.
 const DIGITS: [u8; 256] = [
@@ -344,34 +344,34 @@ fn byte_at(line: &[u8], k: usize) -> u16
 }
 
 // A line and a place in it, counted in bytes.
-pub struct Reader<'a> {
-    pub line: &'a [u8],
-    pub at: usize,
+struct Reader<'a> {
+    line: &'a [u8],
+    at: usize,
 }
 
 // At a line's first byte.
-pub fn opened<'a>(line: &'a [u8]) -> Reader<'a>
+fn opened<'a>(line: &'a [u8]) -> Reader<'a>
     ensures { λ r. ⌜ (r .line ≡ line .entry) × (r .at ≡ 0) ⌝ }
 {
     Reader { line, at: 0 }
 }
 
 // The same line at another place.
-pub fn moved<'a>(r: Reader<'a>, at: usize) -> Reader<'a>
+fn moved<'a>(r: Reader<'a>, at: usize) -> Reader<'a>
     ensures { λ q. ⌜ (q .line ≡ r .entry .line) × (q .at ≡ at) ⌝ }
 {
     Reader { line: r.line, at }
 }
 
 // The byte at the reader's place, and 0 past the line's end.
-pub fn byte<'a>(r: Reader<'a>) -> u16
+fn byte<'a>(r: Reader<'a>) -> u16
     ensures { λ b. ⌜ b ≡ byteOf (now (r .entry .line)) (r .entry .at) ⌝ }
 {
     byte_at(r.line, r.at)
 }
 
 // Byte k of a line, read by a reader that is moved there.
-pub fn byte_of(line: &[u8], k: usize) -> u16
+fn byte_of(line: &[u8], k: usize) -> u16
     ensures { λ b. ⌜ b ≡ byteOf (now (line .entry)) k ⌝ }
 {
     byte(moved(opened(line), k))
