@@ -10,6 +10,8 @@ pub mod Lent
 pub mod Layout
 pub mod Outcome
 pub mod Cases
+-- What facts and rules force, in every world.
+pub mod Worlds
 -- Notions that they share: a run of moves, elements grown from roots.
 pub mod Run
 pub mod Tree
@@ -21,6 +23,7 @@ pub mod ModelWalk
 pub mod QuestionLaws
 pub mod Clash
 pub mod StraightBack
+pub mod Forced
 pub mod Larger
 pub mod Declared
 -- Calculation: the same as tests that compute, and that they say what the definitions say.
@@ -36,4 +39,5 @@ pub mod CalculateLaws
 -- What follows from both: one outcome for every input, the demands, the worked cases.
 pub mod OutcomeLaws
 pub mod Demands
+pub mod WorldsSay
 pub mod CasesHold
