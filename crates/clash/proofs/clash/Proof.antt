@@ -1,7 +1,7 @@
--- `clash` meets its contract: each search that finds something says yes; where three find nothing, the last decides.
+-- `clash` meets its contract: each search that finds something says yes; where two find nothing, the last decides.
 use Rattle.laws.specs.Exactly.{exactly-holds}
 use Rattle.laws.specs.Decide.{exactly-not}
-use Rattle.clash.specs.Parts.{by-named, by-unnamed, by-living, last-decides}
+use Rattle.clash.specs.Parts.{by-named, by-unnamed, last-decides}
 use borrow.Author.Needs.{needs}
 use Rattle.clash.proofs.clash.Statement.{statement}
 use Rattle.clash.proofs.clash.Tie as tie
@@ -18,22 +18,14 @@ unnamed-breaks-requires c κs = search needs
 returns-2 : tie.Need-returns-2
 returns-2 c = exactly-holds (by-unnamed (c .before .unnamed-breaks .ensures .holds (c .if2 .taken)))
 
-living-breaks-requires : tie.Need-living-breaks-requires
-living-breaks-requires c κs = search needs
+roles-break-requires : tie.Need-roles-break-requires
+roles-break-requires c κs = search needs
 
 returns-3 : tie.Need-returns-3
-returns-3 c = exactly-holds (by-living (c .before .living-breaks .ensures .holds (c .if3 .taken)))
-
-facts-break-requires : tie.Need-facts-break-requires
-facts-break-requires c κs = search needs
-
-returns-4 : tie.Need-returns-4
-returns-4 c =
-    let e3 = c .before in
-    let e2 = e3 .before .before in
+returns-3 c =
+    let e2 = c .before .before in
     let e1 = e2 .before .before in
-    last-decides (exactly-not (e1 .before .named-breaks .ensures) (e1 .if1 .left)) (exactly-not (e2 .before .unnamed-breaks .ensures) (e2 .if2 .left))
-    (exactly-not (e3 .before .living-breaks .ensures) (e3 .if3 .left)) (c .facts-break .ensures)
+    last-decides (exactly-not (e1 .before .named-breaks .ensures) (e1 .if1 .left)) (exactly-not (e2 .before .unnamed-breaks .ensures) (e2 .if2 .left)) (c .roles-break .ensures)
 
 pub clash-spec : {M : Type 1} → statement M
 clash-spec =
@@ -43,7 +35,5 @@ clash-spec =
     returns
     unnamed-breaks-requires
     returns-2
-    living-breaks-requires
-    returns-3
-    facts-break-requires
-    returns-4)
+    roles-break-requires
+    returns-3)
