@@ -1,3 +1,4 @@
+pub mod Puts
 pub mod Rules
 pub mod Turns
 pub mod Below

@@ -15,7 +15,8 @@ ghost use Rattle.meaning.specs.Layout.{areaLength, Lays};
 ghost use Rattle.sheet.specs.Data.{dataKind};
 ghost use Rattle.sheet.specs.Runs.{Runs, Ended};
 ghost use Rattle.sheet.specs.Places.{TestPlace, TestTurn, HangPlace, RoundPlace};
-ghost use Rattle.sheet.specs.Rules.{RowTurn, RowIf, JoinTurn, JoinVia, JoinPair, DownMeets, UpMeets, DownTable, Product, HangTurn};
+ghost use Rattle.sheet.specs.Puts.{Puts};
+ghost use Rattle.sheet.specs.Rules.{RowTurn, MarkAt, Filled, JoinTurn, JoinVia, JoinPair, Column, StateTurn, Product, PairAt, HangAt, HangTurn};
 use kinds::Concept;
 use kinds::ConceptName;
 use kinds::Counts;
@@ -48,16 +49,6 @@ fn add_row(new: &mut [u8], at: usize, row: [bool; 128])
     }
 }
 
-fn add_row_if(new: &mut [u8], at: usize, row: [bool; 128], on: bool)
-    requires { ⌜ at + 128 ≤ length (now new) ⌝ }
-    ensures { λ _. ⌜ Adds (RowIf at row on) (now (new .entry)) (now (new .exit)) ⌝ }
-{
-    if !on {
-        return;
-    }
-    add_row(new, at, row);
-}
-
 // A 1 wherever two rows of the old sheet both have a mark.
 fn join_rows(new: &mut [u8], old: &[u8], at: usize, i: usize, j: usize)
     requires { ⌜ (at + 128 ≤ length (now new)) × (i + 128 ≤ length (now old)) × (j + 128 ≤ length (now old)) ⌝ }
@@ -71,19 +62,45 @@ fn join_rows(new: &mut [u8], old: &[u8], at: usize, i: usize, j: usize)
     }
 }
 
+// Which pairs of states have a mark in the old sheet, at any concept: most have none, and need not be joined.
+fn has_mark(old: &[u8], at: usize) -> bool
+    requires { ⌜ at + 128 ≤ length (now old) ⌝ }
+    ensures { λ r. ⌜ Exactly r (Some (MarkAt (now (old .entry)) at) 128) ⌝ }
+{
+    let mut found = false;
+    for b in 0..128 {
+        let marked = old[at + b] == 1;
+        found = found | marked;
+    }
+    found
+}
+
+fn filled(old: &[u8]) -> [bool; 256]
+    requires { ⌜ length (now old) ≡ areaLength ⌝ }
+    ensures { λ r. ⌜ Filled (now (old .entry)) r ⌝ }
+{
+    let mut out = [false; 256];
+    for q in 0..256 {
+        out[q] = has_mark(old, q * 128);
+    }
+    out
+}
+
 // The marks (s, v) and (v, t) of the old sheet meet, for some state v.
-fn join_at(new: &mut [u8], old: &[u8], s: usize, t: usize)
-    requires { ⌜ (s < 16) × (t < 16) × (length (now new) ≡ areaLength) × (length (now old) ≡ areaLength) ⌝ }
+fn join_at(new: &mut [u8], old: &[u8], pairs: &[bool; 256], s: usize, t: usize)
+    requires { ⌜ (s < 16) × (t < 16) × (length (now new) ≡ areaLength) × (length (now old) ≡ areaLength) × Filled (now old) (now pairs) ⌝ }
     ensures { λ _. ⌜ Adds (Upto (JoinVia (now (old .entry)) s t) 16) (now (new .entry)) (now (new .exit)) ⌝ }
 {
     for v in 0..16 {
-        join_rows(
-            new,
-            old,
-            (16 * s + t) * 128,
-            (16 * s + v) * 128,
-            (16 * v + t) * 128,
-        );
+        if pairs[16 * s + v] & pairs[16 * v + t] {
+            join_rows(
+                new,
+                old,
+                (16 * s + t) * 128,
+                (16 * s + v) * 128,
+                (16 * v + t) * 128,
+            );
+        }
     }
 }
 
@@ -91,66 +108,86 @@ fn joins(new: &mut [u8], old: &[u8])
     requires { ⌜ (length (now new) ≡ areaLength) × (length (now old) ≡ areaLength) ⌝ }
     ensures { λ _. ⌜ Adds (Upto (JoinPair (now (old .entry))) 256) (now (new .entry)) (now (new .exit)) ⌝ }
 {
+    let pairs = filled(old);
     for q in 0..256 {
-        join_at(new, old, q / 16, q % 16);
+        join_at(new, old, &pairs, q / 16, q % 16);
     }
 }
 
-// A way down from s to some x, and a mark of the old sheet there from x to v, at the concept e.
-fn down_meets(d: [bool; 256], old: &[u8], e: usize, s: usize, v: usize) -> bool
-    requires { ⌜ (s < 16) × (v < 16) × (e < 128) × (length (now old) ≡ areaLength) ⌝ }
-    ensures { λ r. ⌜ Exactly r (Some (DownMeets d (now (old .entry)) e s v) 16) ⌝ }
-{
-    let mut found = false;
-    for x in 0..16 {
-        let marked = old[(16 * x + v) * 128 + e] == 1;
-        found = found | (d[16 * s + x] & marked);
-    }
-    found
-}
-
-fn down_table(d: [bool; 256], old: &[u8], e: usize) -> [bool; 256]
+// The marks of the old sheet at the concept e, a table of pairs of states.
+fn column(old: &[u8], e: usize) -> [bool; 256]
     requires { ⌜ (e < 128) × (length (now old) ≡ areaLength) ⌝ }
-    ensures { λ r. ⌜ DownTable d (now (old .entry)) e r ⌝ }
+    ensures { λ r. ⌜ Column (now (old .entry)) e r ⌝ }
 {
     let mut out = [false; 256];
     for q in 0..256 {
-        out[q] = down_meets(d, old, e, q / 16, q % 16);
+        out[q] = old[q * 128 + e] == 1;
     }
     out
+}
+
+// The 16 marks of b from a place on, put into those of out from another: a whole row of states at a time.
+fn put_states(out: &mut [bool; 256], b: &[bool; 256], at: usize, from: usize)
+    requires { ⌜ (at + 16 ≤ 256) × (from + 16 ≤ 256) × (length (now out) ≡ 256) ⌝ }
+    ensures { λ _. ⌜ Puts (Upto (StateTurn (now (b .entry)) at from) 16) (now (out .entry)) (now (out .exit)) ⌝ }
+{
+    for t in 0..16 {
+        let p = at + t;
+        let old = out[p];
+        out[p] = old | b[from + t];
+    }
 }
 
 // a leads from s to some y, and b from there to t.
-fn up_meets(a: [bool; 256], b: [bool; 256], s: usize, t: usize) -> bool
-    requires { ⌜ (s < 16) × (t < 16) ⌝ }
-    ensures { λ r. ⌜ Exactly r (Some (UpMeets a b s t) 16) ⌝ }
-{
-    let mut found = false;
-    for y in 0..16 {
-        found = found | (a[16 * s + y] & b[16 * y + t]);
-    }
-    found
-}
-
-fn product(a: [bool; 256], b: [bool; 256]) -> [bool; 256]
-    ensures { λ r. ⌜ Product a b r ⌝ }
+fn product(a: &[bool; 256], b: &[bool; 256]) -> [bool; 256]
+    ensures { λ r. ⌜ Product (now (a .entry)) (now (b .entry)) r ⌝ }
 {
     let mut out = [false; 256];
     for q in 0..256 {
-        out[q] = up_meets(a, b, q / 16, q % 16);
+        if a[q] {
+            put_states(&mut out, b, 16 * (q / 16), 16 * (q % 16));
+        }
     }
     out
 }
 
-// The concepts of the row are marked wherever the table leads from a declared state to a declared state.
-fn hang_role(new: &mut [u8], leads: [bool; 256], row: [bool; 128], states: usize)
-    requires { ⌜ length (now new) ≡ areaLength ⌝ }
-    ensures { λ _. ⌜ Adds (Upto (HangTurn leads row states) 256) (now (new .entry)) (now (new .exit)) ⌝ }
+// A table of pairs of states has a mark.
+fn any_pair(table: &[bool; 256]) -> bool
+    ensures { λ r. ⌜ Exactly r (Some (PairAt (now (table .entry))) 256) ⌝ }
 {
+    let mut found = false;
     for q in 0..256 {
-        let from = q / 16 < states;
-        let to = q % 16 < states;
-        add_row_if(new, q * 128, row, leads[q] & (from & to));
+        found = found | table[q];
+    }
+    found
+}
+
+// The concepts of the row are marked at the pair of states q, where the role leads there and both are declared.
+fn hang_at(new: &mut [u8], row: [bool; 128], states: usize, q: usize, on: bool)
+    requires { ⌜ (q < 256) × (length (now new) ≡ areaLength) ⌝ }
+    ensures { λ _. ⌜ Adds (HangAt on row states q) (now (new .entry)) (now (new .exit)) ⌝ }
+{
+    if !on {
+        return;
+    }
+    if q / 16 >= states {
+        return;
+    }
+    if q % 16 >= states {
+        return;
+    }
+    add_row(new, q * 128, row);
+}
+
+fn hang_role(new: &mut [u8], leads: &[bool; 256], row: [bool; 128], states: usize)
+    requires { ⌜ length (now new) ≡ areaLength ⌝ }
+    ensures { λ _. ⌜ Adds (Upto (HangTurn (now (leads .entry)) row states) 256) (now (new .entry)) (now (new .exit)) ⌝ }
+{
+    if !any_pair(leads) {
+        return;
+    }
+    for q in 0..256 {
+        hang_at(new, row, states, q, leads[q]);
     }
 }
 
@@ -248,7 +285,30 @@ fn tests(new: &mut [u8], below: &[[bool; 128]; 128], states: usize, steps: &[u16
     }
 }
 
-// Down by each role, a mark of the old sheet at the child, and back up.
+// Down by a role, a mark of the old sheet at the child, and back up. A role that no step goes down by adds nothing.
+fn hang(
+    new: &mut [u8],
+    old: &[u8],
+    below: &[[bool; 128]; 128],
+    ways: &[[bool; 256]; 64],
+    states: usize,
+    r: usize,
+)
+    requires { ⌜ (r < 64) × (length (now new) ≡ areaLength) × (length (now old) ≡ areaLength) ⌝ }
+    ensures { λ _. ⌜ Adds (HangPlace (now (below .entry)) (now (ways .entry)) states (now (old .entry)) r) (now (new .entry)) (now (new .exit)) ⌝ }
+{
+    let down = ways[r];
+    if !any_pair(&down) {
+        return;
+    }
+    let back = turned(r);
+    let up = ways[back];
+    let marked = column(old, 64 + back);
+    let half = product(&down, &marked);
+    let leads = product(&half, &up);
+    hang_role(new, &leads, below[64 + r], states);
+}
+
 fn hangs(
     new: &mut [u8],
     old: &[u8],
@@ -260,10 +320,7 @@ fn hangs(
     ensures { λ _. ⌜ Adds (Upto (HangPlace (now (below .entry)) (now (ways .entry)) states (now (old .entry))) 64) (now (new .entry)) (now (new .exit)) ⌝ }
 {
     for r in 0..64 {
-        let back = turned(r);
-        let down = down_table(ways[r], old, 64 + back);
-        let leads = product(down, ways[back]);
-        hang_role(new, leads, below[64 + r], states);
+        hang(new, old, below, ways, states, r);
     }
 }
 
@@ -319,17 +376,18 @@ fn start(area: &mut [u8], counts: Counts)
     }
 }
 
+// Without a way out of the loop the compiler compares many bytes at a time.
 fn same(a: &[u8], b: &[u8]) -> bool
     requires { ⌜ length (now a) ≡ length (now b) ⌝ }
     ensures { λ r. ⌜ Exactly r (now (a .entry) ≡ now (b .entry)) ⌝ }
 {
     let n = a.len();
+    let mut equal = true;
     for i in 0..n {
-        if a[i] != b[i] {
-            return false;
-        }
+        let here = a[i] == b[i];
+        equal = equal & here;
     }
-    true
+    equal
 }
 
 fn clear(a: &mut [u8])
