@@ -17,7 +17,8 @@ use Rattle.laws.specs.Member.{_∈_}
 use Rattle.laws.specs.Numbers.{numbered-in, numbered-out}
 use Rattle.meaning.specs.Lent.{records, roleFactWidth, conceptFact, roleFact}
 use Rattle.individuals.specs.Concepts.{HasRows, Shown, named, first, second, Concepts}
-use Rattle.individuals.specs.Adds.{Adds, InRow, Either, Some, blank, adds-same, adds-then, adds-not, adds-blank}
+use Rattle.laws.specs.Gains.{Gains, Either, Some, blank, gains-same, gains-then, gains-not, gains-blank}
+use Rattle.individuals.specs.InRow.{InRow}
 
 -- what one concept fact adds
 pub record ByConcept (order : List (List Bool)) (A : ConceptName) (a : Individual) (i j : ℕ) : Type 0 where
@@ -45,29 +46,29 @@ abbrev pub RoleListed : List ℕ → List (List Bool) → ℕ → ℕ → Type 0
 RoleListed t order = Some (RoleHit t order) (length t / 3)
 
 module _ (m order : List (List Bool)) (A : ConceptName) (a : Individual) where
-  pub name-nowhere : 64 ≤ A .0 → Adds m (ByConcept order A a) m
-  name-nowhere h = adds-not m _ (λ i j hi hj p. omega (arith, p .has-row))
+  pub name-nowhere : 64 ≤ A .0 → Gains 255 128 m (ByConcept order A a) m
+  name-nowhere h = gains-not 255 128 m _ (λ i j hi hj p. omega (arith, p .has-row))
 
-  pub named-nowhere : 255 ≤ a .0 → Adds m (ByConcept order A a) m
-  named-nowhere h = adds-not m _ (λ i j hi hj p. omega (arith, p .own))
+  pub named-nowhere : 255 ≤ a .0 → Gains 255 128 m (ByConcept order A a) m
+  named-nowhere h = gains-not 255 128 m _ (λ i j hi hj p. omega (arith, p .own))
 
-  pub concept-fact : (r : List (List Bool)) → A .0 < mostNames → Adds m (InRow (a .0) (getD order (A .0) [])) r → Adds m (ByConcept order A a) r
-  concept-fact r h s = adds-same m (InRow (a .0) (getD order (A .0) [])) (ByConcept order A a) r s (λ i j hi hj p. record { has-row = h; own = p .0; marked = p .1 }) (λ i j hi hj p. (p .own, p .marked))
+  pub concept-fact : (r : List (List Bool)) → A .0 < mostNames → Gains 255 128 m (InRow (a .0) (getD order (A .0) [])) r → Gains 255 128 m (ByConcept order A a) r
+  concept-fact r h s = gains-same 255 128 m (InRow (a .0) (getD order (A .0) [])) (ByConcept order A a) r s (λ i j hi hj p. record { has-row = h; own = p .0; marked = p .1 }) (λ i j hi hj p. (p .own, p .marked))
 
 module _ (m order : List (List Bool)) (r : RoleName) (a b : Individual) where
-  pub role-nowhere : 32 ≤ r .0 → Adds m (ByRole order r a b) m
-  role-nowhere h = adds-not m _ (λ i j hi hj p. omega (arith, p .has-rows .role))
+  pub role-nowhere : 32 ≤ r .0 → Gains 255 128 m (ByRole order r a b) m
+  role-nowhere h = gains-not 255 128 m _ (λ i j hi hj p. omega (arith, p .has-rows .role))
 
-  pub first-nowhere : 255 ≤ a .0 → Adds m (ByRole order r a b) m
-  first-nowhere h = adds-not m _ (λ i j hi hj p. omega (arith, p .has-rows .first))
+  pub first-nowhere : 255 ≤ a .0 → Gains 255 128 m (ByRole order r a b) m
+  first-nowhere h = gains-not 255 128 m _ (λ i j hi hj p. omega (arith, p .has-rows .first))
 
-  pub second-nowhere : 255 ≤ b .0 → Adds m (ByRole order r a b) m
-  second-nowhere h = adds-not m _ (λ i j hi hj p. omega (arith, p .has-rows .second))
+  pub second-nowhere : 255 ≤ b .0 → Gains 255 128 m (ByRole order r a b) m
+  second-nowhere h = gains-not 255 128 m _ (λ i j hi hj p. omega (arith, p .has-rows .second))
 
-  pub role-fact : (s q : List (List Bool)) → HasRows r a b → Adds m (InRow (a .0) (getD order (base + 2 * r .0) [])) s
-      → Adds s (InRow (b .0) (getD order (base + 2 * r .0 + 1) [])) q → Adds m (ByRole order r a b) q
+  pub role-fact : (s q : List (List Bool)) → HasRows r a b → Gains 255 128 m (InRow (a .0) (getD order (base + 2 * r .0) [])) s
+      → Gains 255 128 s (InRow (b .0) (getD order (base + 2 * r .0 + 1) [])) q → Gains 255 128 m (ByRole order r a b) q
   role-fact s q h u v =
-      adds-same m (Either (InRow (a .0) (getD order (base + 2 * r .0) [])) (InRow (b .0) (getD order (base + 2 * r .0 + 1) []))) (ByRole order r a b) q (adds-then m _ _ s q u v)
+      gains-same 255 128 m (Either (InRow (a .0) (getD order (base + 2 * r .0) [])) (InRow (b .0) (getD order (base + 2 * r .0 + 1) []))) (ByRole order r a b) q (gains-then 255 128 m _ _ s q u v)
       (λ i j hi hj p. record { has-rows = h; marked = p }) (λ i j hi hj p. p .marked)
 
 module _ (cf rf : List ℕ) (order : List (List Bool)) where
@@ -119,7 +120,7 @@ module _ (cf rf : List ℕ) (order : List (List Bool)) where
       inr (w .0, w .1, record { has-rows = record { role = rw g at (h .role); first = rw f at (h .first); second = rw d at (h .second) }; marked = inr (d, rw g at p) })
 
   -- from no mark, the two tables come to the definition
-  pub all-facts : (s r : List (List Bool)) → Adds blank (ConceptListed cf order) s → Adds s (RoleListed rf order) r → Concepts cf rf order r
+  pub all-facts : (s r : List (List Bool)) → Gains 255 128 (blank 255 128) (ConceptListed cf order) s → Gains 255 128 s (RoleListed rf order) r → Concepts cf rf order r
   all-facts s r u v =
-      let both = adds-then blank (ConceptListed cf order) (RoleListed rf order) s r u v in
-      record { at = λ i j hi hj. exactly-same (adds-blank _ r both i j hi hj) (⊎-elim (concept-in i j) (role-in i j)) (shown-out i j) }
+      let both = gains-then 255 128 (blank 255 128) (ConceptListed cf order) (RoleListed rf order) s r u v in
+      record { at = λ i j hi hj. exactly-same (gains-blank 255 128 _ r both i j hi hj) (⊎-elim (concept-in i j) (role-in i j)) (shown-out i j) }

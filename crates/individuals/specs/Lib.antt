@@ -1,5 +1,5 @@
 pub mod Concepts
-pub mod Adds
+pub mod InRow
 pub mod Facts
 pub mod Unique
 pub mod Mean

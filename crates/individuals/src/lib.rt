@@ -3,11 +3,13 @@ ghost use mathlib.Core.Path.{_≡_};
 ghost use Prim.Native.Nat.{_<_};
 ghost use lib.ListN.{length};
 ghost use Rattle.individuals.specs.Concepts.{Concepts};
-ghost use Rattle.individuals.specs.Adds.{OrRow, Adds, InRow};
+ghost use Rattle.laws.specs.Gains.{Gains};
+ghost use Rattle.individuals.specs.InRow.{InRow};
 ghost use Rattle.individuals.specs.Facts.{ByConcept, ByRole, ConceptListed, RoleListed};
 use kinds::ConceptName;
 use kinds::Individual;
 use kinds::RoleName;
+use orders::or_concept_row;
 
 // A row for each individual, and for each number of a basic concept. The functions that read the facts borrow both and write the rows in place:
 // by value 32,640 bytes of rows would be copied for each of up to 5,120 facts.
@@ -15,32 +17,19 @@ type Rows = [[bool; 128]; 255];
 
 type Order = [[bool; 128]; 128];
 
-// The marks of a and those of b.
-fn or_row(a: [bool; 128], b: [bool; 128]) -> [bool; 128]
-    ensures { λ r. ⌜ OrRow a b r ⌝ }
-{
-    let mut out = a;
-    let mut j: usize = 0;
-    while j < 128 {
-        out[j] = out[j] | b[j];
-        j += 1;
-    }
-    out
-}
-
 // A row put into that of the individual a. Only that row is copied, 128 bytes.
 fn with_row(rows: &mut Rows, a: usize, row: [bool; 128])
     requires { ⌜ (a < 255) × (length (now rows) ≡ 255) ⌝ }
-    ensures { λ _. ⌜ Adds (now (rows .entry)) (InRow a row) (now (rows .exit)) ⌝ }
+    ensures { λ _. ⌜ Gains 255 128 (now (rows .entry)) (InRow a row) (now (rows .exit)) ⌝ }
 {
     let own = rows[a];
-    rows[a] = or_row(own, row);
+    rows[a] = or_concept_row(own, row);
 }
 
 // One concept fact: all that follows from its name.
 fn one_concept_fact(rows: &mut Rows, order: &Order, name: ConceptName, a: Individual)
     requires { ⌜ length (now rows) ≡ 255 ⌝ }
-    ensures { λ _. ⌜ Adds (now (rows .entry)) (ByConcept (now (order .entry)) name a) (now (rows .exit)) ⌝ }
+    ensures { λ _. ⌜ Gains 255 128 (now (rows .entry)) (ByConcept (now (order .entry)) name a) (now (rows .exit)) ⌝ }
 {
     if name.0 >= ConceptName::MOST {
         return;
@@ -55,7 +44,7 @@ fn one_concept_fact(rows: &mut Rows, order: &Order, name: ConceptName, a: Indivi
 // One role fact: its first individual has a neighbour by the role forward, its second one by the role backward.
 fn one_role_fact(rows: &mut Rows, order: &Order, role: RoleName, a: Individual, b: Individual)
     requires { ⌜ length (now rows) ≡ 255 ⌝ }
-    ensures { λ _. ⌜ Adds (now (rows .entry)) (ByRole (now (order .entry)) role a b) (now (rows .exit)) ⌝ }
+    ensures { λ _. ⌜ Gains 255 128 (now (rows .entry)) (ByRole (now (order .entry)) role a b) (now (rows .exit)) ⌝ }
 {
     if role.0 >= RoleName::MOST {
         return;
@@ -76,7 +65,7 @@ fn one_role_fact(rows: &mut Rows, order: &Order, role: RoleName, a: Individual, 
 // Every concept fact; one whose numbers have no row is passed over.
 fn with_concept_facts(rows: &mut Rows, facts: &[u16], order: &Order)
     requires { ⌜ length (now rows) ≡ 255 ⌝ }
-    ensures { λ _. ⌜ Adds (now (rows .entry)) (ConceptListed (now (facts .entry)) (now (order .entry))) (now (rows .exit)) ⌝ }
+    ensures { λ _. ⌜ Gains 255 128 (now (rows .entry)) (ConceptListed (now (facts .entry)) (now (order .entry))) (now (rows .exit)) ⌝ }
 {
     let n = facts.len() / 2;
     for k in 0..n {
@@ -93,7 +82,7 @@ fn with_concept_facts(rows: &mut Rows, facts: &[u16], order: &Order)
 // Every role fact; one whose numbers have no row is passed over.
 fn with_role_facts(rows: &mut Rows, facts: &[u16], order: &Order)
     requires { ⌜ length (now rows) ≡ 255 ⌝ }
-    ensures { λ _. ⌜ Adds (now (rows .entry)) (RoleListed (now (facts .entry)) (now (order .entry))) (now (rows .exit)) ⌝ }
+    ensures { λ _. ⌜ Gains 255 128 (now (rows .entry)) (RoleListed (now (facts .entry)) (now (order .entry))) (now (rows .exit)) ⌝ }
 {
     let n = facts.len() / 3;
     for k in 0..n {

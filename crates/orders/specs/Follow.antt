@@ -17,7 +17,8 @@ use Rattle.laws.specs.Warshall as warshall
 use Rattle.meaning.specs.Orders.{RoleFollows, ConceptFollows, same, then, rule, turned, wider}
 use Rattle.laws.specs.Marks.{mark}
 use Rattle.orders.specs.Rows.{roleRules, conceptRules, RoleMarks, ConceptMarks}
-use Rattle.orders.specs.Adds.{Shows, Adds, Pair, Either, Some, adds-same, adds-then}
+use Rattle.laws.specs.Gains.{Gains, Either, Some, gains-same, gains-then}
+use Rattle.orders.specs.Matrix.{Shows, Pair}
 use Rattle.orders.specs.Table.{Hit, Listed, rule-in, rule-out}
 
 -- the number of the inverse
@@ -47,13 +48,13 @@ abbrev pub Wide : List (List Bool) → ℕ → ℕ → Type 0
 Wide m i j = (base ≤ i) × (base ≤ j) × (mark m (i - base) (j - base) ≡ true)
 
 -- a pair, and then the pair of the inverses
-pub adds-turned : (m s r : List (List Bool)) (R S R′ S′ : SignedRole) → Adds 64 m (Pair (R .0) (S .0)) s → Adds 64 s (Pair (R′ .0) (S′ .0)) r
-    → R′ ≡ inverse R → S′ ≡ inverse S → Adds 64 m (Turned (Pair (R .0) (S .0))) r
+pub adds-turned : (m s r : List (List Bool)) (R S R′ S′ : SignedRole) → Gains 64 64 m (Pair (R .0) (S .0)) s → Gains 64 64 s (Pair (R′ .0) (S′ .0)) r
+    → R′ ≡ inverse R → S′ ≡ inverse S → Gains 64 64 m (Turned (Pair (R .0) (S .0))) r
 adds-turned m s r R S R′ S′ f g e e′ =
     let a : R′ .0 ≡ turn (R .0) = ap (λ (R : SignedRole). R .0) e in
     let b : S′ .0 ≡ turn (S .0) = ap (λ (R : SignedRole). R .0) e′ in
-    adds-same 64 m (Either (Pair (R .0) (S .0)) (Pair (R′ .0) (S′ .0))) (Turned (Pair (R .0) (S .0))) r
-    (adds-then 64 m (Pair (R .0) (S .0)) (Pair (R′ .0) (S′ .0)) s r f g)
+    gains-same 64 64 m (Either (Pair (R .0) (S .0)) (Pair (R′ .0) (S′ .0))) (Turned (Pair (R .0) (S .0))) r
+    (gains-then 64 64 m (Pair (R .0) (S .0)) (Pair (R′ .0) (S′ .0)) s r f g)
     (λ i j hi hj. ⊎-elim (λ p. inl p) (λ p. inr (ap turn (p .0 ∙ a) ∙ turn-turn (R .0), ap turn (p .1 ∙ b) ∙ turn-turn (S .0))))
     (λ i j hi hj. ⊎-elim (λ p. inl p) (λ p. inr (sym (turn-turn i) ∙ ap turn (p .0) ∙ sym a, sym (turn-turn j) ∙ ap turn (p .1) ∙ sym b)))
 

@@ -13,7 +13,8 @@ use Rattle.laws.specs.Numbers.{numbered-in, numbered-out}
 use Rattle.laws.specs.Search.{and, and-left, and-right, and-both, pick}
 use Rattle.laws.specs.Select.{select, select-in, select-out}
 use Rattle.meaning.specs.Lent.{field, records, ruleWidth}
-use Rattle.orders.specs.Adds.{Pair, Some}
+use Rattle.laws.specs.Gains.{Some}
+use Rattle.orders.specs.Matrix.{Pair}
 
 -- the two numbers of rule k; those of any rule
 abbrev pub Hit : List ℕ → ℕ → ℕ → ℕ → Type 0

@@ -8,7 +8,8 @@ use lib.ListN.{length, length-replicate, getD, replicate, getD-replicate}
 use Rattle.kinds.specs.Kinds.{base}
 use Rattle.laws.specs.Exactly.{Exactly, exactly-never}
 use Rattle.laws.specs.Fill.{Filling}
-use Rattle.orders.specs.Adds.{Shows, blank}
+use Rattle.laws.specs.Gains.{blank}
+use Rattle.orders.specs.Matrix.{Shows}
 use Rattle.orders.specs.Follow.{Wide}
 
 -- the mark at j in the row of ∃R: that of the row of R at j - 64
@@ -37,9 +38,9 @@ pub wide-mark : (from : List Bool) (j : ℕ) → base ≤ j → WideMark from j 
 unfolding WideMark
 wide-mark from j h = record { holds = λ p. (h, p); shows = λ p. p .1 }
 
-pub rows-begun : (from : List (List Bool)) → Filling (WideAt from) [] 128 (blank 128) (blank 128) 64
+pub rows-begun : (from : List (List Bool)) → Filling (WideAt from) [] 128 (blank 128 128) (blank 128 128) 64
 rows-begun from =
-    begun (WideAt from) [] 128 (blank 128) 64 (omega arith) (length-replicate 128 (replicate 128 false))
+    begun (WideAt from) [] 128 (blank 128 128) 64 (omega arith) (length-replicate 128 (replicate 128 false))
     (λ i h.
     rw (getD-replicate 128 i (replicate 128 false) [] (omega arith))
     (record { at = λ j hj. rw (getD-replicate 128 j false false hj) (exactly-never (λ p. let q = p .0 in omega arith)) }))

@@ -1,16 +1,19 @@
 // The two orders of a collection, R ≤ S and C ≤ D, as rows of marks, from the tables of rules.
 ghost use Prim.Native.Nat.{_<_};
+ghost use mathlib.Core.Bool.{true};
 ghost use Rattle.laws.specs.Warshall.{Stepped, Closes};
 ghost use Rattle.laws.specs.Marks.{mark};
 ghost use Rattle.orders.specs.Rows.{RoleMarks, ConceptMarks};
-ghost use Rattle.orders.specs.Adds.{Shows, Adds, Pair, Diagonal};
+ghost use Rattle.laws.specs.Gains.{Gains};
+ghost use Rattle.orders.specs.Matrix.{Shows, Square, Pair, Diagonal};
 ghost use Rattle.orders.specs.Table.{Listed};
 ghost use Rattle.orders.specs.Close.{OrRow};
 ghost use Rattle.orders.specs.Follow.{Turned, RoleListed, Wide};
 ghost use Rattle.orders.specs.Widen.{WideRow};
 use kinds::SignedRole;
 
-// A row of marks for each signed role, and for each number of a basic concept.
+// A row of marks for each signed role, and for each number of a basic concept. The role relation goes by value while it is closed; the functions
+// that mark rules, and those that close the concepts, borrow their rows and write in place: by value 16 KB would be copied for each step.
 pub type RoleRows = [[bool; 64]; 64];
 
 pub type ConceptRows = [[bool; 128]; 128];
@@ -30,7 +33,7 @@ pub fn or_role_row(a: [bool; 64], b: [bool; 64], on: bool) -> [bool; 64]
 
 // Every (i, i) is marked.
 fn reflexive_roles(m: RoleRows) -> RoleRows
-    ensures { λ r. ⌜ Adds 64 m Diagonal r ⌝ }
+    ensures { λ r. ⌜ Gains 64 64 m Diagonal r ⌝ }
 {
     let mut out = m;
     let mut i: usize = 0;
@@ -72,44 +75,42 @@ pub fn close_roles(m: [[bool; 64]; 64]) -> [[bool; 64]; 64]
 }
 
 // One mark; a number that has no row is passed over.
-fn mark_role(m: RoleRows, left: SignedRole, right: SignedRole) -> RoleRows
-    ensures { λ r. ⌜ Adds 64 m (Pair (left .0) (right .0)) r ⌝ }
+fn mark_role(m: &mut RoleRows, left: SignedRole, right: SignedRole)
+    requires { ⌜ Square 64 (now m) ⌝ }
+    ensures { λ _. ⌜ Square 64 (now (m .exit)) × Gains 64 64 (now (m .entry)) (Pair (left .0) (right .0)) (now (m .exit)) ⌝ }
 {
     if left.0 >= 64 {
-        return m;
+        return;
     }
     if right.0 >= 64 {
-        return m;
+        return;
     }
     let i = left.0 as usize;
     let j = right.0 as usize;
-    let mut out = m;
-    out[i][j] = true;
-    out
+    m[i][j] = true;
 }
 
 // A rule and its inverse.
-fn mark_role_rule(m: RoleRows, left: SignedRole, right: SignedRole) -> RoleRows
-    ensures { λ r. ⌜ Adds 64 m (Turned (Pair (left .0) (right .0))) r ⌝ }
+fn mark_role_rule(m: &mut RoleRows, left: SignedRole, right: SignedRole)
+    requires { ⌜ Square 64 (now m) ⌝ }
+    ensures { λ _. ⌜ Square 64 (now (m .exit)) × Gains 64 64 (now (m .entry)) (Turned (Pair (left .0) (right .0))) (now (m .exit)) ⌝ }
 {
-    let one = mark_role(m, left, right);
+    mark_role(m, left, right);
     let back = left.inverse();
     let other = right.inverse();
-    mark_role(one, back, other)
+    mark_role(m, back, other);
 }
 
 // Every rule of a table and its inverse.
-fn mark_role_rules(m: RoleRows, rules: &[u16]) -> RoleRows
-    ensures { λ r. ⌜ Adds 64 m (RoleListed (now (rules .entry))) r ⌝ }
+fn mark_role_rules(m: &mut RoleRows, rules: &[u16])
+    requires { ⌜ Square 64 (now m) ⌝ }
+    ensures { λ _. ⌜ Gains 64 64 (now (m .entry)) (RoleListed (now (rules .entry))) (now (m .exit)) ⌝ }
 {
-    let mut out = m;
     let n = rules.len() / 2;
     for k in 0..n {
         let at = 2 * k;
-        let next = mark_role_rule(out, SignedRole(rules[at]), SignedRole(rules[at + 1]));
-        out = next;
+        mark_role_rule(m, SignedRole(rules[at]), SignedRole(rules[at + 1]));
     }
-    out
 }
 
 // R ≤ S.
@@ -117,70 +118,70 @@ pub fn role_order(rules: &[u16]) -> [[bool; 64]; 64]
     ensures { λ r. ⌜ RoleMarks (now (rules .entry)) r ⌝ }
 {
     let blank = [false; 64];
-    close_roles(mark_role_rules([blank; 64], rules))
+    let mut m = [blank; 64];
+    mark_role_rules(&mut m, rules);
+    close_roles(m)
 }
 
-// The marks of a and, where on is true, those of b.
-fn or_concept_row(a: [bool; 128], b: [bool; 128], on: bool) -> [bool; 128]
-    ensures { λ r. ⌜ OrRow 128 a b on r ⌝ }
+// The marks of a and those of b.
+pub fn or_concept_row(a: [bool; 128], b: [bool; 128]) -> [bool; 128]
+    ensures { λ r. ⌜ OrRow 128 a b true r ⌝ }
 {
     let mut out = a;
     let mut j: usize = 0;
     while j < 128 {
-        out[j] = out[j] | (on & b[j]);
+        out[j] = out[j] | b[j];
         j += 1;
     }
     out
 }
 
 // Every (i, i) is marked.
-fn reflexive_concepts(m: ConceptRows) -> ConceptRows
-    ensures { λ r. ⌜ Adds 128 m Diagonal r ⌝ }
+fn reflexive_concepts(m: &mut ConceptRows)
+    requires { ⌜ Square 128 (now m) ⌝ }
+    ensures { λ _. ⌜ Square 128 (now (m .exit)) × Gains 128 128 (now (m .entry)) Diagonal (now (m .exit)) ⌝ }
 {
-    let mut out = m;
     let mut i: usize = 0;
     while i < 128 {
-        out[i][i] = true;
+        m[i][i] = true;
         i += 1;
     }
-    out
 }
 
-// What goes through the concept k.
-fn through_concept(m: ConceptRows, k: usize) -> ConceptRows
-    requires { ⌜ k < 128 ⌝ }
-    ensures { λ r. ⌜ Stepped 128 (mark m) k (mark r) ⌝ }
+// What goes through the concept k: the row of k is put into each row that marks k, and the others are not written.
+fn through_concept(m: &mut ConceptRows, k: usize)
+    requires { ⌜ (k < 128) × Square 128 (now m) ⌝ }
+    ensures { λ _. ⌜ Square 128 (now (m .exit)) × Stepped 128 (mark (now (m .entry))) k (mark (now (m .exit))) ⌝ }
 {
     let row = m[k];
-    let mut out = m;
     let mut i: usize = 0;
     while i < 128 {
-        let own = out[i];
-        out[i] = or_concept_row(own, row, own[k]);
+        if m[i][k] {
+            let own = m[i];
+            m[i] = or_concept_row(own, row);
+        }
         i += 1;
     }
-    out
 }
 
 // The smallest reflexive and transitive relation that holds m.
-fn close_concepts(m: ConceptRows) -> ConceptRows
-    ensures { λ r. ⌜ Closes 128 (mark m) (mark r) ⌝ }
+fn close_concepts(m: &mut ConceptRows)
+    requires { ⌜ Square 128 (now m) ⌝ }
+    ensures { λ _. ⌜ Closes 128 (mark (now (m .entry))) (mark (now (m .exit))) ⌝ }
 {
-    let mut out = reflexive_concepts(m);
+    reflexive_concepts(m);
     let mut k: usize = 0;
     while k < 128 {
-        let next = through_concept(out, k);
-        out = next;
+        through_concept(m, k);
         k += 1;
     }
-    out
 }
 
 // Every rule of a table; a number that has no row is passed over.
-fn mark_concept_rules(m: ConceptRows, rules: &[u16]) -> ConceptRows
-    ensures { λ r. ⌜ Adds 128 m (Listed (now (rules .entry))) r ⌝ }
+fn mark_concept_rules(m: &mut ConceptRows, rules: &[u16])
+    requires { ⌜ Square 128 (now m) ⌝ }
+    ensures { λ _. ⌜ Square 128 (now (m .exit)) × Gains 128 128 (now (m .entry)) (Listed (now (rules .entry))) (now (m .exit)) ⌝ }
 {
-    let mut out = m;
     let n = rules.len() / 2;
     for k in 0..n {
         let at = 2 * k;
@@ -188,11 +189,10 @@ fn mark_concept_rules(m: ConceptRows, rules: &[u16]) -> ConceptRows
         let j = rules[at + 1] as usize;
         if i < 128 {
             if j < 128 {
-                out[i][j] = true;
+                m[i][j] = true;
             }
         }
     }
-    out
 }
 
 // The row of a role, as that of its concept.
@@ -226,6 +226,8 @@ fn widen(roles: RoleRows) -> ConceptRows
 pub fn concept_order(rules: &[u16], roles: &[u16]) -> [[bool; 128]; 128]
     ensures { λ r. ⌜ ConceptMarks (now (rules .entry)) (now (roles .entry)) r ⌝ }
 {
-    let wide = widen(role_order(roles));
-    close_concepts(mark_concept_rules(wide, rules))
+    let mut m = widen(role_order(roles));
+    mark_concept_rules(&mut m, rules);
+    close_concepts(&mut m);
+    m
 }

@@ -89,7 +89,7 @@ pub fn packed(ways: [[bool; 256]; 64]) -> [u16; 1024]
 }
 
 // Two hops for each whole fact, as far as facts are read.
-fn hop_count(facts: &[u16]) -> usize
+pub fn hop_count(facts: &[u16]) -> usize
     ensures { λ r. ⌜ r ≡ hops (now (facts .entry)) ⌝ }
 {
     let n = facts.len() / 3;

@@ -25,16 +25,15 @@ pub record Image (table : List ℕ) (at m r : ℕ) : Type 0 where
 
 -- the states below s have been followed
 pub record Imaging (table : List ℕ) (at m s out : ℕ) : Type 0 where
-  pub below : s ≤ 16
   pub sound : (t : ℕ) → Bit out t → Leads table at m t
   pub full : (u t : ℕ) → u < s → Bit m u → Bit (getD table (at + u) 0) t → Bit out t
 
 module _ (table : List ℕ) (at m : ℕ) where
   pub imaging-start : Imaging table at m 0 0
-  imaging-start = record { below = omega arith; sound = λ t b. absurd (bit-zero t b); full = λ u t l. absurd (omega arith) }
+  imaging-start = record { sound = λ t b. absurd (bit-zero t b); full = λ u t l. absurd (omega arith) }
 
   -- one more state
-  module _ (s out : ℕ) (w : Imaging table at m s out) (h : s < 16) where
+  module _ (s out : ℕ) (w : Imaging table at m s out) where
     abbrev set-there : ℕ
     set-there = getD table (at + s) 0
 
@@ -45,7 +44,6 @@ module _ (table : List ℕ) (at m : ℕ) where
     pub imaging-more : Imaging table at m (s + 1) (bitOr out (chosen set-there m s))
     imaging-more =
         record {
-          below = omega arith;
           sound = λ t b. ⊎-elim (λ p. w .sound t p) (λ p. comes t p (bit-known m s)) (bit-or out (chosen set-there m s) t b);
           full = λ u t l p q. side u t l p q (ℕ-discrete u s);
         }
@@ -54,9 +52,9 @@ module _ (table : List ℕ) (at m : ℕ) where
         side u t l p q (yes e) = or-bit-right out (chosen set-there m s) t (rw (chosen-on set-there m s (rw e at p)) (rw e at q))
         side u t l p q (no ne) = or-bit-left out (chosen set-there m s) t (w .full u t (omega arith) p q)
 
-  pub imaging-end : (s out : ℕ) → Imaging table at m s out → 16 ≤ s → m < 2 ^ 16 → Image table at m out
-  imaging-end s out w h k =
-      record { sound = w .sound; full = λ t l. w .full (l .state) t (let p = bit-below 16 m (l .state) k (l .has) in omega arith) (l .has) (l .to) }
+  pub imaging-end : (n s out : ℕ) → Imaging table at m s out → n ≤ s → m < 2 ^ n → Image table at m out
+  imaging-end n s out w h k =
+      record { sound = w .sound; full = λ t l. w .full (l .state) t (let p = bit-below n m (l .state) k (l .has) in omega arith) (l .has) (l .to) }
 
 -- loops at the individual a lead from the state s to another
 pub data Looped (loops : List ℕ) (a s : ℕ) : ℕ → Type 0 where

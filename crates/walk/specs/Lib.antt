@@ -3,6 +3,7 @@ pub mod Walk
 pub mod Unique
 -- What the loops keep.
 pub mod Image
+pub mod Quarters
 pub mod Grow
 pub mod Hops
 pub mod Steps

@@ -18,7 +18,7 @@ use Rattle.laws.specs.Numbers.{numbered, numbered-in, numbered-out}
 use Rattle.laws.specs.Warshall.{or-left, or-right, or-cases}
 use Rattle.meaning.specs.Collection.{role, test, Step, step}
 use Rattle.meaning.specs.Lent.{records, stepWidth, stepAt, letterOf}
-use Rattle.ways.specs.Ways.{pairAt, Way, WaysOf, WithStep, Adds, OneWay}
+use Rattle.ways.specs.Ways.{pairAt, Way, WaysOf, WithStep, ByStep, OneWay}
 
 -- row k after its turn
 abbrev pub rowWith : List (List Bool) → List (List Bool) → ℕ → ℕ → ℕ → List Bool
@@ -40,7 +40,7 @@ sized-turn w i at x h s = record { high = length-set w i (set (getD w i []) at x
 
 module _ (w m : List (List Bool)) (kind : ℕ) (from : State) (by : SignedRole) (to : State) where
   -- a step that adds nothing
-  pub no-way : ((R s t : ℕ) → R < 64 → s < 16 → t < 16 → Adds m kind from by to R s t → ⊥) → OneWay w m kind from by to w
+  pub no-way : ((R s t : ℕ) → R < 64 → s < 16 → t < 16 → ByStep m kind from by to R s t → ⊥) → OneWay w m kind from by to w
   no-way never = record { at = λ R s t hR hs ht. record { holds = λ e. inl e; shows = ⊎-elim (λ e. e) (λ a. absurd (never R s t hR hs ht a)) } }
 
   pub other-kind : (kind ≡ 0 → ⊥) → OneWay w m kind from by to w
@@ -56,7 +56,7 @@ module _ (w m : List (List Bool)) (kind : ℕ) (from : State) (by : SignedRole) 
   by-nothing long h = no-way (λ R s t hR hs ht a. false≢true (sym (List·getD-eq-default (getD m R []) false (rw (long R hR) h)) ∙ a .marked))
 
   module _ (r : List (List Bool)) (at by′ : ℕ) (step-made : WithStep w m at by′ r) (kind-is : kind ≡ 0) (at-is : at ≡ pairAt (from .0) (to .0)) (by-is : by′ ≡ by .0) (hf : from .0 < 16) (ht : to .0 < 16) where
-    there : (R s t : ℕ) → R < 64 → s < 16 → t < 16 → pairAt s t ≡ at → Exactly (mark r R (pairAt s t)) ((mark w R (pairAt s t) ≡ true) ⊎ Adds m kind from by to R s t)
+    there : (R s t : ℕ) → R < 64 → s < 16 → t < 16 → pairAt s t ≡ at → Exactly (mark r R (pairAt s t)) ((mark w R (pairAt s t) ≡ true) ⊎ ByStep m kind from by to R s t)
     there R s t hR hs h e =
         let here = step-made .here R hR in
         let x = mark w R at in
@@ -66,7 +66,7 @@ module _ (w m : List (List Bool)) (kind : ℕ) (from : State) (by : SignedRole) 
           shows = ⊎-elim (λ q. here ∙ or-left x y q) (λ a. here ∙ or-right x y (rw by-is (a .marked)));
         })
 
-    elsewhere : (R s t : ℕ) → R < 64 → s < 16 → t < 16 → (pairAt s t ≡ at → ⊥) → Exactly (mark r R (pairAt s t)) ((mark w R (pairAt s t) ≡ true) ⊎ Adds m kind from by to R s t)
+    elsewhere : (R s t : ℕ) → R < 64 → s < 16 → t < 16 → (pairAt s t ≡ at → ⊥) → Exactly (mark r R (pairAt s t)) ((mark w R (pairAt s t) ≡ true) ⊎ ByStep m kind from by to R s t)
     elsewhere R s t hR hs h ne =
         let same = step-made .else R (pairAt s t) hR ne in
         record {
@@ -77,7 +77,7 @@ module _ (w m : List (List Bool)) (kind : ℕ) (from : State) (by : SignedRole) 
     pub one-way : OneWay w m kind from by to r
     one-way = record { at = λ R s t hR hs h. side R s t hR hs h (ℕ-discrete (pairAt s t) at) }
       where
-        side : (R s t : ℕ) → R < 64 → s < 16 → t < 16 → Dec (pairAt s t ≡ at) → Exactly (mark r R (pairAt s t)) ((mark w R (pairAt s t) ≡ true) ⊎ Adds m kind from by to R s t)
+        side : (R s t : ℕ) → R < 64 → s < 16 → t < 16 → Dec (pairAt s t ≡ at) → Exactly (mark r R (pairAt s t)) ((mark w R (pairAt s t) ≡ true) ⊎ ByStep m kind from by to R s t)
         side R s t hR hs h (yes e) = there R s t hR hs h e
         side R s t hR hs h (no ne) = elsewhere R s t hR hs h ne
 
@@ -122,7 +122,7 @@ module _ (t : List ℕ) (m w r : List (List Bool)) (k : ℕ) (so : WaysOf (numbe
   ways-more = record { at = λ R a b hR ha hb. record { holds = λ e. found R a b hR ha hb (more .at R a b hR ha hb .holds e); shows = shown R a b hR ha hb } }
     where
       found : (R a b : ℕ) → R < 64 → a < 16 → b < 16
-          → (mark w R (pairAt a b) ≡ true) ⊎ Adds m kind-of (state (getD t (4 * k + 1) 0)) (signed (getD t (4 * k + 2) 0)) (state (getD t (4 * k + 3) 0)) R a b
+          → (mark w R (pairAt a b) ≡ true) ⊎ ByStep m kind-of (state (getD t (4 * k + 1) 0)) (signed (getD t (4 * k + 2) 0)) (state (getD t (4 * k + 3) 0)) R a b
           → Way (numbered (stepAt t) (k + 1)) m R a b
       found R a b hR ha hb (inl e) =
           let y = so .at R a b hR ha hb .holds e in

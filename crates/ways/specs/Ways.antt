@@ -35,7 +35,7 @@ pub record WithStep (w m : List (List Bool)) (at by : ℕ) (r : List (List Bool)
   pub else : (i p : ℕ) → i < 2 * mostRoles → (p ≡ at → ⊥) → mark r i p ≡ mark w i p
 
 -- what one step adds
-pub record Adds (m : List (List Bool)) (kind : ℕ) (from : State) (by : SignedRole) (to : State) (R s t : ℕ) : Type 0 where
+pub record ByStep (m : List (List Bool)) (kind : ℕ) (from : State) (by : SignedRole) (to : State) (R s t : ℕ) : Type 0 where
   pub role-step : kind ≡ 0
   pub from-there : from .0 ≡ s
   pub to-there : to .0 ≡ t
@@ -43,4 +43,4 @@ pub record Adds (m : List (List Bool)) (kind : ℕ) (from : State) (by : SignedR
 
 -- the ways with one step more
 pub record OneWay (w m : List (List Bool)) (kind : ℕ) (from : State) (by : SignedRole) (to : State) (r : List (List Bool)) : Type 0 where
-  pub at : (R s t : ℕ) → R < 2 * mostRoles → s < mostStates → t < mostStates → Exactly (mark r R (pairAt s t)) ((mark w R (pairAt s t) ≡ true) ⊎ Adds m kind from by to R s t)
+  pub at : (R s t : ℕ) → R < 2 * mostRoles → s < mostStates → t < mostStates → Exactly (mark r R (pairAt s t)) ((mark w R (pairAt s t) ≡ true) ⊎ ByStep m kind from by to R s t)

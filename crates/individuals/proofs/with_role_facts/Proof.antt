@@ -2,7 +2,7 @@
 use Prim.Native.Nat.{_-_, _/_, _≤_}
 use mathlib.Core.Path.{_≡_, refl}
 use lib.ListN.{length}
-use Rattle.individuals.specs.Adds.{Adds, Some, adds-none, adds-more, adds-all}
+use Rattle.laws.specs.Gains.{Gains, Some, gains-none, gains-more, gains-all}
 use Rattle.individuals.specs.Facts.{RoleHit}
 use borrow.Author.Needs.{needs}
 use native.Mathlib.Omega.{arith}
@@ -10,13 +10,13 @@ use Rattle.individuals.proofs.with_role_facts.Statement.{statement}
 use Rattle.individuals.proofs.with_role_facts.Tie as tie
 
 abbrev Inv-loop : tie.InvT-loop
-Inv-loop rows₀ facts order n k₀ rows k = (n ≡ length facts / 3) × (k ≤ n) × Adds rows₀ (Some (RoleHit facts order) k) rows
+Inv-loop rows₀ facts order n k₀ rows k = (n ≡ length facts / 3) × (k ≤ n) × Gains 255 128 rows₀ (Some (RoleHit facts order) k) rows
 
 abbrev μ-loop : tie.MeasureT-loop
 μ-loop rows₀ facts order n k₀ rows k = n - k
 
 loop-holds : tie.Need-loop-holds Inv-loop μ-loop
-loop-holds c = (refl, search needs, adds-none _ _)
+loop-holds c = (refl, search needs, gains-none 255 128 _ _)
 
 mul-at : tie.Need-mul-at Inv-loop μ-loop
 mul-at c = search needs
@@ -57,10 +57,10 @@ loop-less c = search needs
 loop-again : tie.Need-loop-again Inv-loop μ-loop
 loop-again c =
     let l = c .before .before .before .before .before .before .loop in
-    (l .inv .0, search needs, adds-more _ _ _ _ _ (l .inv .2) (c .one-role-fact .ensures))
+    (l .inv .0, search needs, gains-more 255 128 _ _ _ _ _ (l .inv .2) (c .one-role-fact .ensures))
 
 returns : tie.Need-returns Inv-loop μ-loop
-returns c = adds-all _ _ _ _ _ (omega arith) (c .before .loop .inv .2)
+returns c = gains-all 255 128 _ _ _ _ _ (omega arith) (c .before .loop .inv .2)
 
 pub with-role-facts-spec : {M : Type 1} → statement M
 with-role-facts-spec =

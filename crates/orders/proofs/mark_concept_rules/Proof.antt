@@ -3,7 +3,8 @@ use Prim.Native.Nat.{_+_, _*_, _-_, _/_, _≤_}
 use mathlib.Core.Path.{_≡_, refl}
 use mathlib.Core.Logic.{⊎-elim}
 use lib.ListN.{length, getD}
-use Rattle.orders.specs.Adds.{Adds, Pair, Some, adds-none, adds-more, adds-all, Square, square, turn-stores, turn-passes}
+use Rattle.laws.specs.Gains.{Gains, Some, gains-none, gains-more, gains-all}
+use Rattle.orders.specs.Matrix.{Pair, Square, turn-stores, turn-passes}
 use Rattle.orders.specs.Table.{Hit}
 use borrow.Author.Needs.{needs}
 use native.Mathlib.Omega.{arith}
@@ -11,13 +12,13 @@ use Rattle.orders.proofs.mark_concept_rules.Statement.{statement}
 use Rattle.orders.proofs.mark_concept_rules.Tie as tie
 
 abbrev Inv-loop : tie.InvT-loop
-Inv-loop rules out₀ n k₀ out k = (n ≡ length rules / 2) × (k ≤ n) × Square 128 out × Adds 128 out₀ (Some (Hit rules) k) out
+Inv-loop m₀ rules n k₀ m k = (n ≡ length rules / 2) × (k ≤ n) × Square 128 m × Gains 128 128 m₀ (Some (Hit rules) k) m
 
 abbrev μ-loop : tie.MeasureT-loop
-μ-loop rules out₀ n k₀ out k = n - k
+μ-loop m₀ rules n k₀ m k = n - k
 
 loop-holds : tie.Need-loop-holds Inv-loop μ-loop
-loop-holds c = (refl, search needs, square 128 _ _ (search needs) (c .good .0 .1 .1), adds-none 128 _ _)
+loop-holds c = (refl, search needs, c .pre, gains-none 128 128 _ _)
 
 mul-at : tie.Need-mul-at Inv-loop μ-loop
 mul-at c = search needs
@@ -43,14 +44,14 @@ shared-slice-read-j c = search needs
 cast-j : tie.Need-cast-j Inv-loop μ-loop
 cast-j c = omega (arith, c .shared-slice-known2 .given (2 * c .before .before .before .loop .k + 1))
 
-mul-out : tie.Need-mul-out Inv-loop μ-loop
-mul-out c = search needs
+mul-m : tie.Need-mul-m Inv-loop μ-loop
+mul-m c = search needs
 
-index-1-out : tie.Need-index-1-out Inv-loop μ-loop
-index-1-out c = search needs
+index-1-m : tie.Need-index-1-m Inv-loop μ-loop
+index-1-m c = search needs
 
-index-2-out : tie.Need-index-2-out Inv-loop μ-loop
-index-2-out c = search needs
+index-2-m : tie.Need-index-2-m Inv-loop μ-loop
+index-2-m c = search needs
 
 add-k : tie.Need-add-k Inv-loop μ-loop
 add-k c = search needs
@@ -64,15 +65,15 @@ loop-again c =
     let l = at .loop in
     let i = getD (at .before .args .rules .now) (2 * l .k) 0 in
     let j = getD (at .before .args .rules .now) (2 * l .k + 1) 0 in
-    let r = c .if1 .out in
-    let w : Square 128 r × Adds 128 (l .out) (Pair i j) r =
-    ⊎-elim (λ p. turn-stores 128 (l .out) (l .inv .2) i j r (p .0 .taken) (p .1 .taken) (p .2))
-    (⊎-elim (λ p. turn-passes 128 (l .out) (l .inv .2) i j r (λ x y. omega (arith, p .1 .left)) (p .2))
-    (λ p. turn-passes 128 (l .out) (l .inv .2) i j r (λ x y. omega (arith, p .0 .left)) (p .1))) (c .if1 .came) in
-    (l .inv .0, search needs, w .0, adds-more 128 _ _ _ _ _ (l .inv .3) (w .1))
+    let r = c .if1 .m in
+    let w : Square 128 r × Gains 128 128 (l .m) (Pair i j) r =
+    ⊎-elim (λ p. turn-stores 128 (l .m) (l .inv .2) i j r (p .0 .taken) (p .1 .taken) (p .2))
+    (⊎-elim (λ p. turn-passes 128 (l .m) (l .inv .2) i j r (λ x y. omega (arith, p .1 .left)) (p .2))
+    (λ p. turn-passes 128 (l .m) (l .inv .2) i j r (λ x y. omega (arith, p .0 .left)) (p .1))) (c .if1 .came) in
+    (l .inv .0, search needs, w .0, gains-more 128 128 _ _ _ _ _ (l .inv .3) (w .1))
 
 returns : tie.Need-returns Inv-loop μ-loop
-returns c = adds-all 128 _ _ _ _ _ (omega arith) (c .before .loop .inv .3)
+returns c = let v = c .before .loop .inv in (v .2, gains-all 128 128 _ _ _ _ _ (omega arith) (v .3))
 
 pub mark-concept-rules-spec : {M : Type 1} → statement M
 mark-concept-rules-spec =
@@ -89,9 +90,9 @@ mark-concept-rules-spec =
     mul-j
     shared-slice-read-j
     cast-j
-    mul-out
-    index-1-out
-    index-2-out
+    mul-m
+    index-1-m
+    index-2-m
     add-k
     loop-less
     loop-again

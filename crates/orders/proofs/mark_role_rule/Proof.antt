@@ -18,10 +18,13 @@ mark-role-requires-2 c κs = search needs
 
 returns : tie.Need-returns
 returns c =
-    let back = c .before .before in
-    let start = back .before .before in
-    adds-turned _ _ _ (start .args .left) (start .args .right) _ _ (back .before .mark-role .ensures) (c .mark-role2 .ensures) (back .inverse .ensures)
-    (c .before .inverse2 .ensures)
+    let back = c .before .before .before in
+    let start = back .before .before .before in
+    let other = c .mark-role2 .ensures in (
+      other .0,
+      adds-turned _ _ _ (start .args .left) (start .args .right) _ _ (back .before .mark-role .ensures .1) (other .1) (back .inverse .ensures)
+          (c .before .before .inverse2 .ensures),
+    )
 
 pub mark-role-rule-spec : {M : Type 1} → statement M
 mark-role-rule-spec =

@@ -1,8 +1,9 @@
--- `mark_role_rules` meets its contract: after k turns the first k rules are marked.
+-- `mark_role_rules` meets its contract: after k turns the first k rules are marked, and the matrix is still square.
 use Prim.Native.Nat.{_-_, _/_, _≤_}
 use mathlib.Core.Path.{_≡_, refl}
 use lib.ListN.{length}
-use Rattle.orders.specs.Adds.{Adds, Some, adds-none, adds-more, adds-all}
+use Rattle.laws.specs.Gains.{Gains, Some, gains-none, gains-more, gains-all}
+use Rattle.orders.specs.Matrix.{Square}
 use Rattle.orders.specs.Follow.{RoleHit}
 use borrow.Author.Needs.{needs}
 use native.Mathlib.Omega.{arith}
@@ -10,13 +11,13 @@ use Rattle.orders.proofs.mark_role_rules.Statement.{statement}
 use Rattle.orders.proofs.mark_role_rules.Tie as tie
 
 abbrev Inv-loop : tie.InvT-loop
-Inv-loop rules out₀ n k₀ out k = (n ≡ length rules / 2) × (k ≤ n) × Adds 64 out₀ (Some (RoleHit rules) k) out
+Inv-loop m₀ rules n k₀ m k = (n ≡ length rules / 2) × (k ≤ n) × Square 64 m × Gains 64 64 m₀ (Some (RoleHit rules) k) m
 
 abbrev μ-loop : tie.MeasureT-loop
-μ-loop rules out₀ n k₀ out k = n - k
+μ-loop m₀ rules n k₀ m k = n - k
 
 loop-holds : tie.Need-loop-holds Inv-loop μ-loop
-loop-holds c = (refl, search needs, adds-none 64 _ _)
+loop-holds c = (refl, search needs, search needs, gains-none 64 64 _ _)
 
 mul-at : tie.Need-mul-at Inv-loop μ-loop
 mul-at c = search needs
@@ -47,11 +48,12 @@ loop-less c = search needs
 
 loop-again : tie.Need-loop-again Inv-loop μ-loop
 loop-again c =
-    let l = c .before .before .before .before .loop in
-    (l .inv .0, search needs, adds-more 64 _ _ _ _ _ (l .inv .2) (c .mark-role-rule .ensures))
+    let l = c .before .before .before .before .before .loop in
+    let e = c .mark-role-rule .ensures in
+    (l .inv .0, search needs, e .0, gains-more 64 64 _ _ _ _ _ (l .inv .3) (e .1))
 
 returns : tie.Need-returns Inv-loop μ-loop
-returns c = adds-all 64 _ _ _ _ _ (omega arith) (c .before .loop .inv .2)
+returns c = gains-all 64 64 _ _ _ _ _ (omega arith) (c .before .loop .inv .3)
 
 pub mark-role-rules-spec : {M : Type 1} → statement M
 mark-role-rules-spec =

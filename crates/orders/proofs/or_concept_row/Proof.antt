@@ -1,6 +1,6 @@
 -- `or_concept_row` meets its contract: each mark below j is the one or the other, and from j on the row is as it was.
 use Prim.Native.Nat.{_-_}
-use mathlib.Core.Bool.{false}
+use mathlib.Core.Bool.{true, false}
 use Rattle.laws.specs.Fill.{Filling, none-done, one-more, all-done}
 use Rattle.orders.specs.Close.{OrMark}
 use borrow.Author.Needs.{needs}
@@ -8,10 +8,10 @@ use Rattle.orders.proofs.or_concept_row.Statement.{statement}
 use Rattle.orders.proofs.or_concept_row.Tie as tie
 
 abbrev Inv-loop : tie.InvT-loop
-Inv-loop on b out₀ j₀ out j = Filling (OrMark out₀ b on) false 128 out₀ out j
+Inv-loop b out₀ j₀ out j = Filling (OrMark out₀ b true) false 128 out₀ out j
 
 abbrev μ-loop : tie.MeasureT-loop
-μ-loop on b out₀ j₀ out j = 128 - j
+μ-loop b out₀ j₀ out j = 128 - j
 
 loop-holds : tie.Need-loop-holds Inv-loop μ-loop
 loop-holds c = none-done _ false 128 _ (search needs)

@@ -1,30 +1,29 @@
--- `reflexive_concepts` meets its contract: each row below i has its own mark, and from i on the rows are as they were.
-use Prim.Native.Nat.{_-_}
-use mathlib.Core.List.{[]}
-use Rattle.laws.specs.Fill.{Filling, none-done, one-more, all-done}
-use Rattle.orders.specs.Adds.{square}
-use Rattle.orders.specs.Close.{Own, reflected}
+-- `reflexive_concepts` meets its contract: each (h, h) below i is marked, and the matrix is still square.
+use Prim.Native.Nat.{_-_, _≤_}
+use mathlib.Core.Path.{refl}
+use Rattle.laws.specs.Gains.{Gains, Some, gains-none, gains-more}
+use Rattle.orders.specs.Matrix.{Square, Own, adds-diagonal, turn-stores}
 use borrow.Author.Needs.{needs}
 use Rattle.orders.proofs.reflexive_concepts.Statement.{statement}
 use Rattle.orders.proofs.reflexive_concepts.Tie as tie
 
 abbrev Inv-loop : tie.InvT-loop
-Inv-loop out₀ i₀ out i = Filling (Own out₀) [] 128 out₀ out i
+Inv-loop m₀ i₀ m i = (i ≤ 128) × Square 128 m × Gains 128 128 m₀ (Some Own i) m
 
 abbrev μ-loop : tie.MeasureT-loop
-μ-loop out₀ i₀ out i = 128 - i
+μ-loop m₀ i₀ m i = 128 - i
 
 loop-holds : tie.Need-loop-holds Inv-loop μ-loop
-loop-holds c = none-done _ [] 128 _ (search needs)
+loop-holds c = (search needs, c .pre, gains-none 128 128 Own _)
 
-mul-out : tie.Need-mul-out Inv-loop μ-loop
-mul-out c = search needs
+mul-m : tie.Need-mul-m Inv-loop μ-loop
+mul-m c = search needs
 
-index-1-out : tie.Need-index-1-out Inv-loop μ-loop
-index-1-out c = search needs
+index-1-m : tie.Need-index-1-m Inv-loop μ-loop
+index-1-m c = search needs
 
-index-2-out : tie.Need-index-2-out Inv-loop μ-loop
-index-2-out c = search needs
+index-2-m : tie.Need-index-2-m Inv-loop μ-loop
+index-2-m c = search needs
 
 add-i : tie.Need-add-i Inv-loop μ-loop
 add-i c = search needs
@@ -33,12 +32,13 @@ loop-less : tie.Need-loop-less Inv-loop μ-loop
 loop-less c = search needs
 
 loop-again : tie.Need-loop-again Inv-loop μ-loop
-loop-again c = one-more _ [] 128 _ _ _ _ (c .before .loop .inv) (search needs) (λ e. cc)
+loop-again c =
+    let l = c .before .loop in
+    let w = turn-stores 128 (l .m) (l .inv .1) (l .i) (l .i) _ (search needs) (search needs) refl in
+    (search needs, w .0, gains-more 128 128 Own _ _ _ (l .i) (l .inv .2) (w .1))
 
 returns : tie.Need-returns Inv-loop μ-loop
-returns c =
-    let s = c .before .before in
-    reflected 128 _ _ (square 128 (s .args .m) _ (search needs) (s .good .0 .1 .1)) (all-done _ [] 128 _ _ _ (c .before .loop .inv) (search needs))
+returns c = let l = c .before .loop in (l .inv .1, adds-diagonal 128 _ _ (l .i) (search needs) (l .inv .2))
 
 pub reflexive-concepts-spec : {M : Type 1} → statement M
 reflexive-concepts-spec =
@@ -47,9 +47,9 @@ reflexive-concepts-spec =
     Inv-loop
     μ-loop
     loop-holds
-    mul-out
-    index-1-out
-    index-2-out
+    mul-m
+    index-1-m
+    index-2-m
     add-i
     loop-less
     loop-again

@@ -1,21 +1,20 @@
--- `reflexive_roles` meets its contract: each row below i has its own mark, and from i on the rows are as they were.
-use Prim.Native.Nat.{_-_}
-use mathlib.Core.List.{[]}
-use Rattle.laws.specs.Fill.{Filling, none-done, one-more, all-done}
-use Rattle.orders.specs.Adds.{square}
-use Rattle.orders.specs.Close.{Own, reflected}
+-- `reflexive_roles` meets its contract: each (h, h) below i is marked, and the matrix is still square.
+use Prim.Native.Nat.{_-_, _≤_}
+use mathlib.Core.Path.{refl}
+use Rattle.laws.specs.Gains.{Gains, Some, gains-none, gains-more}
+use Rattle.orders.specs.Matrix.{Square, square, Own, adds-diagonal, turn-stores}
 use borrow.Author.Needs.{needs}
 use Rattle.orders.proofs.reflexive_roles.Statement.{statement}
 use Rattle.orders.proofs.reflexive_roles.Tie as tie
 
 abbrev Inv-loop : tie.InvT-loop
-Inv-loop out₀ i₀ out i = Filling (Own out₀) [] 64 out₀ out i
+Inv-loop out₀ i₀ out i = (i ≤ 64) × Square 64 out × Gains 64 64 out₀ (Some Own i) out
 
 abbrev μ-loop : tie.MeasureT-loop
 μ-loop out₀ i₀ out i = 64 - i
 
 loop-holds : tie.Need-loop-holds Inv-loop μ-loop
-loop-holds c = none-done _ [] 64 _ (search needs)
+loop-holds c = (search needs, square 64 _ _ (search needs) (c .good .0 .1 .1), gains-none 64 64 Own _)
 
 mul-out : tie.Need-mul-out Inv-loop μ-loop
 mul-out c = search needs
@@ -33,12 +32,13 @@ loop-less : tie.Need-loop-less Inv-loop μ-loop
 loop-less c = search needs
 
 loop-again : tie.Need-loop-again Inv-loop μ-loop
-loop-again c = one-more _ [] 64 _ _ _ _ (c .before .loop .inv) (search needs) (λ e. cc)
+loop-again c =
+    let l = c .before .loop in
+    let w = turn-stores 64 (l .out) (l .inv .1) (l .i) (l .i) _ (search needs) (search needs) refl in
+    (search needs, w .0, gains-more 64 64 Own _ _ _ (l .i) (l .inv .2) (w .1))
 
 returns : tie.Need-returns Inv-loop μ-loop
-returns c =
-    let s = c .before .before in
-    reflected 64 _ _ (square 64 (s .args .m) _ (search needs) (s .good .0 .1 .1)) (all-done _ [] 64 _ _ _ (c .before .loop .inv) (search needs))
+returns c = let l = c .before .loop in adds-diagonal 64 _ _ (l .i) (search needs) (l .inv .2)
 
 pub reflexive-roles-spec : {M : Type 1} → statement M
 reflexive-roles-spec =

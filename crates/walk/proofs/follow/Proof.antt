@@ -40,23 +40,20 @@ mul-role c = search needs
 add-role : tie.Need-add-role
 add-role c = search needs
 
-mul-image : tie.Need-mul-image
-mul-image c = search needs
-
-image-requires : tie.Need-image-requires
-image-requires c κs = search needs
-
 cast-join : tie.Need-cast-join
 cast-join c = search needs
+
+led-requires : tie.Need-led-requires
+led-requires c κs = search needs
 
 join-requires : tie.Need-join-requires
 join-requires c κs = search needs
 
 returns-3 : tie.Need-returns-3
 returns-3 c =
-    let i = c .before .before in
-    let e = i .before .before in
-    hop-joins _ _ _ _ _ _ _ _ (e .before .before .if1 .left) (e .if2 .left) (i .image .ensures) (c .join .ensures)
+    let l = c .before in
+    let e = l .before .before .before in
+    hop-joins _ _ _ _ _ _ _ _ (e .before .before .if1 .left) (e .if2 .left) (l .led .ensures) (c .join .ensures)
 
 pub follow-spec : {M : Type 1} → statement M
 follow-spec =
@@ -74,8 +71,7 @@ follow-spec =
     cast-role
     mul-role
     add-role
-    mul-image
-    image-requires
     cast-join
+    led-requires
     join-requires
     returns-3)

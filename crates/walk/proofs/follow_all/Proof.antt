@@ -1,6 +1,7 @@
 -- `follow_all` meets its contract. The hops of the chain before h have been followed.
 use Prim.Native.Nat.{_-_, _<_}
 use Rattle.routes.specs.Routes.{hops}
+use Rattle.walk.specs.Quarters.{waysOf}
 use Rattle.walk.specs.Hops.{Following, follow-start, follow-more, follow-last, follow-end}
 use borrow.Author.Needs.{needs}
 use native.Mathlib.Omega.{arith}
@@ -8,10 +9,10 @@ use Rattle.walk.proofs.follow_all.Statement.{statement}
 use Rattle.walk.proofs.follow_all.Tie as tie
 
 abbrev Inv-loop : tie.InvT-loop
-Inv-loop reached₀ ways links facts count a m grew₀ h₀ reached grew h = Following ways links facts a m reached₀ h reached grew
+Inv-loop reached₀ quarters links facts count a m grew₀ h₀ reached grew h = Following (waysOf quarters) links facts a m reached₀ h reached grew
 
 abbrev μ-loop : tie.MeasureT-loop
-μ-loop reached₀ ways links facts count a m grew₀ h₀ reached grew h = count - h
+μ-loop reached₀ quarters links facts count a m grew₀ h₀ reached grew h = count - h
 
 abbrev start : tie.At-loop Inv-loop μ-loop → tie.Start Inv-loop μ-loop
 start c = c .before .before .before .before
@@ -36,7 +37,7 @@ loop-holds : tie.Need-loop-holds Inv-loop μ-loop
 loop-holds c = follow-start _ _ _ _ _ _ _ (c .wide .ensures)
 
 follow-requires : tie.Need-follow-requires Inv-loop μ-loop
-follow-requires c κs = (inside (c .before), c .before .before .loop .inv .raised .held (start (c .before .before) .pre .2))
+follow-requires c κs = (inside (c .before), c .before .before .loop .inv .raised .held (start (c .before .before) .pre .2), start (c .before .before) .pre .3)
 
 mul-wide-2 : tie.Need-mul-wide-2 Inv-loop μ-loop
 mul-wide-2 c = omega (arith, inside (c .before .before))

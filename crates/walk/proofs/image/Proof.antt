@@ -9,10 +9,10 @@ use Rattle.walk.proofs.image.Statement.{statement}
 use Rattle.walk.proofs.image.Tie as tie
 
 abbrev Inv-loop : tie.InvT-loop
-Inv-loop table at m out₀ s₀ out s = Imaging table at m s out
+Inv-loop table at n m out₀ s₀ out s = Imaging table at m s out
 
 abbrev μ-loop : tie.MeasureT-loop
-μ-loop table at m out₀ s₀ out s = 16 - s
+μ-loop table at n m out₀ s₀ out s = n - s
 
 loop-holds : tie.Need-loop-holds Inv-loop μ-loop
 loop-holds c = imaging-start _ _ _
@@ -46,10 +46,10 @@ loop-less : tie.Need-loop-less Inv-loop μ-loop
 loop-less c = search needs
 
 loop-again : tie.Need-loop-again Inv-loop μ-loop
-loop-again c = imaging-more _ _ _ _ _ (c .before .before .loop .inv) (c .before .loop-test .taken)
+loop-again c = imaging-more _ _ _ _ _ (c .before .before .loop .inv)
 
 returns : tie.Need-returns Inv-loop μ-loop
-returns c = imaging-end _ _ _ _ _ (c .before .loop .inv) (c .loop-test .left) (c .before .before .fits .m .fits)
+returns c = imaging-end _ _ _ _ _ _ (c .before .loop .inv) (c .loop-test .left) (c .before .before .pre .2)
 
 pub image-spec : {M : Type 1} → statement M
 image-spec =

@@ -2,6 +2,7 @@
 use Prim.Native.Nat.{_+_, _-_, _≤_}
 use borrow.Author.Tests.{not-true}
 use Rattle.walk.specs.Behind.{part}
+use Rattle.walk.specs.Quarters.{waysOf}
 use Rattle.walk.specs.Steps.{Passed, passed-start, passed-clean, passed-then, passed-end}
 use borrow.Author.Needs.{needs}
 use native.Mathlib.Omega.{arith}
@@ -9,11 +10,11 @@ use Rattle.walk.proofs.pass.Statement.{statement}
 use Rattle.walk.proofs.pass.Tie as tie
 
 abbrev Inv-loop : tie.InvT-loop
-Inv-loop reached₀ followed₀ loops ways links facts count at again₀ i₀ reached followed again i =
-    (i ≤ part) × Passed loops ways links facts at (at + i) reached₀ followed₀ reached followed again
+Inv-loop reached₀ followed₀ loops quarters links facts count at again₀ i₀ reached followed again i =
+    (i ≤ part) × Passed loops (waysOf quarters) links facts at (at + i) reached₀ followed₀ reached followed again
 
 abbrev μ-loop : tie.MeasureT-loop
-μ-loop reached₀ followed₀ loops ways links facts count at again₀ i₀ reached followed again i = part - i
+μ-loop reached₀ followed₀ loops quarters links facts count at again₀ i₀ reached followed again i = part - i
 
 abbrev start : tie.After-behind Inv-loop μ-loop → tie.Start Inv-loop μ-loop
 start c = c .before .before .before .before
@@ -36,7 +37,7 @@ visit-requires : tie.Need-visit-requires Inv-loop μ-loop
 visit-requires c κs =
     let l = c .before .before in
     let s = start (l .before .before .before) in
-    (omega (arith, l .loop-test .taken, s .pre .0), s .pre .1, l .before .loop .inv .1 .ready)
+    (omega (arith, l .loop-test .taken, s .pre .0), s .pre .1, l .before .loop .inv .1 .ready, s .pre .3)
 
 add-i : tie.Need-add-i Inv-loop μ-loop
 add-i c = search needs

@@ -50,7 +50,7 @@ follow-all-requires c κs =
     let t = c .before .before in
     let s = t .before .before .before .before .before in
     let r = s .pre .2 .held in
-    (s .pre .0, s .pre .1, held-set _ _ _ _ r (omega (arith, s .pre .0, r .long)) (t .settle .ensures .reached .small))
+    (s .pre .0, s .pre .1, held-set _ _ _ _ r (omega (arith, s .pre .0, r .long)) (t .settle .ensures .reached .small), s .pre .3)
 
 returns-2 : tie.Need-returns-2
 returns-2 c =
