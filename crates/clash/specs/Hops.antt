@@ -15,6 +15,7 @@ use Rattle.laws.specs.Masks.{Bit}
 use Rattle.laws.specs.Numbers.{numbered-in, numbered-out}
 use Rattle.meaning.specs.Lent.{records, roleFactWidth, roleFact}
 use Rattle.routes.specs.Routes.{source, target, roleOf}
+use Rattle.routes.specs.HopNumbers.{hop-forth, hop-back}
 use Rattle.clash.specs.Clashes.{Breaks, FactRole, ahead, behind}
 use Rattle.clash.specs.Conflicts.{Below, Conflict, Conflicts}
 
@@ -54,16 +55,6 @@ record ByHop (rf : List ℕ) (roles : List (List Bool)) (a b S : ℕ) : Type 0 w
   pub marked : mark roles (roleOf rf hop) S ≡ true
 
 module _ (rf : List ℕ) where
-  place : (p q : ℕ) → p ≡ q → getD rf p 0 ≡ getD rf q 0
-  place p q e = ap (λ (x : ℕ). getD rf x 0) e
-
-  -- the numbers of a hop, forward and backward along fact k
-  along : (h k : ℕ) → h ≡ 2 * k → (source rf h ≡ getD rf (3 * k + 1) 0) × (target rf h ≡ getD rf (3 * k + 2) 0) × (roleOf rf h ≡ 2 * getD rf (3 * k + 0) 0)
-  along h k e = (place _ _ (omega arith), place _ _ (omega arith), omega (arith, place (3 * (h / 2)) (3 * k + 0) (omega arith)))
-
-  back : (h k : ℕ) → h ≡ 2 * k + 1 → (source rf h ≡ getD rf (3 * k + 2) 0) × (target rf h ≡ getD rf (3 * k + 1) 0) × (roleOf rf h ≡ 2 * getD rf (3 * k + 0) 0 + 1)
-  back h k e = (place _ _ (omega arith), place _ _ (omega arith), omega (arith, place (3 * (h / 2)) (3 * k + 0) (omega arith)))
-
   module _ (roles : List (List Bool)) (a b S : ℕ) where
     hop-fact : a < mostIndividuals → ByHop rf roles a b S → Joined rf roles a b S
     unfolding records
@@ -71,13 +62,13 @@ module _ (rf : List ℕ) where
       where
         side : (k : ℕ) → k ≡ w .hop / 2 → k < length rf / 3 → Dec (w .hop % 2 ≡ 0) → Joined rf roles a b S
         side k e i (yes z) =
-            let n = along (w .hop) k (omega arith) in
+            let n = hop-forth rf (w .hop) k (omega arith) in
             let d = w .leads in
             subst₂ (λ (x y : ℕ). Joined rf roles x y S) (sym (n .0) ∙ d .from) (sym (n .1) ∙ w .to)
             (ahead (roleName (getD rf (3 * k + 0) 0)) (numbered-in (roleFact rf) (length rf / 3) k i)
             (record { role = omega (arith, n .2, d .role); first = omega (arith, n .0, d .from, low); second = omega (arith, n .1, d .row) }) (rw (n .2) at (w .marked)))
         side k e i (no z) =
-            let n = back (w .hop) k (omega arith) in
+            let n = hop-back rf (w .hop) k (omega arith) in
             let d = w .leads in
             subst₂ (λ (x y : ℕ). Joined rf roles x y S) (sym (n .0) ∙ d .from) (sym (n .1) ∙ w .to)
             (behind (roleName (getD rf (3 * k + 0) 0)) (numbered-in (roleFact rf) (length rf / 3) k i)
@@ -97,7 +88,7 @@ module _ (rf : List ℕ) where
     fact-hop (ahead r m l p) =
         let w = numbered-out (roleFact rf) (length rf / 3) m in
         let f = numbers r a b (w .0) (w .2) in
-        let n = along (2 * w .0) (w .0) refl in
+        let n = hop-forth rf (2 * w .0) (w .0) refl in
         let k = w .1 in
         let q : 2 * r .0 ≡ roleOf rf (2 * w .0) = omega (arith, f .0, n .2) in
         record {
@@ -109,7 +100,7 @@ module _ (rf : List ℕ) where
     fact-hop (behind r m l p) =
         let w = numbered-out (roleFact rf) (length rf / 3) m in
         let f = numbers r b a (w .0) (w .2) in
-        let n = back (2 * w .0 + 1) (w .0) refl in
+        let n = hop-back rf (2 * w .0 + 1) (w .0) refl in
         let k = w .1 in
         let q : 2 * r .0 + 1 ≡ roleOf rf (2 * w .0 + 1) = omega (arith, f .0, n .2) in
         record {

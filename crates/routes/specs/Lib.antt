@@ -5,5 +5,6 @@ pub mod Unique
 pub mod Cells
 pub mod Chains
 -- What callers use.
+pub mod HopNumbers
 pub mod Followed
 pub mod Mean

@@ -1,13 +1,13 @@
 // The tables that the individuals' walk reads: loops and ways as sets of states, and the facts at each individual as a chain.
 ghost use mathlib.Core.Path.{_≡_};
-ghost use Prim.Native.Nat.{_+_, _<_, _≤_};
+ghost use Prim.Native.Nat.{_+_, _*_, _<_, _≤_};
 ghost use lib.ListN.{length};
 ghost use Rattle.laws.specs.Exactly.{Exactly};
 ghost use Rattle.laws.specs.Found.{Some};
 ghost use Rattle.meaning.specs.Layout.{areaLength};
 ghost use Rattle.routes.specs.Routes.{Loops, Packed, Links, hops, source};
 ghost use Rattle.laws.specs.Sets.{With, Gathered};
-ghost use Rattle.routes.specs.Cells.{Meets, LoopTo, WayTo};
+ghost use Rattle.routes.specs.Cells.{Meets, Marked, LoopTo, WayTo, Stored};
 use kinds::Individual;
 use tables::AREA;
 use tables::ROLE_FACTS;
@@ -49,7 +49,28 @@ fn loops_from(row: [bool; 128], area: &[u8], s: usize) -> u16
     m
 }
 
-// The loops of each individual at each state; an area of another length has none.
+// The row has a mark.
+fn any_mark(row: [bool; 128]) -> bool
+    ensures { λ r. ⌜ Exactly r (Some (Marked row) 128) ⌝ }
+{
+    let mut found = false;
+    for b in 0..128 {
+        found = found | row[b];
+    }
+    found
+}
+
+// The loops of the individual a at each state; it has the concepts of the row.
+fn put_loops(out: &mut [u16; 4080], a: usize, row: [bool; 128], area: &[u8])
+    requires { ⌜ (a < 255) × (length (now out) ≡ 4080) × (length (now area) ≡ areaLength) ⌝ }
+    ensures { λ _. ⌜ Stored (LoopTo row (now (area .entry))) (16 * a) 16 (now (out .entry)) (now (out .exit)) ⌝ }
+{
+    for s in 0..16 {
+        out[16 * a + s] = loops_from(row, area, s);
+    }
+}
+
+// The loops of each individual at each state; an area of another length has none. The many individuals with no concept are passed over.
 pub fn loops(concepts: [[bool; 128]; 255], area: &[u8]) -> [u16; 4080]
     ensures { λ r. ⌜ Loops concepts (now (area .entry)) r ⌝ }
 {
@@ -57,9 +78,11 @@ pub fn loops(concepts: [[bool; 128]; 255], area: &[u8]) -> [u16; 4080]
     if area.len() != AREA {
         return out;
     }
-    for k in 0..4080 {
-        let row = concepts[k / 16];
-        out[k] = loops_from(row, area, k % 16);
+    for a in 0..255 {
+        let row = concepts[a];
+        if any_mark(row) {
+            put_loops(&mut out, a, row, area);
+        }
     }
     out
 }

@@ -1,5 +1,5 @@
 -- Hops and the edges that facts give: each hop goes along the edges of its fact, and each edge between individuals is that of a hop.
-use mathlib.Core.Path.{_≡_, sym, ap, _∙_}
+use mathlib.Core.Path.{_≡_, refl, sym, ap, _∙_}
 use mathlib.Core.List.{List}
 use Prim.Native.Nat.{ℕ, _+_, _-_, _*_, _/_, _%_, _<_}
 use native.Mathlib.Decide.{ℕ-discrete}
@@ -17,6 +17,7 @@ use Rattle.meaning.specs.Lent.{Tables, collection, records, roleFactWidth, role
 use Rattle.meaning.specs.Orders.{RoleLe, turned}
 use Rattle.meaning.specs.Model.{FactEdge, ahead, behind}
 use Rattle.routes.specs.Routes.{source, target, roleOf}
+use Rattle.routes.specs.HopNumbers.{hop-forth, hop-back}
 
 module _ (c : Counts) (t : Tables) (ok : NumbersDeclared (collection c t)) where
   abbrev 𝓒 : Collection
@@ -32,26 +33,6 @@ module _ (c : Counts) (t : Tables) (ok : NumbersDeclared (collection c t)) where
   fact-out : {f : RoleName × Individual × Individual} → f ∈ 𝓒 .role-facts → (k : ℕ) × (k < length rf / roleFactWidth) × (f ≡ roleFact rf k)
   unfolding records
   fact-out m = numbered-out (roleFact rf) (length rf / roleFactWidth) m
-
-  -- the fields of hops
-  hop-ahead : (k : ℕ) → (source rf (2 * k) ≡ getD rf (3 * k + 1) 0) × (target rf (2 * k) ≡ getD rf (3 * k + 2) 0) × (roleOf rf (2 * k) ≡ 2 * getD rf (3 * k + 0) 0)
-  hop-ahead k =
-      let h : 2 * k / 2 ≡ k = omega arith in
-      let d : 2 * k % 2 ≡ 0 = omega arith in
-      let a : 3 * k + 1 + 0 ≡ 3 * k + 1 = omega arith in
-      let b : 3 * k + 2 - 0 ≡ 3 * k + 2 = omega arith in
-      let r : 3 * k ≡ 3 * k + 0 = omega arith in
-      (rw (h, d, a), rw (h, d, b), rw (h, d, ← r) (omega arith))
-
-  hop-back : (k : ℕ) → (source rf (2 * k + 1) ≡ getD rf (3 * k + 2) 0) × (target rf (2 * k + 1) ≡ getD rf (3 * k + 1) 0)
-      × (roleOf rf (2 * k + 1) ≡ 2 * getD rf (3 * k + 0) 0 + 1)
-  hop-back k =
-      let h : (2 * k + 1) / 2 ≡ k = omega arith in
-      let d : (2 * k + 1) % 2 ≡ 1 = omega arith in
-      let a : 3 * k + 1 + 1 ≡ 3 * k + 2 = omega arith in
-      let b : 3 * k + 2 - 1 ≡ 3 * k + 1 = omega arith in
-      let r : 3 * k ≡ 3 * k + 0 = omega arith in
-      (rw (h, d, a), rw (h, d, b), rw (h, d, ← r))
 
   -- a hop is one way along a fact
   pub data Hop : ℕ → Type 0 where
@@ -74,20 +55,20 @@ module _ (c : Counts) (t : Tables) (ok : NumbersDeclared (collection c t)) where
   pub hop-declared : {h : ℕ} → Hop h → HopDeclared h
   hop-declared (forth k l) =
       let d = ok .role-facts (roleFact rf k) (fact-in k l) in
-      let e = hop-ahead k in
+      let e = hop-forth rf (2 * k) k refl in
       record { source = rw (e .0) (d .1); target = rw (e .1) (d .2); role = (let r = d .0 in rw (e .2) (omega arith)) }
   hop-declared (back k l) =
       let d = ok .role-facts (roleFact rf k) (fact-in k l) in
-      let e = hop-back k in
+      let e = hop-back rf (2 * k + 1) k refl in
       record { source = rw (e .0) (d .2); target = rw (e .1) (d .1); role = (let r = d .0 in rw (e .2) (omega arith)) }
 
   -- it goes along the edges of its fact
   pub hop-edge : {h : ℕ} {S : SignedRole} → Hop h → RoleLe 𝓒 (signed (roleOf rf h)) S → FactEdge 𝓒 (individual (source rf h)) S (individual (target rf h))
   hop-edge (forth k l) m =
-      let e = hop-ahead k in
+      let e = hop-forth rf (2 * k) k refl in
       rw (e .0, e .1) (ahead (fact-in k l) (rw (e .2) at m))
   hop-edge {S = S} (back k l) m =
-      let e = hop-back k in
+      let e = hop-back rf (2 * k + 1) k refl in
       let r = roleName (getD rf (3 * k + 0) 0) in
       let g : RoleLe 𝓒 (inverse (backward r)) (inverse S) = turned (rw (e .2) at m) in
       let f : FactEdge 𝓒 (individual (getD rf (3 * k + 2) 0)) (inverse (inverse S)) (individual (getD rf (3 * k + 1) 0)) =
@@ -106,7 +87,7 @@ module _ (c : Counts) (t : Tables) (ok : NumbersDeclared (collection c t)) where
       let w = fact-out m in
       let k = w .0 in
       let l = w .1 in
-      let e = hop-ahead k in
+      let e = hop-forth rf (2 * k) k refl in
       let er : r ≡ roleName (getD rf (3 * k + 0) 0) = ap (λ (f : RoleName × Individual × Individual). f .0) (w .2) in
       let ea : a ≡ individual (getD rf (3 * k + 1) 0) = ap (λ (f : RoleName × Individual × Individual). f .1) (w .2) in
       let eb : b ≡ individual (getD rf (3 * k + 2) 0) = ap (λ (f : RoleName × Individual × Individual). f .2) (w .2) in
@@ -115,7 +96,7 @@ module _ (c : Counts) (t : Tables) (ok : NumbersDeclared (collection c t)) where
       let w = fact-out m in
       let k = w .0 in
       let l = w .1 in
-      let e = hop-back k in
+      let e = hop-back rf (2 * k + 1) k refl in
       let er : r ≡ roleName (getD rf (3 * k + 0) 0) = ap (λ (f : RoleName × Individual × Individual). f .0) (w .2) in
       let ea : a ≡ individual (getD rf (3 * k + 1) 0) = ap (λ (f : RoleName × Individual × Individual). f .1) (w .2) in
       let eb : b ≡ individual (getD rf (3 * k + 2) 0) = ap (λ (f : RoleName × Individual × Individual). f .2) (w .2) in
