@@ -14,6 +14,7 @@ ghost use Rattle.clash.specs.Walk.{After};
 ghost use Rattle.clash.specs.Parts.{NamedBreaks, UnnamedBreaks, LivingMeets, RolesBreak};
 use kinds::Individual;
 use kinds::RoleName;
+use routes::NO_HOP;
 use routes::links;
 
 // A row of marks for each signed role.
@@ -24,9 +25,6 @@ type RoleSets = [u64; 64];
 
 // The chains of hops, as `routes` makes them. A hop is a fact read forward or backward.
 type Chains = [u16; 8447];
-
-// The hop after the last one that the chains have a place for; their first hops stand after it.
-const NO_HOP: usize = 8192;
 
 // The row has both sides of an exclusion of concepts; one whose numbers have no place in it is passed over.
 fn concept_breaks(exclusions: &[u16], row: [bool; 128]) -> bool

@@ -12,8 +12,8 @@ use kinds::Individual;
 use tables::AREA;
 use tables::ROLE_FACTS;
 
-// The number after that of the last hop: two for each role fact that a table may have.
-const NO_HOP: u16 = 8192;
+// The number after that of the last hop, two for each role fact that a table may have; the chains' first hops stand from there on.
+pub const NO_HOP: usize = 8192;
 
 // The set m, with the state t in it where on is true.
 fn with(m: u16, t: usize, on: bool) -> u16
@@ -134,13 +134,14 @@ fn source_of(facts: &[u16], h: usize) -> Individual
 pub fn links(facts: &[u16]) -> [u16; 8447]
     ensures { λ r. ⌜ Links (now (facts .entry)) r ⌝ }
 {
-    let mut out = [NO_HOP; 8447];
+    let none = NO_HOP as u16;
+    let mut out = [none; 8447];
     let mut h = hop_count(facts);
     while h > 0 {
         h -= 1;
         let a = source_of(facts, h);
         if a.0 < Individual::MOST {
-            let head = NO_HOP as usize + a.0 as usize;
+            let head = NO_HOP + a.0 as usize;
             out[h] = out[head];
             out[head] = h as u16;
         }

@@ -15,6 +15,7 @@ ghost use Rattle.walk.specs.Ends.{Swept};
 use kinds::Individual;
 use kinds::RoleName;
 use kinds::State;
+use routes::NO_HOP;
 use routes::hop_count;
 
 // A set of states for each individual, the state t as the bit t.
@@ -27,9 +28,6 @@ type Links = [u16; 8447];
 
 // For each signed role and each quarter of the 16 states, the images of the 16 sets of states in it.
 type Quarters = [u16; 4096];
-
-// The hop after the last one; the chains' first hops stand after it.
-const NO_HOP: usize = 8192;
 
 // The individuals are tested in 17 parts of 15.
 const PART: usize = 15;

@@ -6,10 +6,13 @@ use Rattle.routes.proofs.links.Statement.{statement}
 use Rattle.routes.proofs.links.Tie as tie
 
 abbrev Inv-loop : tie.InvT-loop
-Inv-loop facts out₀ h₀ out h = LinksFrom facts h out
+Inv-loop facts none out₀ h₀ out h = LinksFrom facts h out
 
 abbrev μ-loop : tie.MeasureT-loop
-μ-loop facts out₀ h₀ out h = h
+μ-loop facts none out₀ h₀ out h = h
+
+cast-none : tie.Need-cast-none Inv-loop μ-loop
+cast-none c = search needs
 
 hop-count-requires : tie.Need-hop-count-requires Inv-loop μ-loop
 hop-count-requires c κs = search needs
@@ -25,9 +28,6 @@ source-of-requires c κs = search needs
 
 cast-head : tie.Need-cast-head Inv-loop μ-loop
 cast-head c = search needs
-
-cast-head-2 : tie.Need-cast-head-2 Inv-loop μ-loop
-cast-head-2 c = search needs
 
 add-head : tie.Need-add-head Inv-loop μ-loop
 add-head c = search needs
@@ -78,12 +78,12 @@ links-spec =
     (tie.spec
     Inv-loop
     μ-loop
+    cast-none
     hop-count-requires
     loop-holds
     sub-h
     source-of-requires
     cast-head
-    cast-head-2
     add-head
     mul-out
     array-read-out
