@@ -4,3 +4,4 @@ pub mod WritesLaws
 pub mod Output
 pub mod Replying
 pub mod Wrote
+pub mod Listed

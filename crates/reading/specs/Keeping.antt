@@ -98,10 +98,10 @@ concepts-small : (c : Counts) → CountsFit c → (C D : Concept) → ConceptsDe
 concepts-small c k C D h = (concept-small c k C (h .0), concept-small c k D (h .1))
 
 module _ (before : List Frame) where
-  begun : (t : ℕ) {rest : ℕ → Type 0} → Into before t rest 0 → Begun before
+  pub begun : (t : ℕ) {rest : ℕ → Type 0} → Into before t rest 0 → Begun before
   begun t h = first-passed h (λ e. omega arith) .0
 
-  rest-of : (t : ℕ) {rest : ℕ → Type 0} → Into before t rest 0 → rest 0
+  pub rest-of : (t : ℕ) {rest : ℕ → Type 0} → Into before t rest 0 → rest 0
   rest-of t h = first-passed (first-passed h (λ e. omega arith) .1) (λ e. omega arith) .1
 
   -- a frame of a table whose numbers are small in any case

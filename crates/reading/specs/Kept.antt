@@ -9,7 +9,6 @@ use lib.Seq.{paste, getD-take, getD-set-same, getD-set-other, ext-getD, take-len
 use native.Mathlib.Nat.{mul-zero, add-zero}
 use native.Mathlib.Omega.{arith}
 use borrow.Author.Tests.{eq-eqb, ne-eqb, eqb-true, eqb-false}
-use Rattle.laws.specs.First.{First, fails, holds}
 use Rattle.laws.specs.Search.{pick}
 use Rattle.laws.specs.Numbers.{numbered, length-numbered, getD-numbered}
 use Rattle.kinds.specs.Kinds.{CountsFit}
@@ -18,8 +17,8 @@ use Rattle.reading.specs.declared.Held.{Held}
 use Rattle.reading.specs.declared.Row.{Row}
 use Rattle.reading.specs.Tables.{tableOf, recordOf, width, entries, table, countsAt, declaredBy, usualAllowance, allowanceOf}
 use Rattle.reading.specs.TableLaws.{entries-more, table-more, record-width, table-length, Within, within-none}
-use Rattle.reading.specs.Reading.{Begun, Judged, Result, faulty, framesOf, Reading}
-use Rattle.reading.specs.ReadingLaws.{taken-room, within-more}
+use Rattle.reading.specs.Reading.{Begun, Judged, Result, framesOf, Reading}
+use Rattle.reading.specs.ReadingLaws.{taken-room, within-more, reading-keeps}
 use Rattle.reading.specs.Store.{place, tableCount, storeLength, shelved, heldOf}
 use Rattle.reading.specs.StoreLaws.{table-below}
 use Rattle.reading.specs.Keeping.{Bytes, Small, RowOf, keptCounts, keptAllowance, keptHeld, Keepable, Keeps, Taking, line-one, later, taking}
@@ -60,7 +59,7 @@ bytes-both (x ∷ xs) ys a b = record { small = at (bytes-both xs ys (record { s
     at r (suc i) = r .small i
 
 module _ (before : List Frame) (f : Frame) where
-  same-table : (t : ℕ) → (tableOf f ≡ t → ⊥) → table t (before ++ f ∷ []) ≡ table t before
+  pub same-table : (t : ℕ) → (tableOf f ≡ t → ⊥) → table t (before ++ f ∷ []) ≡ table t before
   same-table t n = table-more t before f ∙ rw (ne-eqb (tableOf f) t n) (append-nil (table t before))
 
   new-table : (t : ℕ) → tableOf f ≡ t → table t before ≡ [] → table t (before ++ f ∷ []) ≡ recordOf f
@@ -172,14 +171,6 @@ pub sound-none : Sound []
 unfolding table
 sound-none = record { within = within-none; counts = λ b. absurd (omega arith); asks = no-bytes }
 
-first-sound : {P : Type 0} {before : List Frame} {n : ℕ} {Rest : Result → Type 0} {q : Result} → Sound before → (P → Rest q → Sound (framesOf q)) → First P (faulty before n) Rest q → Sound (framesOf q)
-first-sound s on (fails z) = s
-first-sound s on (holds z k) = on z k
-
 -- THEOREM: whatever a file is found to be, what was read of it is sound
 pub reading-sound : (ls : List (List ℕ)) (before : List Frame) (q : Result) → Sound before → Reading before ls q → Sound (framesOf q)
-unfolding Reading
-reading-sound [] [] q s h = rw h s
-reading-sound [] (f ∷ fs) q s h = rw h s
-reading-sound (l ∷ ls) before q s (f, n, m, j, h) =
-    first-sound s (λ z k. reading-sound ls (before ++ f ∷ []) q (sound-more before f (rw z at j) s) k) h
+reading-sound = reading-keeps Sound sound-more

@@ -10,3 +10,4 @@ pub mod Judging
 pub mod Keeping
 pub mod Kept
 pub mod Reads
+pub mod Accepted

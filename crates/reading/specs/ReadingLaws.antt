@@ -7,14 +7,14 @@ use lib.Dec.{eqb}
 use lib.ListN.{length}
 use native.Mathlib.Omega.{arith}
 use borrow.Author.Tests.{eqb-true}
-use Rattle.laws.specs.First.{first-once, first-passed}
+use Rattle.laws.specs.First.{First, fails, holds, first-once, first-passed}
 use Rattle.laws.specs.Search.{pick}
 use Rattle.frames.specs.Frames.{frame-once}
 use Rattle.frames.specs.declared.Frame.{Frame}
 use Rattle.frames.specs.declared.Frame.the-variants.{BadLine, BadFrame, Declared, ConceptRule, ConceptExclusion, RoleRule, RoleExclusion, ConceptFact, RoleFact, RoleStep, TestStep, Final, Ask, Allowance}
 use Rattle.reading.specs.Tables.{tableOf, most, entries}
 use Rattle.reading.specs.TableLaws.{entries-more, Within}
-use Rattle.reading.specs.Reading.{Taken, Into, Judged, Result, Reading}
+use Rattle.reading.specs.Reading.{Taken, Into, Judged, Result, faulty, framesOf, Reading}
 
 module _ (before : List Frame) where
   once : (n m : ℕ) → Taken n → Taken m → n ≡ m
@@ -46,6 +46,18 @@ reading-once (l ∷ ls) before r q (f, n, m, j, h) (g, i, o, u, k) =
     let e = frame-once l f g m o in
     let d : n ≡ i = judged-once before g n i (rw e at j) u in
     first-once (reading-once ls (before ++ g ∷ [])) r q (rw (e, d) at h) k
+
+-- what one more taken frame keeps, reading keeps
+module _ (P : List Frame → Type 0) (more : (before : List Frame) (f : Frame) → Judged before f 0 → P before → P (before ++ f ∷ [])) where
+  first-keeps : {Q : Type 0} {before : List Frame} {n : ℕ} {Rest : Result → Type 0} {q : Result} → P before → (Q → Rest q → P (framesOf q)) → First Q (faulty before n) Rest q → P (framesOf q)
+  first-keeps p on (fails z) = p
+  first-keeps p on (holds z k) = on z k
+
+  pub reading-keeps : (ls : List (List ℕ)) (before : List Frame) (q : Result) → P before → Reading before ls q → P (framesOf q)
+  unfolding Reading
+  reading-keeps [] [] q p h = rw h p
+  reading-keeps [] (f ∷ fs) q p h = rw h p
+  reading-keeps (l ∷ ls) before q p (f, n, m, j, h) = first-keeps p (λ z k. reading-keeps ls (before ++ f ∷ []) q (more before f (rw z at j) p) k) h
 
 -- a frame that is taken had room in its table
 module _ (before : List Frame) where

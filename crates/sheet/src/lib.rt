@@ -62,7 +62,7 @@ fn join_rows(new: &mut [u8], old: &[u8], at: usize, i: usize, j: usize)
     }
 }
 
-// Which pairs of states have a mark in the old sheet, at any concept: most have none, and need not be joined.
+// The part of the old sheet that begins at `at`, that of one pair of states, has a mark.
 fn has_mark(old: &[u8], at: usize) -> bool
     requires { ⌜ at + 128 ≤ length (now old) ⌝ }
     ensures { λ r. ⌜ Exactly r (Some (MarkAt (now (old .entry)) at) 128) ⌝ }
@@ -75,6 +75,7 @@ fn has_mark(old: &[u8], at: usize) -> bool
     found
 }
 
+// The pairs of states that have one: two of which one has none need not be joined.
 fn filled(old: &[u8]) -> [bool; 256]
     requires { ⌜ length (now old) ≡ areaLength ⌝ }
     ensures { λ r. ⌜ Filled (now (old .entry)) r ⌝ }
@@ -138,7 +139,7 @@ fn put_states(out: &mut [bool; 256], b: &[bool; 256], at: usize, from: usize)
     }
 }
 
-// a leads from s to some y, and b from there to t.
+// Where a leads from s to some y, and b from there to t. Only the pairs by which a leads are followed further.
 fn product(a: &[bool; 256], b: &[bool; 256]) -> [bool; 256]
     ensures { λ r. ⌜ Product (now (a .entry)) (now (b .entry)) r ⌝ }
 {
