@@ -1,4 +1,4 @@
--- The canonical model speaks for every world: it breaks an exclusion exactly when there is no world, and otherwise it has a path exactly when the facts and rules force one.
+-- The canonical model speaks for every world: where it breaks an exclusion there is no world, where it breaks none it is itself one, and then it has a path exactly when the facts and rules force one.
 use Rattle.kinds.specs.declared.Individual.{Individual}
 use Rattle.kinds.specs.declared.State.{State}
 use Rattle.kinds.specs.declared.SignedRole.{SignedRole}
