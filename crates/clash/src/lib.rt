@@ -1,4 +1,6 @@
 // The contradiction test: whether an individual, an unnamed element or an ordered pair of elements has both sides of an exclusion.
+#![tactic(auto)]
+
 ghost use Rattle.std.specs.Prelude.{◌≡◌, ◌+◌, ◌^◌, ◌<◌};
 ghost use Rattle.laws.specs.Exactly.{Exactly};
 ghost use Rattle.laws.specs.Found.{Some};

@@ -1,4 +1,6 @@
 // The desk: reads standard input, has its answers worked out, and writes them to standard output.
+#![tactic(auto)]
+
 ghost use Rattle.std.specs.Prelude.{◌≤◌, ◌≡◌, length};
 ghost use Rattle.desk.specs.Input.{Within};
 

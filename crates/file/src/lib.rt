@@ -1,4 +1,6 @@
 // What a whole input writes: the line of its first fault, or an answer for each ask.
+#![tactic(auto)]
+
 ghost use Rattle.std.specs.Prelude.{◌+◌, ◌*◌, ◌<◌, ◌≤◌, ◌≡◌, length};
 ghost use Rattle.std.proofs.Math.Seq.{paste};
 ghost use Rattle.file.specs.Text.{character, text, faultLine, answerLine};

@@ -1,4 +1,6 @@
 // A line of the desk's input becomes a frame: one named kind with its own numbers, each of its kind from here on.
+#![tactic(auto)]
+
 ghost use Rattle.std.specs.Prelude.{◌<◌, ◌≡◌};
 ghost use Rattle.laws.specs.Exactly.{Exactly};
 ghost use Rattle.frames.specs.Digits.{digitOf, byteOf, LineOk};

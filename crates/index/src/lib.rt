@@ -1,4 +1,6 @@
 // The library's public calls: one pair asked of a collection, or a collection prepared once and any number of pairs answered from it.
+#![tactic(auto)]
+
 ghost use Rattle.std.specs.Prelude.{◌≡◌, ◌<◌, length};
 ghost use Rattle.laws.specs.Exactly.{Exactly};
 ghost use Rattle.laws.specs.Found.{Some};

@@ -1,4 +1,6 @@
 // The concepts of each individual: a row of 128 marks for each of 255 individuals.
+#![tactic(auto)]
+
 ghost use Rattle.std.specs.Prelude.{◌≡◌, ◌<◌, length};
 ghost use Rattle.individuals.specs.Concepts.{Concepts};
 ghost use Rattle.laws.specs.Gains.{Gains};

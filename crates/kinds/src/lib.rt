@@ -1,4 +1,6 @@
 // The four kinds of number, signed roles and basic concepts over them, the declared counts, and the answers.
+#![tactic(auto)]
+
 ghost use Rattle.std.specs.Prelude.{◌+◌, ◌*◌, ◌%◌, ◌≡◌};
 ghost use Rattle.laws.specs.Exactly.{Exactly};
 ghost use Rattle.kinds.specs.Kinds.{inverse, forward, backward, wrapped, number_of, conceptOf, NameDeclared, RoleDeclared, SignedDeclared, IndividualDeclared, StateDeclared, ConceptDeclared, CountsFit};
@@ -108,6 +110,7 @@ impl State {
 }
 
 impl SignedRole {
+    #[tactic(auto, unfolding(crate::specs::Kinds::inverse))]
     pub fn inverse(self) -> SignedRole
         ensures { result ≡ inverse self }
     {
@@ -139,6 +142,7 @@ impl Concept {
     pub const BASE: u16 = 64;
 
     // The basic concept that a table's number means.
+    #[tactic(auto, unfolding(crate::specs::Kinds::conceptOf))]
     pub fn read(number: u16) -> Concept
         ensures { result ≡ conceptOf number }
     {
@@ -149,6 +153,7 @@ impl Concept {
         }
     }
 
+    #[tactic(auto, unfolding(crate::specs::Kinds::number_of))]
     pub fn number(self) -> usize
         ensures { result ≡ number_of self }
     {

@@ -1,4 +1,6 @@
 // The call for programs in other languages: numbers and slices in, document 01's number out, its count through a reference.
+#![tactic(auto)]
+
 ghost use Rattle.kinds.specs.Kinds.{individual};
 ghost use Rattle.index.specs.Prepare.{asks};
 ghost use Rattle.index.specs.Settle.{lending};

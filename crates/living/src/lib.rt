@@ -1,4 +1,6 @@
 // The living roles: the signed roles by which some unnamed element of the canonical model ends.
+#![tactic(auto)]
+
 ghost use Rattle.living.specs.Living.{Living};
 ghost use Rattle.living.specs.Reach.{Half, Steps, Gathers, SproutAt, ReachAt};
 

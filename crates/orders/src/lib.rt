@@ -1,4 +1,6 @@
 // The two orders of a collection, R ≤ S and C ≤ D, as rows of marks, from the tables of rules.
+#![tactic(auto)]
+
 ghost use Rattle.std.specs.Prelude.{◌<◌, true};
 ghost use Rattle.laws.specs.Warshall.{Stepped, Closes};
 ghost use Rattle.laws.specs.Marks.{mark};

@@ -1,4 +1,6 @@
 // A file read line by line: each line's frame is refused with its number, or its record is kept in the table of its kind.
+#![tactic(auto)]
+
 ghost use Rattle.std.specs.Prelude.{◌+◌, ◌-◌, ◌<◌, ◌≤◌, ◌≡◌, length, take, drop, []};
 ghost use Rattle.std.proofs.Math.Seq.{paste};
 ghost use Rattle.laws.specs.Exactly.{Exactly};

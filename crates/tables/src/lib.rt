@@ -1,4 +1,6 @@
 // The lent tables, read by record, and the tests 4 to 8 on them. A number becomes its kind at the first step of reading.
+#![tactic(auto)]
+
 ghost use Rattle.std.specs.Prelude.{◌<◌};
 ghost use Rattle.laws.specs.Exactly.{Exactly};
 ghost use Rattle.meaning.specs.Collection.{Each, ConceptsDeclared, RolesDeclared, ConceptFactDeclared, RoleFactDeclared};

@@ -1,4 +1,6 @@
 // The individuals' walk over the closed sheet: the states in which each individual is reached from the first.
+#![tactic(auto)]
+
 ghost use Rattle.std.specs.Prelude.{◌≡◌, ◌+◌, ◌*◌, ◌^◌, ◌<◌, ◌≤◌, length};
 ghost use Rattle.laws.specs.Masks.{Held};
 ghost use Rattle.routes.specs.Routes.{hops};

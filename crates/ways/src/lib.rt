@@ -1,4 +1,6 @@
 // The ways of the question: for each signed role, from which state to which a role step leads along an edge that has it.
+#![tactic(auto)]
+
 ghost use Rattle.std.specs.Prelude.{false, ◌<◌};
 ghost use Rattle.laws.specs.Marks.{Sized};
 ghost use Rattle.ways.specs.Ways.{Ways, WithStep, OneWay};
