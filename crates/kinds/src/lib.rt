@@ -9,31 +9,31 @@ ghost use Rattle.kinds.specs.Answer.{answerNumber, answerCount};
 // A number of rounds, and the allowance of them.
 pub type Rounds = u16;
 
-#[derive(Drop)]
+#[derive(Clone, Copy)]
 pub struct ConceptName(pub u16);
 
-#[derive(Drop)]
+#[derive(Clone, Copy)]
 pub struct RoleName(pub u16);
 
-#[derive(Drop)]
+#[derive(Clone, Copy)]
 pub struct Individual(pub u16);
 
-#[derive(Drop)]
+#[derive(Clone, Copy)]
 pub struct State(pub u16);
 
 // 2 × r is the role r forward, 2 × r + 1 is r backward.
-#[derive(Drop)]
+#[derive(Clone, Copy)]
 pub struct SignedRole(pub u16);
 
 // A basic concept: a name, or "has an R-neighbour". There is no other way to make one.
-#[derive(Drop)]
+#[derive(Clone, Copy)]
 pub enum Concept {
     Name(ConceptName),
     Exists(SignedRole),
 }
 
 // What a collection declares.
-#[derive(Drop)]
+#[derive(Clone, Copy)]
 pub struct Counts {
     pub names: u16,
     pub roles: u16,
@@ -43,7 +43,7 @@ pub struct Counts {
 }
 
 // What a call answers; `number` and `count` are document 01's.
-#[derive(Drop)]
+#[derive(Clone, Copy)]
 pub enum Answer {
     No(Rounds),
     Yes(Rounds),
