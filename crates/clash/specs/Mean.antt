@@ -20,7 +20,7 @@ use Rattle.meaning.specs.Layout.{conceptNumbers}
 use Rattle.meaning.specs.Orders.{RoleFollows, RoleLe, ConceptLe, turned}
 use Rattle.meaning.specs.Model as model
 use Rattle.meaning.specs.Model.{IndividualHas, FactEdge}
-use Rattle.meaning.specs.Clash.{Alive, Clash, individual-clash, unnamed-clash, fact-clash, down-clash, up-clash, typed-declared}
+use Rattle.meaning.proofs.Clash.{Alive, Clash, individual-clash, unnamed-clash, fact-clash, down-clash, up-clash, typed-declared}
 use Rattle.orders.specs.Rows.{RoleMarks, ConceptMarks}
 use Rattle.orders.specs.Table.{pair_of}
 use Rattle.orders.specs.Mean.{role-below, concept-below, all-role-rules, all-concept-rules}

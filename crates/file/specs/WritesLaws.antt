@@ -4,7 +4,7 @@ use Rattle.std.specs.Prelude.{◌≡◌, take}
 use Rattle.std.proofs.Math.Path.{refl, sym, ap, ap₂}
 use Rattle.std.proofs.Common.{◌∙◌, arith}
 use mathlib.Core.List.{List, [], ◌++◌}
-use Rattle.meaning.specs.OutcomeLaws.{outcome-unique}
+use Rattle.meaning.proofs.OutcomeLaws.{outcome-unique}
 use Rattle.frames.specs.declared.Frame.{Frame}
 use Rattle.reading.specs.Lines.{lines}
 use Rattle.reading.specs.Tables.{entries, asked, askedFirst, askedSecond}

@@ -4,9 +4,9 @@ use Rattle.kinds.specs.declared.Answer.{Answer}
 use Rattle.kinds.specs.Answer.{answerNumber, number-listed}
 use Rattle.meaning.specs.Lent.{Call, collectionOf, Sound}
 use Rattle.meaning.specs.Outcome.{Outcome}
-use Rattle.meaning.specs.OutcomeLaws.{outcome-unique}
-use Rattle.meaning.specs.Larger.{Larger}
-use Rattle.meaning.specs.Demands.{mostRounds, Enough, most-enough, AsModelSays, demand-2, Grown, demand-3-growth, allowed, demand-3-allowance}
+use Rattle.meaning.proofs.OutcomeLaws.{outcome-unique}
+use Rattle.meaning.proofs.Larger.{Larger}
+use Rattle.meaning.proofs.Demands.{mostRounds, Enough, most-enough, AsModelSays, demand-2, Grown, demand-3-growth, allowed, demand-3-allowance}
 
 -- the answer r to the call c, which leaves x and y in the areas
 pub record Demanded (c : Call) (r : Answer) (x y : List ℕ) : Type 0 where

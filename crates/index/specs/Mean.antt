@@ -14,7 +14,7 @@ use Rattle.meaning.specs.Lent.{Sound, records, finalWidth, finalAt}
 use Rattle.meaning.specs.Model.{canonical}
 use Rattle.meaning.specs.Tree.{root}
 use Rattle.meaning.specs.Question as question
-use Rattle.meaning.specs.ModelWalk.{path↔individuals-walk}
+use Rattle.meaning.proofs.ModelWalk.{path↔individuals-walk}
 use Rattle.meaning.specs.Layout.{zeros}
 use Rattle.meaning.specs.Outcome as outcome
 use Rattle.meaning.specs.Outcome.{Outcome}

@@ -5,8 +5,8 @@ use Rattle.std.proofs.Common.{arith}
 use Rattle.kinds.specs.declared.Counts.{Counts}
 use Rattle.laws.specs.Exactly.{Exactly, exactly-same}
 use Rattle.laws.specs.Decide.{exactly-not}
-use Rattle.meaning.specs.Clash.{contradiction↔clash}
-use Rattle.meaning.specs.Demands.{rounds-suffice}
+use Rattle.meaning.proofs.Clash.{contradiction↔clash}
+use Rattle.meaning.proofs.Demands.{rounds-suffice}
 use Rattle.meaning.specs.Layout.{zeros}
 use Rattle.tables.specs.declared.Checked.{Checked}
 use Rattle.tables.specs.declared.Checked.TheVariants as checked

@@ -5,8 +5,8 @@ use Rattle.kinds.specs.Kinds.{mostIndividuals, mostStates, mostRoles, individual
 use Rattle.laws.specs.First.{First, fails, holds, first-once}
 use Rattle.laws.specs.Masks.{Held}
 use Rattle.meaning.specs.Lent.{TablesFit, NumbersFit, EndsFit}
-use Rattle.meaning.specs.SheetLaws.{rounds-unique}
-use Rattle.meaning.specs.LayoutLaws.{lays-once}
+use Rattle.meaning.proofs.SheetLaws.{rounds-unique}
+use Rattle.meaning.proofs.LayoutLaws.{lays-once}
 use Rattle.meaning.specs.Lite.{lite, StepDown}
 use Rattle.routes.specs.Routes.{linkCount}
 use Rattle.routes.specs.Mean.{LoopOf, RoutesOf}

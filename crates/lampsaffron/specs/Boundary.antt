@@ -7,7 +7,7 @@ use Rattle.kinds.specs.Kinds.{state}
 use Rattle.kinds.specs.Answer.{answerNumber, answerCount}
 use Rattle.meaning.specs.Lent.{Call}
 use Rattle.meaning.specs.Outcome.{Outcome}
-use Rattle.meaning.specs.OutcomeLaws.{outcome-unique}
+use Rattle.meaning.proofs.OutcomeLaws.{outcome-unique}
 
 -- the five counts as a call has them
 abbrev pub counted : ℕ → ℕ → ℕ → ℕ → ℕ → Counts

@@ -10,9 +10,9 @@ use Rattle.laws.specs.Marks.{mark}
 use Rattle.meaning.specs.Collection.{NumbersDeclared}
 use Rattle.meaning.specs.Lent.{Tables, collection}
 use Rattle.meaning.specs.Orders.{ConceptLe}
-use Rattle.meaning.specs.Clash as clash
-use Rattle.meaning.specs.Clash.{Alive, typed-declared, typed-valid}
-use Rattle.meaning.specs.Declared.{concept-declared}
+use Rattle.meaning.proofs.Clash as clash
+use Rattle.meaning.proofs.Clash.{Alive, typed-declared, typed-valid}
+use Rattle.meaning.proofs.Declared.{concept-declared}
 use Rattle.orders.specs.Rows.{ConceptMarks}
 use Rattle.orders.specs.Mean.{role-below, concept-below, all-role-rules, all-concept-rules, concept-marks-mean}
 use Rattle.individuals.specs.Concepts.{Shown, named, first, second, Concepts}

@@ -11,10 +11,10 @@ use Rattle.meaning.specs.Collection.{Collection, NumbersDeclared}
 use Rattle.meaning.specs.Lent.{Tables, collection}
 use Rattle.meaning.specs.Model.{IndividualHas}
 use Rattle.meaning.specs.Lite.{lite, StepDown}
-use Rattle.meaning.specs.Clash.{typed-declared}
-use Rattle.meaning.specs.Declared.{state-out, concept-out}
+use Rattle.meaning.proofs.Clash.{typed-declared}
+use Rattle.meaning.proofs.Declared.{state-out, concept-out}
 use Rattle.meaning.specs.Sheet.{Mark}
-use Rattle.meaning.specs.SheetLaws.{mark-markable}
+use Rattle.meaning.proofs.SheetLaws.{mark-markable}
 use Rattle.meaning.specs.Layout.{place, Lays, conceptNumbers}
 use Rattle.orders.specs.Rows.{RoleMarks, ConceptMarks}
 use Rattle.orders.specs.Mean.{concept-below}

@@ -17,10 +17,10 @@ use Rattle.meaning.specs.Kind.{Kind}
 use Rattle.meaning.specs.Lent.{Tables, collection, NumbersFit, records, stepWidth, stepAt, letterOf}
 use Rattle.meaning.specs.Lite.{lite, StepDown, StepUp}
 use Rattle.meaning.specs.Orders.{turned}
-use Rattle.meaning.specs.Declared.{state-out, concept-out}
+use Rattle.meaning.proofs.Declared.{state-out, concept-out}
 use Rattle.meaning.specs.Sheet.{Markable, Round, kept, tested, joined, hung, Mark, Unchanged, Needed}
 use Rattle.meaning.specs.Layout.{Lays}
-use Rattle.meaning.specs.SheetLaws.{mark-markable}
+use Rattle.meaning.proofs.SheetLaws.{mark-markable}
 use Rattle.orders.specs.Rows.{RoleMarks, ConceptMarks}
 use Rattle.orders.specs.Mean.{role-below, concept-marks-mean}
 use Rattle.ways.specs.Ways.{Ways}

@@ -14,11 +14,11 @@ use Rattle.laws.specs.Adds.{Adds, Upto}
 use Rattle.laws.specs.Marks.{mark}
 use Rattle.laws.specs.Member.{◌∈◌}
 use Rattle.meaning.specs.Sheet.{Markable, Round, kept, tested, joined, hung, Mark}
-use Rattle.meaning.specs.SheetLaws.{mark-markable}
+use Rattle.meaning.proofs.SheetLaws.{mark-markable}
 use Rattle.meaning.specs.Layout.{place, Lays}
 use Rattle.meaning.specs.Kind.{Kind}
 use Rattle.meaning.specs.Lite.{validConcepts}
-use Rattle.meaning.specs.Declared.{state-in, state-out, concept-in, concept-out}
+use Rattle.meaning.proofs.Declared.{state-in, state-out, concept-in, concept-out}
 use Rattle.sheet.specs.Below.{BelowRows}
 use Rattle.sheet.specs.Rules.{JoinPair}
 use Rattle.sheet.specs.Places.{TestTurn, HangPlace, RoundPlace}

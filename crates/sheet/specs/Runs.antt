@@ -10,10 +10,10 @@ use Rattle.kinds.specs.Kinds.{CountsFit}
 use Rattle.meaning.specs.Kind.{Kind}
 use Rattle.meaning.specs.Sheet.{Mark, Unchanged}
 use Rattle.meaning.specs.Sheet as sheet
-use Rattle.meaning.specs.SheetLaws.{mark-markable, marks_stay}
+use Rattle.meaning.proofs.SheetLaws.{mark-markable, marks_stay}
 use Rattle.meaning.specs.Layout.{place, areaLength, zeros, Lays}
-use Rattle.meaning.specs.LayoutLaws.{lays-once}
-use Rattle.meaning.specs.Declared.{state-out, concept-out}
+use Rattle.meaning.proofs.LayoutLaws.{lays-once}
+use Rattle.meaning.proofs.Declared.{state-out, concept-out}
 use Rattle.sheet.specs.Data.{dataKind}
 use Rattle.laws.specs.Exactly.{Exactly}
 use Rattle.laws.specs.Adds.{Adds}

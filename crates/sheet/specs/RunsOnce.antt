@@ -4,8 +4,8 @@ use Rattle.std.proofs.Common.{ap}
 use Rattle.kinds.specs.declared.Counts.{Counts}
 use Rattle.meaning.specs.Kind.{Kind}
 use Rattle.meaning.specs.Sheet.{Mark}
-use Rattle.meaning.specs.SheetLaws.{rounds-unique}
-use Rattle.meaning.specs.LayoutLaws.{lays-once}
+use Rattle.meaning.proofs.SheetLaws.{rounds-unique}
+use Rattle.meaning.proofs.LayoutLaws.{lays-once}
 use Rattle.sheet.specs.Data.{dataKind}
 use Rattle.sheet.specs.Runs.{Ended, needed, spent, Runs, not-fit, ran}
 use Rattle.sheet.specs.declared.Ran.{Ran}

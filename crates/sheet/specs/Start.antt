@@ -13,7 +13,7 @@ use Rattle.laws.specs.Search.{pick}
 use Rattle.meaning.specs.Kind.{Kind}
 use Rattle.meaning.specs.Sheet.{Mark}
 use Rattle.meaning.specs.Layout.{place, Lays}
-use Rattle.meaning.specs.Declared.{state-in, state-out, concept-in, concept-out}
+use Rattle.meaning.proofs.Declared.{state-in, state-out, concept-in, concept-out}
 use Rattle.sheet.specs.Data.{dataKind}
 use Rattle.sheet.specs.RoundLays.{number-low}
 

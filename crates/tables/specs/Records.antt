@@ -1,5 +1,5 @@
 -- Loops over the records of a table: what one keeps from record to record, and what it answers.
-use Rattle.std.specs.Prelude.{◌≡◌, Bool, true, false, not, List, ℕ, ◌+◌, ◌*◌, ◌/◌, ◌<◌, ◌≤◌, length, get_or}
+use Rattle.std.specs.Prelude.{◌≡◌, Bool, true, false, List, ℕ, ◌+◌, ◌*◌, ◌/◌, ◌<◌, ◌≤◌, length, get_or}
 use Rattle.std.proofs.Common.{add-zero, arith, below_more}
 use Rattle.laws.specs.Exactly.{Exactly, exactly-holds, exactly-same, exactly-never}
 use Rattle.laws.specs.Numbers.{numbered-in, numbered-out}

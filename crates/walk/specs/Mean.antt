@@ -12,11 +12,11 @@ use Rattle.meaning.specs.Model.{individuals}
 use Rattle.meaning.specs.Run.{Run, stop, go}
 use Rattle.meaning.specs.Lite.{lite}
 use Rattle.meaning.specs.Tree as tree
-use Rattle.meaning.specs.Clash.{typed-valid}
-use Rattle.meaning.specs.ModelWalk.{Near, IndividualsWalk}
-use Rattle.meaning.specs.Declared.{state-in, state-out, concept-in, concept-declared, lite-sane}
+use Rattle.meaning.proofs.Clash.{typed-valid}
+use Rattle.meaning.proofs.ModelWalk.{Near, IndividualsWalk}
+use Rattle.meaning.proofs.Declared.{state-in, state-out, concept-in, concept-declared, lite-sane}
 use Rattle.meaning.specs.Sheet.{Needed}
-use Rattle.meaning.specs.SheetLaws.{mark-markable, mark→loop, loop→mark}
+use Rattle.meaning.proofs.SheetLaws.{mark-markable, mark→loop, loop→mark}
 use Rattle.routes.specs.Routes.{hops, source, target, roleOf}
 use Rattle.routes.specs.Followed.{linked-mean}
 use Rattle.routes.specs.Mean.{RoutesOf}

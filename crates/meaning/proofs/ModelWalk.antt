@@ -11,7 +11,7 @@ use Rattle.meaning.specs.Orders.{ConceptLe, same, then}
 use Rattle.meaning.specs.Run.{Run, stop, go, one, carry}
 use Rattle.meaning.specs.Tree.{Elem, root, ◌▹◌, Loop, here, tested, twice, below, Holds, Move, tests, downs, ups, hops, Stride, along, by, path↔walk}
 use Rattle.meaning.specs.Model.{Roots, Has, Belongs, bare, grown, fact, child, parent, grownFrom, individuals, canonical, only, tree_of, FactEdge, ahead, behind}
-use Rattle.meaning.specs.ModelLaws.{born}
+use Rattle.meaning.proofs.ModelLaws.{born}
 use Rattle.meaning.specs.Question.{Going, along-role, at_name, PathIn}
 use Rattle.meaning.specs.Lite.{lite}
 

@@ -12,15 +12,15 @@ use Rattle.laws.specs.Exactly.{Exactly, exactly-same, below-exactly}
 use Rattle.laws.specs.Decide.{exactly, exactly-and, exactly-every, most-exactly, equal-exactly, same-exactly, not-exactly}
 use Rattle.meaning.specs.Collection.{Collection, Letter, role, test, Step, step, StepDeclared, LetterDeclared, ConceptsDeclared, RolesDeclared, ConceptFactDeclared, RoleFactDeclared, NumbersDeclared, WellFormed}
 use Rattle.meaning.specs.Sheet.{Markable, Mark}
-use Rattle.meaning.specs.SheetLaws.{mark-markable}
+use Rattle.meaning.proofs.SheetLaws.{mark-markable}
 use Rattle.meaning.specs.Lite.{lite}
 use Rattle.meaning.specs.Lent.{Tables, Call, collectionOf, kinds, Whole, ShapesOk, TablesOk, NumbersOk, EndsOk, EndsDiffer, AskOk, ruleWidth, conceptFactWidth, roleFactWidth, stepWidth, finalWidth, mostConceptRules, mostConceptExclusions, mostRoleRules, mostRoleExclusions, mostConceptFacts, mostRoleFacts, mostSteps, mostFinals}
 use Rattle.meaning.specs.Layout.{areaLength, Lays}
-use Rattle.meaning.specs.LayoutLaws.{stateDeclared, conceptDeclared, conceptDeclared-in, conceptDeclared-out, image, image-lays}
-use Rattle.meaning.specs.Declared.{state-in, state-out, concept-in, concept-out}
-use Rattle.meaning.specs.LiteTests.{sameIndividual, individual-same}
-use Rattle.meaning.specs.LiteSheet.{liteSheet, lite-mark-in, lite-mark-out}
-use Rattle.meaning.specs.Calculate.{countsFit, whole, shapesOk, areasOk, tablesOk, conceptsDeclared, rolesDeclared, conceptFactDeclared, roleFactDeclared, letterDeclared, stepDeclared, numbersDeclared, kindOk, numbersOk, endsDiffer, endsOk, askOk}
+use Rattle.meaning.proofs.LayoutLaws.{stateDeclared, conceptDeclared, conceptDeclared-in, conceptDeclared-out, image, image-lays}
+use Rattle.meaning.proofs.Declared.{state-in, state-out, concept-in, concept-out}
+use Rattle.meaning.proofs.LiteTests.{sameIndividual, individual-same}
+use Rattle.meaning.proofs.LiteSheet.{liteSheet, lite-mark-in, lite-mark-out}
+use Rattle.meaning.proofs.Calculate.{countsFit, whole, shapesOk, areasOk, tablesOk, conceptsDeclared, rolesDeclared, conceptFactDeclared, roleFactDeclared, letterDeclared, stepDeclared, numbersDeclared, kindOk, numbersOk, endsDiffer, endsOk, askOk}
 
 -- test 4
 pub counts-test : (c : Counts) → Exactly (countsFit c) (CountsFit c)

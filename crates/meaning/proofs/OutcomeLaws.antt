@@ -11,17 +11,17 @@ use Rattle.laws.specs.Search.{pick}
 use Rattle.laws.specs.Exactly.{Exactly}
 use Rattle.laws.specs.Decide.{exactly, exactly-not, exactly-fails}
 use Rattle.meaning.specs.Collection.{WellFormed}
-use Rattle.meaning.specs.SheetLaws.{rounds-unique}
+use Rattle.meaning.proofs.SheetLaws.{rounds-unique}
 use Rattle.meaning.specs.Lite.{lite}
 use Rattle.meaning.specs.Lent.{Call, collectionOf, CountsOk, TablesOk, NumbersOk, EndsOk, Sound}
-use Rattle.meaning.specs.LayoutLaws.{lays-once}
+use Rattle.meaning.proofs.LayoutLaws.{lays-once}
 use Rattle.meaning.specs.Outcome.{Outcome, bad-count, bad-table, bad-number, equal-ends, bad-ask, contradiction, spent, says-yes, says-no, Breaks, Reached, RoundsNeeded, HoldsSheet}
-use Rattle.meaning.specs.Reply.{clash, reaches}
-use Rattle.meaning.specs.ReplyLaws.{reaches-is}
-use Rattle.meaning.specs.ClashLaws.{clash-is}
-use Rattle.meaning.specs.Calculate.{countsFit, tablesOk, numbersOk, endsOk, askOk, afterRounds, afterClash, soundAnswer, afterEnds, afterNumbers, afterTables, afterCounts, answer, sheetArea, areaAfter, spareAfter}
-use Rattle.meaning.specs.CalculateLaws.{counts-test, tables-test, numbers-test, ends-test, ask-test, sheet-lays}
-use Rattle.meaning.specs.LiteSheet.{liteWork, lite-needed, closed-out, closed_in}
+use Rattle.meaning.proofs.Reply.{clash, reaches}
+use Rattle.meaning.proofs.ReplyLaws.{reaches-is}
+use Rattle.meaning.proofs.ClashLaws.{clash-is}
+use Rattle.meaning.proofs.Calculate.{countsFit, tablesOk, numbersOk, endsOk, askOk, afterRounds, afterClash, soundAnswer, afterEnds, afterNumbers, afterTables, afterCounts, answer, sheetArea, areaAfter, spareAfter}
+use Rattle.meaning.proofs.CalculateLaws.{counts-test, tables-test, numbers-test, ends-test, ask-test, sheet-lays}
+use Rattle.meaning.proofs.LiteSheet.{liteWork, lite-needed, closed-out, closed_in}
 
 module _ (c : Call) where
   -- what is lent in a call that passes tests 4 and 6 is well-formed

@@ -16,8 +16,8 @@ use Rattle.laws.specs.Chain.{Chain, link, chain, closed, closed_in, closed-out}
 use Rattle.meaning.specs.Collection.{Collection, Letter, role, test, Step, step, RoleStep, TestStep, NumbersDeclared}
 use Rattle.meaning.specs.Orders.{RoleLe, ConceptLe, same, then, rule, turned, wider}
 use Rattle.meaning.specs.Lite.{signedRoles, validConcepts, lite}
-use Rattle.meaning.specs.Declared.{signed-in, signed-out, concept-in, concept-out, role-declared, concept-declared}
-use Rattle.meaning.specs.Tests.{Tests, Decides}
+use Rattle.meaning.proofs.Declared.{signed-in, signed-out, concept-in, concept-out, role-declared, concept-declared}
+use Rattle.meaning.proofs.Tests.{Tests, Decides}
 
 -- equality of each kind
 abbrev pub same_name : ConceptName → ConceptName → Bool

@@ -23,10 +23,10 @@ use Rattle.meaning.specs.Tree.{Loop, here, tested, twice, below, along, by}
 use Rattle.meaning.specs.Lite.{validConcepts, declaredStates, lite}
 use Rattle.meaning.specs.Model.{Typed, named, first, second, IndividualHas, FactEdge, ahead, behind}
 use Rattle.meaning.specs.Question.{Yes}
-use Rattle.meaning.specs.ModelWalk.{edge-declared, IndividualsWalk, path↔individuals-walk}
-use Rattle.meaning.specs.Declared.{concept-in, state-in, concept-declared, role-step-to, test-step-to}
-use Rattle.meaning.specs.LiteTests.{sameIndividual, sameState, sameConcept, individual-same, state-same, concept-same, leads, roleLetter, roleLe, roleLe-in, roleLe-out, conceptLe, conceptLe-in, conceptLe-out, role-step-in, role-step-out}
-use Rattle.meaning.specs.Reply.{declaredIndividuals, factTypes, endTypes, isTyped, typedTo, individualHas, joinsBy, factEdge, marked, stride, walks, reachesIn, reaches}
+use Rattle.meaning.proofs.ModelWalk.{edge-declared, IndividualsWalk, path↔individuals-walk}
+use Rattle.meaning.proofs.Declared.{concept-in, state-in, concept-declared, role-step-to, test-step-to}
+use Rattle.meaning.proofs.LiteTests.{sameIndividual, sameState, sameConcept, individual-same, state-same, concept-same, leads, roleLetter, roleLe, roleLe-in, roleLe-out, conceptLe, conceptLe-in, conceptLe-out, role-step-in, role-step-out}
+use Rattle.meaning.proofs.Reply.{declaredIndividuals, factTypes, endTypes, isTyped, typedTo, individualHas, joinsBy, factEdge, marked, stride, walks, reachesIn, reaches}
 
 pub individual-in : (c : Counts) (a : Individual) → IndividualDeclared c a → a ∈ declaredIndividuals c
 unfolding declaredIndividuals

@@ -14,10 +14,10 @@ use Rattle.meaning.specs.Collection.{Collection, Letter, role, test, Step, step}
 use Rattle.meaning.specs.Lent.{Tables, Call, collection, collectionOf, kinds}
 use Rattle.meaning.specs.Lent.{ruleWidth, conceptFactWidth, roleFactWidth, stepWidth, finalWidth, mostConceptRules, mostConceptExclusions, mostRoleRules, mostRoleExclusions, mostConceptFacts, mostRoleFacts, mostSteps, mostFinals}
 use Rattle.meaning.specs.Layout.{areaLength, zeros}
-use Rattle.meaning.specs.LayoutLaws.{stateDeclared, conceptDeclared, image}
-use Rattle.meaning.specs.LiteTests.{sameIndividual}
-use Rattle.meaning.specs.LiteSheet.{liteSheet, liteWork}
-use Rattle.meaning.specs.Reply.{clash, reaches}
+use Rattle.meaning.proofs.LayoutLaws.{stateDeclared, conceptDeclared, image}
+use Rattle.meaning.proofs.LiteTests.{sameIndividual}
+use Rattle.meaning.proofs.LiteSheet.{liteSheet, liteWork}
+use Rattle.meaning.proofs.Reply.{clash, reaches}
 
 unfoldable pub countsFit : Counts → Bool
 countsFit c =

@@ -15,12 +15,12 @@ use Rattle.meaning.specs.Collection.{Collection, WellFormed}
 use Rattle.meaning.specs.Orders.{RoleLe, ConceptLe}
 use Rattle.meaning.specs.Lite.{signedRoles}
 use Rattle.meaning.specs.Model.{IndividualHas, Contradiction}
-use Rattle.meaning.specs.ModelWalk.{edge-declared}
-use Rattle.meaning.specs.Clash.{Alive, sprouts, grows, Clash, individual-clash, unnamed-clash, fact-clash, down-clash, up-clash, contradiction↔clash, typed-declared}
-use Rattle.meaning.specs.Declared.{signed-in, signed-out, concept-declared}
-use Rattle.meaning.specs.LiteTests.{sameRole, role_same, roleLe, roleLe-in, roleLe-out, conceptLe, conceptLe-in, conceptLe-out}
-use Rattle.meaning.specs.Reply.{declaredIndividuals, individualHas, factEdge, follows, aliveBy, aliveAt, alive, clashAt, clashUnder, conceptClash, clashBetween, clashBelow, roleClash, clash}
-use Rattle.meaning.specs.ReplyLaws.{individual-in, individualHas-in, individualHas-out, edge_in, edge-out, has-declared}
+use Rattle.meaning.proofs.ModelWalk.{edge-declared}
+use Rattle.meaning.proofs.Clash.{Alive, sprouts, grows, Clash, individual-clash, unnamed-clash, fact-clash, down-clash, up-clash, contradiction↔clash, typed-declared}
+use Rattle.meaning.proofs.Declared.{signed-in, signed-out, concept-declared}
+use Rattle.meaning.proofs.LiteTests.{sameRole, role_same, roleLe, roleLe-in, roleLe-out, conceptLe, conceptLe-in, conceptLe-out}
+use Rattle.meaning.proofs.Reply.{declaredIndividuals, individualHas, factEdge, follows, aliveBy, aliveAt, alive, clashAt, clashUnder, conceptClash, clashBetween, clashBelow, roleClash, clash}
+use Rattle.meaning.proofs.ReplyLaws.{individual-in, individualHas-in, individualHas-out, edge_in, edge-out, has-declared}
 
 module _ (𝓒 : Collection) (ok : WellFormed 𝓒) where
   abbrev everyone : List Individual

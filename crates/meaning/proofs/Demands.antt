@@ -9,21 +9,21 @@ use Rattle.kinds.specs.Kinds.{CountsFit, StateDeclared, ConceptDeclared}
 use Rattle.kinds.specs.Answer.{answerNumber, number-listed}
 use Rattle.meaning.specs.Collection.{Collection, WellFormed}
 use Rattle.meaning.specs.Sheet.{Mark, Needed}
-use Rattle.meaning.specs.SheetLaws.{rounds-unique, mark→loop, loop→mark}
+use Rattle.meaning.proofs.SheetLaws.{rounds-unique, mark→loop, loop→mark}
 use Rattle.meaning.specs.Tree.{root}
 use Rattle.meaning.specs.Lite.{lite}
 use Rattle.meaning.specs.Model.{tree_of}
 use Rattle.meaning.specs.Question.{PathIn, SpellsWord}
-use Rattle.meaning.specs.QuestionLaws.{yes↔word}
-use Rattle.meaning.specs.ModelWalk.{loop↔treeOf}
-use Rattle.meaning.specs.Declared.{concepts-count, states-count, state-in, concept-in, lite-sane}
-use Rattle.meaning.specs.Tests.{rounds-bound}
-use Rattle.meaning.specs.LiteTests.{liteTests, lite-decides}
+use Rattle.meaning.proofs.QuestionLaws.{yes↔word}
+use Rattle.meaning.proofs.ModelWalk.{loop↔treeOf}
+use Rattle.meaning.proofs.Declared.{concepts-count, states-count, state-in, concept-in, lite-sane}
+use Rattle.meaning.proofs.Tests.{rounds-bound}
+use Rattle.meaning.proofs.LiteTests.{liteTests, lite-decides}
 use Rattle.meaning.specs.Lent.{Call, collectionOf, Sound}
 use Rattle.meaning.specs.Outcome.{Outcome, bad-count, bad-table, bad-number, equal-ends, bad-ask, contradiction, spent, says-yes, says-no, Breaks, Reached, RoundsNeeded}
-use Rattle.meaning.specs.OutcomeLaws.{sound-well-formed, outcome-exists, outcome-unique}
-use Rattle.meaning.specs.Calculate.{answer, areaAfter, spareAfter}
-use Rattle.meaning.specs.Larger.{Larger, yes-grows, contradiction-grows}
+use Rattle.meaning.proofs.OutcomeLaws.{sound-well-formed, outcome-exists, outcome-unique}
+use Rattle.meaning.proofs.Calculate.{answer, areaAfter, spareAfter}
+use Rattle.meaning.proofs.Larger.{Larger, yes-grows, contradiction-grows}
 
 -- concepts × states × (states − 1)
 abbrev pub mostRounds : Counts → ℕ

@@ -16,7 +16,7 @@ use Rattle.laws.specs.Numbers.{numbered}
 use Rattle.laws.specs.Chain.{closed}
 use Rattle.meaning.specs.Collection.{Collection}
 use Rattle.meaning.specs.Lite.{signedRoles, validConcepts, declaredStates}
-use Rattle.meaning.specs.LiteTests.{sameIndividual, sameState, sameRole, sameConcept, leads, roleLetter, roleLe, conceptLe}
+use Rattle.meaning.proofs.LiteTests.{sameIndividual, sameState, sameRole, sameConcept, leads, roleLetter, roleLe, conceptLe}
 
 unfoldable pub declaredIndividuals : Counts → List Individual
 declaredIndividuals c = numbered individual c.individuals

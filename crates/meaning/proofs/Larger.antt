@@ -12,10 +12,10 @@ use Rattle.meaning.specs.Orders.{RoleLe, ConceptLe, same, then, rule, turned, wi
 use Rattle.meaning.specs.Tree.{root, ◌▹◌}
 use Rattle.meaning.specs.Model.{Has, Belongs, bare, grown, Edge, fact, child, parent, individuals, Element, Typed, named, first, second, IndividualHas, FactEdge, ahead, behind, Contradiction, at-element, at_pair}
 use Rattle.meaning.specs.Question.{Yes}
-use Rattle.meaning.specs.Growth.{Grows, walk-grows}
+use Rattle.meaning.proofs.Growth.{Grows, walk-grows}
 use Rattle.meaning.specs.Lite.{lite}
-use Rattle.meaning.specs.ModelWalk.{Near, IndividualsWalk, path↔individuals-walk}
-use Rattle.meaning.specs.Clash.{typed-declared}
+use Rattle.meaning.proofs.ModelWalk.{Near, IndividualsWalk, path↔individuals-walk}
+use Rattle.meaning.proofs.Clash.{typed-declared}
 
 -- a shared start state, and the records of the first among those of the second; nothing is asked of the other counts
 pub record Larger (𝓒 𝓓 : Collection) : Type 0 where

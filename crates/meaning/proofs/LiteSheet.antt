@@ -5,12 +5,12 @@ use Rattle.kinds.specs.declared.Concept.{Concept}
 use Rattle.laws.specs.Member.{◌∈◌}
 use Rattle.meaning.specs.Collection.{Collection, NumbersDeclared}
 use Rattle.meaning.specs.Sheet.{Markable, Mark, Needed}
-use Rattle.meaning.specs.SheetLaws.{mark→loop, loop→mark}
+use Rattle.meaning.proofs.SheetLaws.{mark→loop, loop→mark}
 use Rattle.meaning.specs.Tree.{Loop}
 use Rattle.meaning.specs.Lite.{lite, validConcepts, declaredStates}
-use Rattle.meaning.specs.Declared.{lite-sane}
-use Rattle.meaning.specs.Tests.{sheet, work, after, after_is, mark-in, mark-out, sheet-to, works}
-use Rattle.meaning.specs.LiteTests.{liteTests, lite-decides}
+use Rattle.meaning.proofs.Declared.{lite-sane}
+use Rattle.meaning.proofs.Tests.{sheet, work, after, after_is, mark-in, mark-out, sheet-to, works}
+use Rattle.meaning.proofs.LiteTests.{liteTests, lite-decides}
 
 -- the sheet after n rounds; the same with a memory of what was computed; the rounds needed and the closed sheet
 abbrev pub liteSheet : Collection → ℕ → State → State → Concept → Bool

@@ -11,7 +11,7 @@ use Rattle.meaning.specs.Collection.{Collection, NumbersDeclared}
 use Rattle.meaning.specs.Orders.{RoleLe, ConceptLe}
 use Rattle.meaning.specs.Tree.{root, ◌▹◌}
 use Rattle.meaning.specs.Model.{Has, Belongs, bare, grown, Edge, fact, child, parent, individuals, Element, Typed, named, first, second, IndividualHas, FactEdge, Contradiction, at-element, at_pair}
-use Rattle.meaning.specs.ModelLaws.{born, has_above}
+use Rattle.meaning.proofs.ModelLaws.{born, has_above}
 
 module _ (𝓒 : Collection) where
   -- a signed role by which some unnamed element ends

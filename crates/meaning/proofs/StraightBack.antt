@@ -14,10 +14,10 @@ use Rattle.meaning.specs.Orders.{RoleLe, ConceptLe}
 use Rattle.meaning.specs.Run.{stop, go, one, carry}
 use Rattle.meaning.specs.Tree.{root, ◌▹◌}
 use Rattle.meaning.specs.Model.{Structure, Has, Belongs, Edge, individuals, Element, FactEdge, canonical, Contradiction}
-use Rattle.meaning.specs.ModelLaws.{born, turn, has_above}
-use Rattle.meaning.specs.ModelWalk.{edge-declared}
+use Rattle.meaning.proofs.ModelLaws.{born, turn, has_above}
+use Rattle.meaning.proofs.ModelWalk.{edge-declared}
 use Rattle.meaning.specs.Question.{Going, along-role, at_name, PathIn, Yes}
-use Rattle.meaning.specs.LiteTests.{sameRole, role_same}
+use Rattle.meaning.proofs.LiteTests.{sameRole, role_same}
 
 module _ (𝓒 : Collection) where
   -- S goes straight back from an element: it is the inverse of the role that the element ends in

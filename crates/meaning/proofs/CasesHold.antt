@@ -18,16 +18,16 @@ use Rattle.laws.specs.Chain.{via, compose, tab, closing}
 use Rattle.meaning.specs.Collection.{Collection, WellFormed}
 use Rattle.meaning.specs.Lite.{signedRoles, validConcepts, declaredStates, lite}
 use Rattle.meaning.specs.Sheet.{Mark}
-use Rattle.meaning.specs.SheetLaws.{mark-markable}
-use Rattle.meaning.specs.Tests.{joins, hangsTo, hangsFrom, hangs, round, Spot, places, spot_in, spot_out, at, table, work, after}
-use Rattle.meaning.specs.LiteSheet.{liteSheet, liteAfter, lite-after, lite-mark-in, lite-mark-out}
-use Rattle.meaning.specs.LiteTests.{roleBase, roleLe, conceptBase, conceptLe, liteTests}
-use Rattle.meaning.specs.Reply.{declaredIndividuals, factTypes, endTypes, isTyped, typedTo, individualHas, joinsBy, factEdge, follows, aliveBy, aliveAt, alive, clashAt, clashUnder, conceptClash, clashBetween, clashBelow, roleClash, clash, marked, stride, walks, reachesIn, reaches}
+use Rattle.meaning.proofs.SheetLaws.{mark-markable}
+use Rattle.meaning.proofs.Tests.{joins, hangsTo, hangsFrom, hangs, round, Spot, places, spot_in, spot_out, at, table, work, after}
+use Rattle.meaning.proofs.LiteSheet.{liteSheet, liteAfter, lite-after, lite-mark-in, lite-mark-out}
+use Rattle.meaning.proofs.LiteTests.{roleBase, roleLe, conceptBase, conceptLe, liteTests}
+use Rattle.meaning.proofs.Reply.{declaredIndividuals, factTypes, endTypes, isTyped, typedTo, individualHas, joinsBy, factEdge, follows, aliveBy, aliveAt, alive, clashAt, clashUnder, conceptClash, clashBetween, clashBelow, roleClash, clash, marked, stride, walks, reachesIn, reaches}
 use Rattle.meaning.specs.Lent.{records, collection, Sound}
 use Rattle.meaning.specs.Layout.{place, areaLength, Lays, Standing}
-use Rattle.meaning.specs.OutcomeLaws.{outcome-exists, passes-all, sound-well-formed, holds-sheet}
-use Rattle.meaning.specs.Calculate.{countsFit, whole, shapesOk, conceptsDeclared, rolesDeclared, conceptFactDeclared, roleFactDeclared, numbersDeclared, numbersOk, endsOk, askOk, soundAnswer, afterClash, afterRounds, answer, sheetArea, areaAfter, spareAfter}
-use Rattle.meaning.specs.CalculateLaws.{counts-test, shapes-test, numbers-test, ends-test, ask-test}
+use Rattle.meaning.proofs.OutcomeLaws.{outcome-exists, passes-all, sound-well-formed, holds-sheet}
+use Rattle.meaning.proofs.Calculate.{countsFit, whole, shapesOk, conceptsDeclared, rolesDeclared, conceptFactDeclared, roleFactDeclared, numbersDeclared, numbersOk, endsOk, askOk, soundAnswer, afterClash, afterRounds, answer, sheetArea, areaAfter, spareAfter}
+use Rattle.meaning.proofs.CalculateLaws.{counts-test, shapes-test, numbers-test, ends-test, ask-test}
 use Rattle.meaning.specs.Cases.{Case, cases, lend, MarksStand, Says}
 
 -- where the marks of the sheet after n rounds stand, in order

@@ -14,7 +14,7 @@ use Rattle.laws.specs.Rounds.{Least, least-same, Still, needed}
 use Rattle.laws.specs.Settle.{memo, memo-is, settle, settled}
 use Rattle.meaning.specs.Kind.{Kind, Sane}
 use Rattle.meaning.specs.Sheet.{Markable, Round, kept, tested, joined, hung, Mark, Unchanged, Needed}
-use Rattle.meaning.specs.SheetLaws.{mark-markable}
+use Rattle.meaning.proofs.SheetLaws.{mark-markable}
 
 fit : (n c s k : ℕ) → n + k ≤ s * s * c → s * c ≤ k → n ≤ c * s * (s - 1)
 fit n c zero k h g = omega arith
