@@ -1,15 +1,15 @@
 // A line of the desk's input becomes a frame: one named kind with its own numbers, each of its kind from here on.
 #![tactic(auto)]
 
-ghost use Rattle.std.specs.Prelude.{◌<◌, ◌≡◌};
+ghost use Rattle.std.specs.Prelude.{◌+◌, ◌<◌, ◌≡◌};
 ghost use Rattle.laws.specs.Exactly.{Exactly};
-ghost use Rattle.frames.specs.Digits.{digitOf, byteOf, LineOk};
+ghost use Rattle.frames.specs.Digits.{digitOf, byteOf, LineOk, lineLength};
 ghost use Rattle.frames.specs.Frames.{frameLength, frameBy, FrameOf};
 
 use kinds::{Concept, ConceptName, Counts, Individual, RoleName, Rounds, SignedRole, State};
 
 // What a line is read as. The first two are no frames: refused with the numbers 9 and 10.
-#[derive(Drop)]
+#[derive(Clone, Copy)]
 pub enum Frame {
     BadLine,
     BadFrame,
@@ -86,6 +86,7 @@ fn wide(x: u8) -> u16
 }
 
 // Byte k of a line, and 0 past its end.
+#[tactic(auto, unfolding(crate::specs::Digits::byteOf))]
 fn byte_at(line: &[u8], k: usize) -> u16
     ensures { result ≡ byteOf line.now k }
 {
@@ -104,34 +105,41 @@ struct Reader<'a> {
     at: usize,
 }
 
-// At a line's first byte.
-fn opened<'a>(line: &'a [u8]) -> Reader<'a>
-    ensures { (result.line ≡ line.entry) × (result.at ≡ 0) }
-{
-    Reader { line, at: 0 }
+impl<'a> Reader<'a> {
+    // At a line's first byte.
+    fn opened(line: &'a [u8]) -> Reader<'a>
+        ensures { (result.line ≡ line.entry) × (result.at ≡ 0) }
+    {
+        Reader { line, at: 0 }
+    }
+
+    // At another place of the same line.
+    fn moved(&mut self, at: usize)
+        ensures { (self.new.line ≡ self.old.line) × (self.new.at ≡ at) }
+    {
+        self.at = at;
+    }
+
+    // The byte at the reader's place, and 0 past the line's end.
+    fn byte(&self) -> u16
+        ensures { result ≡ byteOf self.now.line.now self.now.at }
+    {
+        byte_at(self.line, self.at)
+    }
+
+    // The byte at the reader's place, after which the reader is at the next.
+    fn next_byte(&mut self) -> u16
+        requires { self.old.at < lineLength }
+        ensures value { result ≡ byteOf self.old.line.now self.old.at }
+        ensures next { (self.new.line ≡ self.old.line) × (self.new.at ≡ self.old.at + 1) }
+    {
+        let byte = self.byte();
+        self.moved(self.at + 1);
+        byte
+    }
 }
 
-// The same line at another place.
-fn moved<'a>(r: Reader<'a>, at: usize) -> Reader<'a>
-    ensures { (result.line ≡ r.entry.line) × (result.at ≡ at) }
-{
-    Reader { line: r.line, at }
-}
-
-// The byte at the reader's place, and 0 past the line's end.
-fn byte<'a>(r: Reader<'a>) -> u16
-    ensures { result ≡ byteOf r.entry.line.now r.entry.at }
-{
-    byte_at(r.line, r.at)
-}
-
-// Byte k of a line, read by a reader that is moved there.
-fn byte_of(line: &[u8], k: usize) -> u16
-    ensures { result ≡ byteOf line.now k }
-{
-    byte(moved(opened(line), k))
-}
-
+#[tactic(auto, using(crate::specs::Frames::no_length), unfolding(crate::specs::Frames::frameLength))]
 fn frame_length(kind: u16) -> usize
     ensures { result ≡ frameLength kind }
 {
@@ -143,6 +151,7 @@ fn frame_length(kind: u16) -> usize
 }
 
 // The frame of a kind and the bytes after it.
+#[tactic(auto, unfolding(crate::specs::Frames::frameBy))]
 fn frame_of(kind: u16, a: u16, b: u16, c: u16, d: u16, e: u16) -> Frame
     requires { (a < 256) × (b < 256) }
     ensures { result ≡ frameBy kind a b c d e }
@@ -177,14 +186,15 @@ pub fn read(line: &[u8]) -> Frame
     if !line_ok(line) {
         return Frame::BadLine;
     }
-    let kind = byte_of(line, 0);
+    let mut reader = Reader::opened(line);
+    let kind = reader.next_byte();
     if line.len() / 2 != frame_length(kind) {
         return Frame::BadFrame;
     }
-    let a = byte_of(line, 1);
-    let b = byte_of(line, 2);
-    let c = byte_of(line, 3);
-    let d = byte_of(line, 4);
-    let e = byte_of(line, 5);
+    let a = reader.next_byte();
+    let b = reader.next_byte();
+    let c = reader.next_byte();
+    let d = reader.next_byte();
+    let e = reader.next_byte();
     frame_of(kind, a, b, c, d, e)
 }
