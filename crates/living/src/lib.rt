@@ -14,10 +14,8 @@ fn role_half(row: [bool; 128]) -> [bool; 64]
     ensures { Half row result }
 {
     let mut out = [false; 64];
-    let mut j: usize = 0;
-    while j < 64 {
+    for j in 0..64 {
         out[j] = row[64 + j];
-        j += 1;
     }
     out
 }
@@ -28,11 +26,9 @@ fn steps(order: [[bool; 128]; 128]) -> RoleRows
 {
     let blank = [false; 64];
     let mut out = [blank; 64];
-    let mut i: usize = 0;
-    while i < 64 {
+    for i in 0..64 {
         let back = i + 1 - 2 * (i % 2);
         out[i] = role_half(order[64 + back]);
-        i += 1;
     }
     out
 }
@@ -42,12 +38,10 @@ fn sprouted(concepts: [[bool; 128]; 255]) -> [bool; 64]
     ensures { Gathers (SproutAt concepts) 255 result }
 {
     let mut out = [false; 64];
-    let mut a: usize = 0;
-    while a < 255 {
+    for a in 0..255 {
         let half = role_half(concepts[a]);
         let next = or_role_row(out, half, true);
         out = next;
-        a += 1;
     }
     out
 }
@@ -57,12 +51,10 @@ fn reached(from: [bool; 64], closed: RoleRows) -> [bool; 64]
     ensures { Gathers (ReachAt from closed) 64 result }
 {
     let mut out = [false; 64];
-    let mut k: usize = 0;
-    while k < 64 {
+    for k in 0..64 {
         let row = closed[k];
         let next = or_role_row(out, row, from[k]);
         out = next;
-        k += 1;
     }
     out
 }

@@ -25,10 +25,8 @@ pub fn or_role_row(a: [bool; 64], b: [bool; 64], on: bool) -> [bool; 64]
     ensures { OrRow 64 a b on result }
 {
     let mut out = a;
-    let mut j: usize = 0;
-    while j < 64 {
+    for j in 0..64 {
         out[j] = out[j] | (on & b[j]);
-        j += 1;
     }
     out
 }
@@ -38,10 +36,8 @@ fn reflexive_roles(m: RoleRows) -> RoleRows
     ensures { Gains 64 64 m Diagonal result }
 {
     let mut out = m;
-    let mut i: usize = 0;
-    while i < 64 {
+    for i in 0..64 {
         out[i][i] = true;
-        i += 1;
     }
     out
 }
@@ -53,11 +49,9 @@ fn through_role(m: RoleRows, k: usize) -> RoleRows
 {
     let row = m[k];
     let mut out = m;
-    let mut i: usize = 0;
-    while i < 64 {
+    for i in 0..64 {
         let own = out[i];
         out[i] = or_role_row(own, row, own[k]);
-        i += 1;
     }
     out
 }
@@ -67,11 +61,9 @@ pub fn close_roles(m: [[bool; 64]; 64]) -> [[bool; 64]; 64]
     ensures { Closes 64 (mark m) (mark result) }
 {
     let mut out = reflexive_roles(m);
-    let mut k: usize = 0;
-    while k < 64 {
+    for k in 0..64 {
         let next = through_role(out, k);
         out = next;
-        k += 1;
     }
     out
 }
@@ -81,10 +73,7 @@ fn mark_role(m: &mut RoleRows, left: SignedRole, right: SignedRole)
     requires { Square 64 m.old }
     ensures { Square 64 m.new × Gains 64 64 m.old (Pair left.0 right.0) m.new }
 {
-    if left.0 >= 64 {
-        return;
-    }
-    if right.0 >= 64 {
+    if left.0 >= 64 || right.0 >= 64 {
         return;
     }
     let i = left.0 as usize;
@@ -130,10 +119,8 @@ pub fn or_concept_row(a: [bool; 128], b: [bool; 128]) -> [bool; 128]
     ensures { OrRow 128 a b true result }
 {
     let mut out = a;
-    let mut j: usize = 0;
-    while j < 128 {
+    for j in 0..128 {
         out[j] = out[j] | b[j];
-        j += 1;
     }
     out
 }
@@ -143,10 +130,8 @@ fn reflexive_concepts(m: &mut ConceptRows)
     requires { Square 128 m.old }
     ensures { Square 128 m.new × Gains 128 128 m.old Diagonal m.new }
 {
-    let mut i: usize = 0;
-    while i < 128 {
+    for i in 0..128 {
         m[i][i] = true;
-        i += 1;
     }
 }
 
@@ -156,13 +141,11 @@ fn through_concept(m: &mut ConceptRows, k: usize)
     ensures { Square 128 m.new × Stepped 128 (mark m.old) k (mark m.new) }
 {
     let row = m[k];
-    let mut i: usize = 0;
-    while i < 128 {
+    for i in 0..128 {
         if m[i][k] {
             let own = m[i];
             m[i] = or_concept_row(own, row);
         }
-        i += 1;
     }
 }
 
@@ -172,10 +155,8 @@ fn close_concepts(m: &mut ConceptRows)
     ensures { Closes 128 (mark m.old) (mark m.new) }
 {
     reflexive_concepts(m);
-    let mut k: usize = 0;
-    while k < 128 {
+    for k in 0..128 {
         through_concept(m, k);
-        k += 1;
     }
 }
 
@@ -189,10 +170,8 @@ fn mark_concept_rules(m: &mut ConceptRows, rules: &[u16])
         let at = 2 * k;
         let i = rules[at] as usize;
         let j = rules[at + 1] as usize;
-        if i < 128 {
-            if j < 128 {
-                m[i][j] = true;
-            }
+        if i < 128 && j < 128 {
+            m[i][j] = true;
         }
     }
 }
@@ -202,10 +181,8 @@ fn widen_row(row: [bool; 64]) -> [bool; 128]
     ensures { WideRow row result }
 {
     let mut out = [false; 128];
-    let mut j: usize = 64;
-    while j < 128 {
+    for j in 64..128 {
         out[j] = row[j - 64];
-        j += 1;
     }
     out
 }
@@ -216,10 +193,8 @@ fn widen(roles: RoleRows) -> ConceptRows
 {
     let blank = [false; 128];
     let mut out = [blank; 128];
-    let mut i: usize = 64;
-    while i < 128 {
+    for i in 64..128 {
         out[i] = widen_row(roles[i - 64]);
-        i += 1;
     }
     out
 }

@@ -16,6 +16,7 @@ use tables::{AREA, ROLE_FACTS};
 pub const NO_HOP: usize = 8192;
 
 // The set m, with the state t in it where on is true.
+#[tactic(auto, using(laws::specs::Sets::with_it))]
 fn with(m: u16, t: usize, on: bool) -> u16
     requires { t < 16 }
     ensures { With m t on result }
@@ -31,7 +32,7 @@ fn meets(row: [bool; 128], area: &[u8], at: usize) -> bool
     let mut found = false;
     for b in 0..128 {
         let marked = area[at + b] == 1;
-        found = found | (row[b] & marked);
+        found |= row[b] & marked;
     }
     found
 }
@@ -55,7 +56,7 @@ fn any_mark(row: [bool; 128]) -> bool
 {
     let mut found = false;
     for b in 0..128 {
-        found = found | row[b];
+        found |= row[b];
     }
     found
 }

@@ -12,11 +12,8 @@ fn with_step(w: &mut [[bool; 256]; 64], m: &[[bool; 64]; 64], at: usize, by: usi
     requires { (at < 256) × (by < 64) × Sized 64 256 w.old }
     ensures { WithStep w.old m.now at by w.new × Sized 64 256 w.new }
 {
-    let mut i: usize = 0;
-    while i < 64 {
-        let old = w[i][at];
-        w[i][at] = old | m[i][by];
-        i += 1;
+    for i in 0..64 {
+        w[i][at] |= m[i][by];
     }
 }
 
