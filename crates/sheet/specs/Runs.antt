@@ -77,14 +77,6 @@ module _ (c : Counts) (order ways : List (List Bool)) (steps : List ℕ) where
           );
         })
 
-  -- what stands before the loop: the rows below each concept, the count of states, the sheet of round 0 and a second area
-  pub record Before (below : List (List Bool)) (states : ℕ) (first second : List ℕ) : Type 0 where
-    pub fit : CountsFit c
-    pub rows : BelowRows order c below
-    pub same-states : states ≡ c.states
-    pub lays : Lays (Mark K 0) first
-    pub second-long : length second ≡ areaLength
-
   -- a turn: below and states are what the code made of the order and the counts, made is what its round wrote, b what its comparison said
   module _ (fit : CountsFit c) (below : List (List Bool)) (rows : BelowRows order c below) (states : ℕ) (same-states : states ≡ c.states)
       (allowance n : ℕ) (first second : List ℕ) (run : Running allowance n first second)
@@ -125,13 +117,3 @@ module _ (c : Counts) (order ways : List (List Bool)) (steps : List ℕ) where
     pub goes_on : b ≡ false → (n ≡ allowance → ⊥) → (x : List ℕ) → x ≡ made → Running allowance (n + 1) x made
     goes_on t far x e =
         rw (e, add-one n) (record { within = omega (arith, run.within); lays = next; changing = changed t; second-long = made-long })
-
--- The loop sees neither the counts nor the order, which its rows have replaced: its invariant is for all that may stand before it.
-abbrev pub Turning : List (List Bool) → List ℕ → List (List Bool) → ℕ → List ℕ → List ℕ → ℕ → ℕ → List ℕ → List ℕ → Type 0
-Turning ways steps below states first₀ second₀ allowance n first second =
-    (c : Counts) (order : List (List Bool)) → Before c order ways steps below states first₀ second₀ → Running c order ways steps allowance n first second
-
-pub first-turn : (ways : List (List Bool)) (steps : List ℕ) (below : List (List Bool)) (states : ℕ) (first second : List ℕ) (allowance : ℕ)
-    → Turning ways steps below states first second allowance 0 first second
-first-turn ways steps below states first second allowance c order b =
-    record { within = omega arith; lays = b.lays; changing = λ m h. absurd (omega arith); second-long = b.second-long }
