@@ -12,7 +12,7 @@ use Rattle.frames.specs.declared.Frame.{Frame}
 use Rattle.frames.specs.declared.Frame.TheVariants.{BadLine, BadFrame, Declared, ConceptRule, ConceptExclusion, RoleRule, RoleExclusion, ConceptFact, RoleFact, RoleStep, TestStep, Final, Ask, Allowance}
 use Rattle.reading.specs.declared.Held.{Held}
 use Rattle.reading.specs.declared.Row.{Row}
-use Rattle.reading.specs.Tables.{table_of, recordOf, width, most, entries, table, countsAt, declared_by}
+use Rattle.reading.specs.Tables.{table_of, recordOf, width, most, entries, countsAt, declared_by}
 use Rattle.reading.specs.Reading.{Begun, Into, Judged}
 use Rattle.laws.specs.First.{first-passed}
 use Rattle.reading.specs.Store.{place, tableCount, storeLength}

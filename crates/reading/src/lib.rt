@@ -75,6 +75,7 @@ const PLACES: [usize; 13] = [
     0, 0, 5, 1029, 2053, 2309, 2565, 4613, 16901, 18949, 18949, 18965, 19477,
 ];
 
+#[tactic(auto, unfolding(crate::specs::Tables::width))]
 fn width(t: usize) -> usize
     requires { t < 13 }
     ensures { result ≡ width t }
@@ -82,6 +83,7 @@ fn width(t: usize) -> usize
     WIDTHS[t]
 }
 
+#[tactic(auto, unfolding(crate::specs::Tables::most))]
 fn most(t: usize) -> usize
     requires { t < 13 }
     ensures { result ≡ most t }
@@ -126,8 +128,8 @@ fn has_room(used: [usize; 13], t: usize) -> bool
 }
 
 // The number that refuses a frame after those held, or 0.
-fn refusal(frame: Frame, held: Held) -> u8
-    ensures { Judges held frame result }
+fn refusal(frame: Frame, held: &Held) -> u8
+    ensures { Judges held.now frame result }
 {
     let counts = held.counts;
     let used = held.used;
@@ -222,6 +224,7 @@ fn number(c: Concept) -> u16
 }
 
 // The row of a frame that is taken.
+#[tactic(auto, unfolding(crate::specs::Tables::width))]
 fn row_of(frame: Frame) -> Row
     requires { Small frame }
     ensures { RowOf frame result }
@@ -338,12 +341,13 @@ fn keep(row: Row, held: Held, store: &mut [u16]) -> Held
     Held {
         counts: counts_after(t, values, held.counts),
         allowance: allowance_after(t, values, held.allowance),
-        used: used,
+        used,
         lines: held.lines + 1,
     }
 }
 
 // Nothing read yet.
+#[tactic(auto, unfolding(crate::specs::Tables::table, crate::specs::Tables::entries, laws::specs::Numbers::numbered, laws::specs::Numbers::upto))]
 fn nothing() -> Held
     ensures { result ≡ held_of [] }
 {
@@ -389,36 +393,24 @@ pub fn read_file(input: &[u8], store: &mut [u16]) -> Read
 {
     let mut held = nothing();
     if store.len() != STORE {
-        return Read {
-            held: held,
-            number: 5,
-        };
+        return Read { held, number: 5 };
     }
     let mut at = 0;
     while at < input.len() {
         let end = line_end(input, at);
         let frame = frame_at(input, at, end);
-        let number = refusal(frame, held);
+        let number = refusal(frame, &held);
         if number != 0 {
-            return Read {
-                held: held,
-                number: number,
-            };
+            return Read { held, number };
         }
         let next = keep(row_of(frame), held, store);
         held = next;
         at = end + 1;
     }
     if held.lines == 0 {
-        return Read {
-            held: held,
-            number: 11,
-        };
+        return Read { held, number: 11 };
     }
-    Read {
-        held: held,
-        number: 0,
-    }
+    Read { held, number: 0 }
 }
 
 // The records of a table in the store, by their number; nothing where there is no such table, or no room for them.
