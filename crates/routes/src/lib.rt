@@ -81,7 +81,8 @@ pub fn loops(concepts: [[bool; 128]; 255], area: &[u8]) -> [u16; 4080]
     }
     for a in 0..255 {
         let row = concepts[a];
-        if any_mark(row) {
+        let listed = any_mark(row);
+        if listed {
             put_loops(&mut out, a, row, area);
         }
     }

@@ -8,7 +8,7 @@ loop-h-init c = links-none _ _ c.hop_count-h.ensures
 
 pub loop-h-preserved-then-a-lt-MOST : goal.loop-h-preserved-then-a-lt-MOST
 loop-h-preserved-then-a-lt-MOST c =
-    links-more _ _ _ _ (one_left _ c.loop-h.h _ c.loop-h-test.true c.loop-h.invariant) c.source_of-a.ensures c.if-a-lt-MOST.true
+    links-more _ _ _ _ (one_left _ c.loop-h.h _ (omega arith) c.loop-h.invariant) c.source_of-a.ensures c.if-a-lt-MOST.true
 
 pub loop-h-preserved : goal.loop-h-preserved
-loop-h-preserved c = links-stray _ _ _ (one_left _ c.loop-h.h _ c.loop-h-test.true c.loop-h.invariant) (omega arith)
+loop-h-preserved c = links-stray _ _ _ (one_left _ c.loop-h.h _ (omega arith) c.loop-h.invariant) (omega arith)
