@@ -31,7 +31,6 @@ use Rattle.index.specs.declared.Prepared.{Prepared}
 use Rattle.index.specs.Prepare as prepare
 use Rattle.index.specs.Prepare.{Lending, asks, lent_of, Fit, NeededRounds, Settles, Prepares}
 use Rattle.index.specs.Reply.{Arrives, Passed, Says, RepliesTo, bad-count, bad-table, bad-number, equal-ends, bad-ask, says, yes, no, Replies}
-use Rattle.index.specs.Reply as reply
 
 -- record k of the finals
 final-in : (l : List ℕ) (k : ℕ) → k < length l → state (get_or l k 0) ∈ records finalWidth finalAt l

@@ -90,11 +90,14 @@ module _ (l : Lending) (fit : Fit l) (roles order concepts : List (List Bool)) (
     ran-ended (runs.ran f e) = ended e
 
     -- what is made of it
-    pub finish-settles : {r : Ran} {p : Prepared} {x y : List ℕ} → (Broken l → ⊥) → Ended' r x y → Finishes l.allowance concepts leads x l.tables.role-facts r p → Settles l p x y
-    finish-settles sane e refused = absurd e
-    finish-settles sane (n, need, k, lays, z) spent = rw z (prepare.spent sane need k lays)
-    finish-settles {x = x} sane (need, k, lays, z) (needed {n = n} {p = p} e loops ways links) =
+    settled-by : {r : Ran} {p : Prepared} {x y : List ℕ} → (Broken l → ⊥) → Finishes l.allowance concepts leads x l.tables.role-facts r p → Ended' r x y → Settles l p x y
+    settled-by sane refused e = absurd e
+    settled-by sane spent (n, need, k, lays, z) = rw z (prepare.spent sane need k lays)
+    settled-by {x = x} sane (needed {n = n} {p = p} e loops ways links) (need, k, lays, z) =
         rw z (prepare.needed sane need k lays e (routes-mean l.counts l.tables fit.counts fit.numbers.declared roles order leads concepts o q w h n x lays p.loops p.ways p.links loops ways links))
+
+    pub finish-settles : {r : Ran} {p : Prepared} {x y : List ℕ} → (Broken l → ⊥) → Ended' r x y → Finishes l.allowance concepts leads x l.tables.role-facts r p → Settles l p x y
+    finish-settles sane e f = settled-by sane f e
 
 -- the three ends, as the code comes to them
 module _ (allowance : ℕ) (concepts leads : List (List Bool)) (area facts : List ℕ) (r : Ran) (p : Prepared) where

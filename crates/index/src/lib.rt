@@ -25,7 +25,7 @@ use walk::walk;
 use ways::ways;
 
 // What preparing a collection found.
-#[derive(Drop)]
+#[derive(Clone, Copy)]
 pub enum Found {
     BadCount,
     BadTable,
@@ -37,7 +37,7 @@ pub enum Found {
 }
 
 // A collection worked out: what was found, and, where the rounds sufficed, the tables that a walk reads.
-#[derive(Drop)]
+#[derive(Clone, Copy)]
 pub struct Prepared {
     pub found: Found,
     pub loops: [u16; 4080],
@@ -231,10 +231,7 @@ fn walked(
     if !tables::ask(counts, first, second) {
         return Answer::BadAsk;
     }
-    let loops = p.loops;
-    let ways = p.ways;
-    let links = p.links;
-    let reached = walk(&loops, &ways, &links, rolefacts, first, counts.start);
+    let reached = walk(&p.loops, &p.ways, &p.links, rolefacts, first, counts.start);
     if arrives(reached, finals, second) {
         return Answer::Yes(n);
     }
