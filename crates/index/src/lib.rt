@@ -37,7 +37,7 @@ pub enum Found {
 }
 
 // A collection worked out: what was found, and, where the rounds sufficed, the tables that a walk reads.
-#[derive(Clone, Copy)]
+#[derive(Drop)]
 pub struct Prepared {
     pub found: Found,
     pub loops: [u16; 4080],
@@ -218,7 +218,7 @@ fn arrives(reached: [u16; 255], finals: &[u16], second: Individual) -> bool
 
 // Yes or no to a declared pair, by a walk from its first individual.
 fn walked(
-    p: Prepared,
+    p: &Prepared,
     counts: Counts,
     rolefacts: &[u16],
     finals: &[u16],
@@ -226,7 +226,7 @@ fn walked(
     second: Individual,
     n: Rounds,
 ) -> Answer
-    ensures { RepliesTo p counts rolefacts.now finals.now first second (Needed n) result }
+    ensures { RepliesTo p.now counts rolefacts.now finals.now first second (Needed n) result }
 {
     if !tables::ask(counts, first, second) {
         return Answer::BadAsk;
@@ -240,14 +240,14 @@ fn walked(
 
 // A pair answered from a preparation: what asking it of the same collection answers.
 pub fn reply(
-    p: Prepared,
+    p: &Prepared,
     counts: Counts,
     rolefacts: &[u16],
     finals: &[u16],
     first: Individual,
     second: Individual,
 ) -> Answer
-    ensures { Replies p counts rolefacts.now finals.now first second result }
+    ensures { Replies p.now counts rolefacts.now finals.now first second result }
 {
     let found = p.found;
     match found {
@@ -324,5 +324,5 @@ pub fn ask(
         area,
         spare,
     );
-    reply(p, counts, rolefacts, finals, first, second)
+    reply(&p, counts, rolefacts, finals, first, second)
 }
