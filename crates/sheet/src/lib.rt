@@ -12,7 +12,7 @@ ghost use Rattle.sheet.specs.Start.{FirstPlace, Started};
 ghost use Rattle.meaning.specs.Sheet.{Mark};
 ghost use Rattle.meaning.specs.Layout.{areaLength, Lays};
 ghost use Rattle.sheet.specs.Data.{dataKind};
-ghost use Rattle.sheet.specs.Runs.{Runs, Ended};
+ghost use Rattle.sheet.specs.Runs.{Fits, Runs, Ended};
 ghost use Rattle.sheet.specs.Places.{TestPlace, TestTurn, HangPlace, RoundPlace};
 ghost use Rattle.sheet.specs.Puts.{Puts};
 ghost use Rattle.sheet.specs.Rules.{RowTurn, MarkAt, Filled, JoinTurn, JoinVia, JoinPair, Column, StateTurn, Product, PairAt, HangAt, HangTurn};
@@ -419,13 +419,21 @@ fn rounds(
             clear(second);
             return Ran::Needed(n);
         }
-        if n == allowance {
+        let spent = n == allowance;
+        if spent {
             clear(second);
             return Ran::Spent;
         }
         copy(first, second);
         n += 1;
     }
+}
+
+// The counts are in range, and both areas have the sheet's length.
+fn fits(counts: Counts, first: &[u8], second: &[u8]) -> bool
+    ensures { Exactly result (Fits counts first.now second.now) }
+{
+    counts.fit() && first.len() == AREA && second.len() == AREA
 }
 
 // The sheet from its start, round after round against the allowance.
@@ -440,13 +448,7 @@ pub fn run(
 ) -> Ran
     ensures { Runs counts order ways steps.now allowance first.old second.old result first.new second.new }
 {
-    if !counts.fit() {
-        return Ran::Refused;
-    }
-    if first.len() != AREA {
-        return Ran::Refused;
-    }
-    if second.len() != AREA {
+    if !fits(counts, first, second) {
         return Ran::Refused;
     }
     start(first, counts);

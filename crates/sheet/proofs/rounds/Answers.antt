@@ -8,12 +8,12 @@ returns-then-same c =
     closes _ _ _ _ c.requires.0 _ c.below_rows-below.ensures _ refl _ _ _ _ c.loop-ways.invariant _ c.round.ensures _ c.same.ensures
     c.if-same.true _ c.clear.ensures
 
-pub returns-then-n-allowance : goal.returns-then-n-allowance
-returns-then-n-allowance c =
+pub returns-then-spent : goal.returns-then-spent
+returns-then-spent c =
     spends _ _ _ _ c.requires.0 _ c.below_rows-below.ensures _ refl _ _ _ _ c.loop-ways.invariant _ c.round.ensures _ c.same.ensures
-    c.if-same.false c.if-n-allowance.true _ c.clear-then-n-allowance.ensures
+    c.if-same.false c.if-spent.true _ c.clear-then-spent.ensures
 
 pub loop-ways-preserved : goal.loop-ways-preserved
 loop-ways-preserved c =
     goes_on _ _ _ _ c.requires.0 _ c.below_rows-below.ensures _ refl _ _ _ _ c.loop-ways.invariant _ c.round.ensures _ c.same.ensures
-    c.if-same.false c.if-n-allowance.false _ c.copy.ensures
+    c.if-same.false c.if-spent.false _ c.copy.ensures
