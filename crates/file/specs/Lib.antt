@@ -1,7 +1,4 @@
 pub mod Text
 pub mod Writes
-pub mod WritesLaws
-pub mod Output
+pub mod Serves
 pub mod Replying
-pub mod Wrote
-pub mod Listed

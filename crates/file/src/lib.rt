@@ -1,82 +1,68 @@
 // What a whole input writes: the line of its first fault, or an answer for each ask.
 #![tactic(auto)]
 
-ghost use Rattle.std.specs.Prelude.{◌+◌, ◌*◌, ◌<◌, ◌≤◌, ◌≡◌, length};
-ghost use Rattle.std.proofs.Math.Seq.{paste};
+ghost use Rattle.std.specs.Prelude.{◌+◌, ◌*◌, ◌/◌, ◌<◌, ◌≤◌, ◌≡◌, ◌++◌, IfOk, IfErr, OnOk, IfSome, take, length};
 ghost use Rattle.file.specs.Text.{character, text, faultLine, answerLine};
+ghost use Rattle.file.specs.Writes.{Writes};
+ghost use Rattle.file.specs.Serves.{Serves, Untouched};
+ghost use Rattle.file.specs.Replying.{Replied, Shelved, AnswersAll};
 ghost use Rattle.meaning.specs.Layout.{zeros};
-ghost use Rattle.file.specs.Output.{Holds};
-ghost use Rattle.file.specs.Wrote.{Wrote};
-ghost use Rattle.file.specs.Replying.{FewAsks, RepliedAll, Shelved, AnswersAll};
+ghost use Rattle.reading.specs.Prefix.{mostBytes};
+ghost use Rattle.reading.specs.Keeping.{Bytes};
 
 use index::{Prepared, prepare, reply};
 use kinds::{Answer, Counts, Individual};
-use reading::{Held, read_file, table};
-
-// The longest output, 256 answers of 13 bytes.
-pub const OUTPUT: usize = 3328;
-
-// A text, its bytes first and zeros after them.
-#[derive(Drop)]
-pub struct Output {
-    pub text: [u8; 3328],
-    pub length: usize,
-}
+use reading::{Held, MOST_BYTES, STORE, read_file, table};
+use std::alloc::{AllocError, Global};
+use std::io::{Read, Write};
+use std::{fmt, io};
+use tables::AREA;
 
 // The character of a digit.
+#[tactic(auto, using(crate::proofs::TextLaws::character_low, crate::proofs::TextLaws::character_high))]
 fn character(d: u8) -> u8
     requires { d < 16 }
     ensures { result ≡ character d }
 {
     if d < 10 {
-        return 48 + d;
+        return b'0' + d;
     }
-    55 + d
+    b'A' - 10 + d
 }
 
-// A line of bytes written at a place, and the place after it.
-fn put_line(out: &mut [u8], at: usize, bytes: &[u8]) -> usize
-    requires { at + length (text bytes.now) ≤ length out.old }
-    ensures value { result ≡ at + length (text bytes.now) }
-    ensures out_after { out.new ≡ paste out.old at (text bytes.now) (length (text bytes.now)) }
+// A line of bytes, two characters each, put after what is written.
+fn put_line(out: &mut Vec<u8>, bytes: &[u8]) -> Result<(), AllocError>
+    ensures { OnOk result (out.new.items ≡ out.old.items ++ text bytes.now) }
 {
-    let n = bytes.len();
-    for k in 0..n {
-        let b = bytes[k];
-        let j = at + 2 * k;
-        out[j] = character(b / 16);
-        out[j + 1] = character(b % 16);
+    for b in bytes {
+        out.push(character(*b / 16))?;
+        out.push(character(*b % 16))?;
     }
-    let end = at + 2 * n;
-    out[end] = 10;
-    end + 1
+    out.push(b'\n')?;
+    Ok(())
 }
 
 // The line of a fault.
-fn fault(line: usize, number: u8) -> Output
+fn fault(alloc: Global, line: usize, number: u8) -> Result<Vec<u8>, AllocError>
     requires { line < 65536 }
-    ensures { Holds (faultLine line number) result }
+    ensures { IfOk result (λ v. v.items ≡ faultLine line number) }
 {
-    let mut out = [0u8; 3328];
+    let mut out = Vec::new(alloc);
     let bytes = [0x8F, (line / 256) as u8, (line % 256) as u8, number];
-    let n = put_line(&mut out, 0, &bytes);
-    Output {
-        text: out,
-        length: n,
-    }
+    put_line(&mut out, &bytes)?;
+    Ok(out)
 }
 
-// The line of an answer written at a place, and the place after it.
+// The line of an answer put after what is written.
 fn put_answer(
-    out: &mut [u8],
-    at: usize,
+    out: &mut Vec<u8>,
     first: Individual,
     second: Individual,
     answer: Answer,
-) -> usize
-    requires { (at + 13 ≤ length out.old) × (first.0 < 256) × (second.0 < 256) }
-    ensures value { result ≡ at + 13 }
-    ensures out_after { out.new ≡ paste out.old at (answerLine first second answer) 13 }
+) -> Result<(), AllocError>
+    requires first_in { first.0 < 256 }
+    requires second_in { second.0 < 256 }
+    ensures { OnOk result (out.new.items ≡ out.old.items ++ answerLine first second answer) }
 {
     let count = answer.count();
     let bytes = [
@@ -87,49 +73,48 @@ fn put_answer(
         (count / 256) as u8,
         (count % 256) as u8,
     ];
-    put_line(out, at, &bytes)
+    put_line(out, &bytes)
 }
 
 // Every ask replied to, in order, from one preparation.
-fn replies(p: Prepared, counts: Counts, asks: &[u16], rolefacts: &[u16], finals: &[u16]) -> Output
-    requires { FewAsks asks.now }
-    ensures { RepliedAll p counts asks.now rolefacts.now finals.now result }
+fn replies(
+    alloc: Global,
+    p: &Prepared,
+    counts: Counts,
+    asks: &[u16],
+    rolefacts: &[u16],
+    finals: &[u16],
+) -> Result<Vec<u8>, AllocError>
+    requires { Bytes asks.now }
+    ensures { IfOk result (λ v. Replied p.now counts asks.now rolefacts.now finals.now (length asks.now / 2) v.items) }
 {
-    let mut out = [0u8; 3328];
-    let mut at = 0;
+    let mut out = Vec::new(alloc);
     let n = asks.len() / 2;
     for k in 0..n {
-        let j = 2 * k;
-        let first = Individual(asks[j]);
-        let second = Individual(asks[j + 1]);
+        let first = Individual(asks[2 * k]);
+        let second = Individual(asks[2 * k + 1]);
         let answer = reply(p, counts, rolefacts, finals, first, second);
-        at = put_answer(&mut out, at, first, second, answer);
+        put_answer(&mut out, first, second, answer)?;
     }
-    Output {
-        text: out,
-        length: at,
-    }
+    Ok(out)
 }
 
 // A working area.
-fn area() -> [u8; 32768]
+fn area() -> [u8; AREA]
     ensures { result ≡ zeros }
 {
-    [0; 32768]
+    [0; AREA]
 }
 
 // Every ask of a sound file answered; where there is none, nothing is worked out.
-fn answers(held: Held, store: &[u16]) -> Output
+fn answers(alloc: Global, held: Held, store: &[u16]) -> Result<Vec<u8>, AllocError>
     requires { Shelved held store.now }
-    ensures { AnswersAll held store.now result }
+    ensures { IfOk result (λ v. AnswersAll held store.now v.items) }
 {
     let counts = held.counts;
     let used = held.used;
     if used[11] == 0 {
-        return Output {
-            text: [0; 3328],
-            length: 0,
-        };
+        return Ok(Vec::new(alloc));
     }
     let rolefacts = table(store, used, 7);
     let finals = table(store, used, 10);
@@ -149,19 +134,71 @@ fn answers(held: Held, store: &[u16]) -> Output
         &mut first,
         &mut second,
     );
-    replies(p, counts, table(store, used, 11), rolefacts, finals)
+    replies(alloc, &p, counts, table(store, used, 11), rolefacts, finals)
 }
 
-// What a whole input writes. Of a longer input its first 467,155 bytes decide.
-pub fn answer(input: &[u8]) -> Output
-    ensures { Wrote input.now result }
+// What a whole input writes. Of a longer input its first `MOST_BYTES` decide.
+pub fn answer(alloc: Global, input: &[u8]) -> Result<Vec<u8>, AllocError>
+    ensures { IfOk result (λ v. Writes input.now v.items) }
 {
-    let mut store = [0u16; 19478];
+    let mut store = [0u16; STORE];
     let read = read_file(input, &mut store);
     let held = read.held;
     let number = read.number;
     if number != 0 {
-        return fault(held.lines + 1, number);
+        return fault(alloc, held.lines + 1, number);
     }
-    answers(held, &store)
+    answers(alloc, held, &store)
+}
+
+// Why nothing, or not all, is written.
+#[derive(Debug, Drop)]
+pub enum ServeError {
+    Unread(io::Error),
+    NoMemory,
+    Unwritten(io::Error),
+}
+
+impl fmt::Display for ServeError {
+    fn fmt<W: fmt::Write>(&self, f: &mut fmt::Formatter<W>) -> fmt::Result {
+        match self {
+            ServeError::Unread(_) => f.write_str(
+                "standard input could not be read, so nothing is answered",
+            ),
+            ServeError::NoMemory => f.write_str(
+                "there is too little memory, so nothing is answered",
+            ),
+            ServeError::Unwritten(_) => f.write_str("standard output could not be written whole"),
+        }
+    }
+}
+
+// As much of the input as decides what it writes.
+fn read_input<R: Read + Drop>(alloc: Global, reader: R) -> Result<Vec<u8>, ServeError>
+    ensures { IfOk result (λ v. IfSome (R.remaining reader) (λ xs. v.items ≡ take mostBytes xs)) }
+{
+    let mut input = Vec::new(alloc);
+    match reader.take(MOST_BYTES as u64).read_to_end(&mut input) {
+        Ok(_) => Ok(input),
+        Err(e) => Err(ServeError::Unread(e)),
+    }
+}
+
+// The desk: what the reader has left is read, as far as it decides, and what it writes is put to the writer.
+pub fn serve<R: Read + Drop, W: Write>(
+    alloc: Global,
+    reader: R,
+    writer: &mut W,
+) -> Result<(), ServeError>
+    ensures written { OnOk result (IfSome (R.remaining reader) (λ xs. Serves xs (W.contents writer.old) (W.contents writer.new))) }
+    ensures untouched { IfErr result (λ e. Untouched e (W.contents writer.old) (W.contents writer.new)) }
+{
+    let input = read_input(alloc, reader)?;
+    let Ok(text) = answer(alloc, &input) else {
+        return Err(ServeError::NoMemory);
+    };
+    match writer.write_all(&text) {
+        Ok(()) => Ok(()),
+        Err(e) => Err(ServeError::Unwritten(e)),
+    }
 }

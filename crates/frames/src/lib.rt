@@ -28,7 +28,7 @@ pub enum Frame {
 }
 
 // The characters of the longest line.
-const LINE: usize = 64;
+pub const LINE: usize = 64;
 
 // What each character is worth as a digit; 255 is no digit.
 const DIGITS: [u8; 256] = [

@@ -12,7 +12,7 @@ ghost use Rattle.reading.specs.Judging.{judgement, HasRoom, Judges};
 ghost use Rattle.reading.specs.Keeping.{keptCounts, keptAllowance, Small, RowOf, Keepable, Keeps};
 ghost use Rattle.reading.specs.Reads.{LineEnd, Reads, TableIn};
 
-use frames::{Frame, read};
+use frames::{Frame, LINE, read};
 use kinds::{Concept, Counts, Rounds, State};
 use tables::{
     CONCEPT_EXCLUSIONS, CONCEPT_FACTS, CONCEPT_RULES, FINALS, ROLE_EXCLUSIONS, ROLE_FACTS,
@@ -27,6 +27,21 @@ pub const STORE: usize = 19478;
 
 // The allowance of a file that gives none.
 pub const ALLOWANCE: Rounds = 64;
+
+// The most lines of a sound file: line 1, the allowance, and as many as the tables have records.
+pub const LINES: usize = 2
+    + CONCEPT_RULES
+    + CONCEPT_EXCLUSIONS
+    + ROLE_RULES
+    + ROLE_EXCLUSIONS
+    + CONCEPT_FACTS
+    + ROLE_FACTS
+    + STEPS
+    + FINALS
+    + ASKS;
+
+// The bytes that decide what an input is read as: one line more, each of the most characters and its end.
+pub const MOST_BYTES: usize = (LINES + 1) * (LINE + 1);
 
 // What is held of a file beside its store: line 1's counts, the allowance, the records of each table, and the lines read.
 // A table has the number of its frames' kind; test steps stand with the role steps, in table 8.
