@@ -1,9 +1,8 @@
 // The desk: standard input answered on standard output.
 #![tactic(auto)]
 
-use std::process::ExitCode;
-
 use file::serve;
+use std::process::ExitCode;
 
 fn main(rt: HostRuntime) -> ExitCode {
     let mut output = rt.stdout();
