@@ -1,28 +1,14 @@
 -- What each loop of the test looks for, and that its parts come to the definition.
-use Rattle.std.specs.Prelude.{ℕ, ◌+◌, ◌*◌, ◌<◌, ◌≡◌, ◌⊎◌, ◌↔◌, Bool, true, false, ◌&&◌, List, [], length, get_or}
-use Rattle.std.proofs.Common.{inl, inr, ⊎_elim, arith}
-use Rattle.std.proofs.lemmas.Bool.{false≢true}
+use Rattle.std.specs.Prelude.{ℕ, ◌+◌, ◌<◌, ◌≡◌, ◌⊎◌, ◌↔◌, Bool, true, false, List, [], get_or}
+use Rattle.std.proofs.Common.{inl, inr, ⊎_elim}
 use Rattle.kinds.specs.declared.Individual.{Individual}
 use Rattle.kinds.specs.Kinds.{flip, flip-below, individual}
 use Rattle.laws.specs.Exactly.{Exactly, exactly-same}
 use Rattle.laws.specs.Found.{Some}
 use Rattle.laws.specs.Masks.{Bit}
-use Rattle.laws.specs.Warshall.{and-make, and_left, and_right}
-use Rattle.clash.specs.Clashes.{Marked, Excluded, Breaks, FactRole, ahead, behind, Clashes, named, unnamed, joined, down, up}
+use Rattle.clash.specs.Clashes.{Marked, Breaks, FactRole, ahead, behind, Clashes, named, unnamed, joined, down, up}
 use Rattle.clash.specs.Conflicts.{Conflicts, self-conflict}
 use Rattle.clash.specs.Hops.{Joined, Meets, meets-break, breaks-meet}
-
--- record k of the exclusions, against a row of any width
-module _ {places : ℕ} {ex : List ℕ} {row : List Bool} {k : ℕ} where
-  pub both-marked : get_or ex (2 * k) 0 < places → get_or ex (2 * k + 1) 0 < places → (get_or row (get_or ex (2 * k) 0) false && get_or row (get_or ex (2 * k + 1) 0) false) ≡ true
-      → Excluded places ex (Marked row) k
-  both-marked h l e =
-      let u = get_or row (get_or ex (2 * k) 0) false in
-      let v = get_or row (get_or ex (2 * k + 1) 0) false in
-      record { left-place = h; right-place = l; left = record { marked = and_left u v e }; right = record { marked = and_right u v e } }
-
-  pub not-both : (get_or row (get_or ex (2 * k) 0) false && get_or row (get_or ex (2 * k + 1) 0) false) ≡ false → Excluded places ex (Marked row) k → ⊥
-  not-both e x = false≢true (rw e at (and-make _ _ x.left.marked x.right.marked))
 
 -- the individual a has both sides of an exclusion
 pub record NamedBreaks (cx : List ℕ) (concepts : List (List Bool)) (a : ℕ) : Type 0 where
@@ -53,13 +39,6 @@ FromBreaks rx rf roles a = Some (PairBreaks rx rf roles a) 255
 -- an element and its child, or two individuals, have both sides of an exclusion of roles
 abbrev pub RolesBreak : List ℕ → List ℕ → List (List Bool) → List Bool → Type 0
 RolesBreak rx rf roles living = Some (LivingBreaks rx roles living) 64 ⊎ Some (FromBreaks rx rf roles) 255
-
--- no exclusion, nothing to break
-pub none-excluded : {rx rf : List ℕ} {roles : List (List Bool)} {living : List Bool} → length rx < 2 → RolesBreak rx rf roles living → ⊥
-none-excluded {rx} h = ⊎_elim (λ w. ⊎_elim none none w.2.breaks) (λ w. none w.2.2.breaks)
-  where
-    none : {M : ℕ → Type 0} → Breaks 64 rx M → ⊥
-    none b = let l = b.1 in omega arith
 
 -- by the table of the roles in conflict: a living role that is in conflict with itself; and where none is, the facts decide
 module _ (rx : List ℕ) (roles : List (List Bool)) (table : List ℕ) (c : Conflicts rx roles table) (living : List Bool) where

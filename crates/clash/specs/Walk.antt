@@ -72,10 +72,6 @@ module _ (table rf : List ℕ) (a : ℕ) where
     apart = λ x g l p. w.clear x (omega arith) l p.first;
   }
 
-  -- no hop is left
-  pub tried-all : (h : ℕ) (seen : List ℕ) → Tried table rf a h seen → total rf ≤ h → Meets table rf a → ⊥
-  tried-all h seen w k m = let p = m.pair in let i = p.first.inside in w.apart m.later m.earlier (omega arith) p
-
   module _ (h : ℕ) (seen : List ℕ) (w : Tried table rf a h seen) where
     later : (n b t : ℕ) → h ≤ n → Met rf a h b t → Met rf a n b t
     later n b t k m = let l = m.below in record { hop = m.hop; below = omega arith; leads = m.leads; to = m.to; role = m.role }

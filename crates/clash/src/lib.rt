@@ -14,20 +14,15 @@ ghost use Rattle.clash.specs.Hops.{total, Leads, Meets};
 ghost use Rattle.clash.specs.Walk.{After};
 ghost use Rattle.clash.specs.Parts.{NamedBreaks, UnnamedBreaks, LivingMeets, RolesBreak};
 
-use kinds::{Individual, RoleName};
-use routes::{NO_HOP, links};
-
-// A row of marks for each signed role.
-type RoleRows = [[bool; 64]; 64];
+use kinds::{Concept, Individual, RoleName, SignedRole};
+use orders::{ConceptRows, RoleRows};
+use routes::{Chains, NO_HOP, links};
 
 // A set of signed roles for each signed role, the role t as the bit t.
-type RoleSets = [u64; 64];
-
-// The chains of hops, as `routes` makes them. A hop is a fact read forward or backward.
-type Chains = [u16; 8447];
+type RoleSets = [u64; SignedRole::NUMBERS];
 
 // The row has both sides of an exclusion of concepts; one whose numbers have no place in it is passed over.
-fn concept_breaks(exclusions: &[u16], row: [bool; 128]) -> bool
+fn concept_breaks(exclusions: &[u16], row: [bool; Concept::NUMBERS]) -> bool
     ensures { Exactly result (Breaks 128 exclusions.now (Marked row)) }
 {
     let n = exclusions.len() / 2;
@@ -35,22 +30,21 @@ fn concept_breaks(exclusions: &[u16], row: [bool; 128]) -> bool
         let at = 2 * k;
         let i = exclusions[at] as usize;
         let j = exclusions[at + 1] as usize;
-        if i < 128 {
-            if j < 128 {
-                if row[i] & row[j] {
-                    return true;
-                }
-            }
+        if i < Concept::NUMBERS && j < Concept::NUMBERS && row[i] & row[j] {
+            return true;
         }
     }
     false
 }
 
 // Some individual has both sides of an exclusion.
-fn named_breaks(exclusions: &[u16], concepts: [[bool; 128]; 255]) -> bool
+fn named_breaks(
+    exclusions: &[u16],
+    concepts: [[bool; Concept::NUMBERS]; Individual::NUMBERS],
+) -> bool
     ensures { Exactly result (Some (NamedBreaks exclusions.now concepts) 255) }
 {
-    for a in 0..255 {
+    for a in 0..Individual::NUMBERS {
         let row = concepts[a];
         if concept_breaks(exclusions, row) {
             return true;
@@ -60,13 +54,17 @@ fn named_breaks(exclusions: &[u16], concepts: [[bool; 128]; 255]) -> bool
 }
 
 // Some unnamed element has: of one that ends by r, what follows from ∃ of the inverse of r.
-fn unnamed_breaks(exclusions: &[u16], order: [[bool; 128]; 128], living: [bool; 64]) -> bool
+fn unnamed_breaks(
+    exclusions: &[u16],
+    order: ConceptRows,
+    living: [bool; SignedRole::NUMBERS],
+) -> bool
     ensures { Exactly result (Some (UnnamedBreaks exclusions.now order living) 64) }
 {
-    for r in 0..64 {
+    for r in 0..SignedRole::NUMBERS {
         if living[r] {
             let back = r + 1 - 2 * (r % 2);
-            let row = order[64 + back];
+            let row = order[Concept::BASE as usize + back];
             if concept_breaks(exclusions, row) {
                 return true;
             }
@@ -111,7 +109,7 @@ fn below(roles: &RoleRows, j: usize) -> u64
     ensures { Gathered (Below roles.now j) 64 result }
 {
     let mut m: u64 = 0;
-    for t in 0..64 {
+    for t in 0..SignedRole::NUMBERS {
         m = with(m, t, roles[t][j]);
     }
     m
@@ -122,10 +120,10 @@ fn with_exclusion(old: RoleSets, left: u64, right: u64) -> RoleSets
     ensures { WithExclusion old left right result }
 {
     let mut out = old;
-    for p in 0..64 {
+    for p in 0..SignedRole::NUMBERS {
         let one = taken(left, p, right);
         let other = taken(right, p, left);
-        out[p] = out[p] | (one | other);
+        out[p] |= one | other;
     }
     out
 }
@@ -134,29 +132,25 @@ fn with_exclusion(old: RoleSets, left: u64, right: u64) -> RoleSets
 fn conflicts(exclusions: &[u16], roles: &RoleRows) -> RoleSets
     ensures { Conflicts exclusions.now roles.now result }
 {
-    let mut out = [0u64; 64];
+    let mut out = [0u64; SignedRole::NUMBERS];
     let n = exclusions.len() / 2;
     for k in 0..n {
         let at = 2 * k;
         let i = exclusions[at] as usize;
         let j = exclusions[at + 1] as usize;
-        if i < 64 {
-            if j < 64 {
-                let left = below(roles, i);
-                let right = below(roles, j);
-                let next = with_exclusion(out, left, right);
-                out = next;
-            }
+        if i < SignedRole::NUMBERS && j < SignedRole::NUMBERS {
+            let next = with_exclusion(out, below(roles, i), below(roles, j));
+            out = next;
         }
     }
     out
 }
 
 // Some element and its child have both sides of an exclusion of roles, on the way down or on the way up: a role is in conflict with itself.
-fn living_breaks(table: &RoleSets, living: [bool; 64]) -> bool
+fn living_breaks(table: &RoleSets, living: [bool; SignedRole::NUMBERS]) -> bool
     ensures { Exactly result (Some (LivingMeets table.now living) 64) }
 {
-    for q in 0..64 {
+    for q in 0..SignedRole::NUMBERS {
         if living[q] {
             if has(table[q], q) {
                 return true;
@@ -170,25 +164,15 @@ fn living_breaks(table: &RoleSets, living: [bool; 64]) -> bool
     false
 }
 
-fn wide(x: u16) -> usize
-    ensures { result ≡ x }
-{
-    x as usize
-}
-
 // The hop h starts from the individual a, and its other numbers have their rows.
 fn leads(facts: &[u16], h: usize, a: usize) -> bool
     requires { h < total facts.now }
     ensures { Exactly result (Leads facts.now a h) }
 {
     let at = 3 * (h / 2);
-    if wide(facts[at + 1 + h % 2]) != a {
-        return false;
-    }
-    if facts[at] >= RoleName::MOST {
-        return false;
-    }
-    facts[at + 2 - h % 2] < Individual::MOST
+    facts[at + 1 + h % 2] as usize == a
+        && facts[at] < RoleName::MOST
+        && facts[at + 2 - h % 2] < Individual::MOST
 }
 
 // The signed role of a hop, and the individual it leads to.
@@ -196,14 +180,14 @@ fn role_of(facts: &[u16], h: usize) -> usize
     requires { h < total facts.now }
     ensures { result ≡ roleOf facts.now h }
 {
-    2 * wide(facts[3 * (h / 2)]) + h % 2
+    2 * facts[3 * (h / 2)] as usize + h % 2
 }
 
 fn target_of(facts: &[u16], h: usize) -> usize
     requires { h < total facts.now }
     ensures { result ≡ target facts.now h }
 {
-    wide(facts[3 * (h / 2) + 2 - h % 2])
+    facts[3 * (h / 2) + 2 - h % 2] as usize
 }
 
 // The hop to try after h. Facts past the most that a table may have are in no chain: their hops are tried one by one.
@@ -211,10 +195,11 @@ fn after(chains: &Chains, h: usize) -> usize
     requires { h + 1 < 2 ^ 64 }
     ensures { After chains.now h result }
 {
-    if h >= NO_HOP {
-        return h + 1;
+    if h < NO_HOP {
+        chains[h] as usize
+    } else {
+        h + 1
     }
-    wide(chains[h])
 }
 
 // Two hops from a to one individual, or one taken twice, are by roles in conflict. seen has the roles of the hops from a to each b so far.
@@ -222,9 +207,9 @@ fn hops_break(table: &RoleSets, chains: &Chains, facts: &[u16], a: usize) -> boo
     requires { (a < 255) × Links facts.now chains.now }
     ensures { Exactly result (Meets table.now facts.now a) }
 {
-    let mut seen = [0u64; 255];
+    let mut seen = [0u64; Individual::NUMBERS];
     let count = 2 * (facts.len() / 3);
-    let mut h = wide(chains[NO_HOP + a]);
+    let mut h = chains[NO_HOP + a] as usize;
     while h < count {
         if leads(facts, h, a) {
             let q = role_of(facts, h);
@@ -245,7 +230,7 @@ fn facts_break(table: &RoleSets, facts: &[u16]) -> bool
     ensures { Exactly result (Some (Meets table.now facts.now) 255) }
 {
     let chains = links(facts);
-    for a in 0..255 {
+    for a in 0..Individual::NUMBERS {
         if hops_break(table, &chains, facts, a) {
             return true;
         }
@@ -254,7 +239,12 @@ fn facts_break(table: &RoleSets, facts: &[u16]) -> bool
 }
 
 // An element and its child, or two individuals, have. With no exclusion nothing is computed.
-fn roles_break(exclusions: &[u16], facts: &[u16], roles: &RoleRows, living: [bool; 64]) -> bool
+fn roles_break(
+    exclusions: &[u16],
+    facts: &[u16],
+    roles: &RoleRows,
+    living: [bool; SignedRole::NUMBERS],
+) -> bool
     ensures { Exactly result (RolesBreak exclusions.now facts.now roles.now living) }
 {
     if exclusions.len() < 2 {
@@ -272,10 +262,10 @@ pub fn clash(
     conceptexclusions: &[u16],
     roleexclusions: &[u16],
     rolefacts: &[u16],
-    roles: [[bool; 64]; 64],
-    order: [[bool; 128]; 128],
-    concepts: [[bool; 128]; 255],
-    living: [bool; 64],
+    roles: RoleRows,
+    order: ConceptRows,
+    concepts: [[bool; Concept::NUMBERS]; Individual::NUMBERS],
+    living: [bool; SignedRole::NUMBERS],
 ) -> bool
     ensures { Exactly result (Clashes conceptexclusions.now roleexclusions.now rolefacts.now roles order concepts living) }
 {

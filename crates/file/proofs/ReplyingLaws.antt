@@ -5,6 +5,7 @@ use Rattle.kinds.specs.declared.Individual.{Individual}
 use Rattle.kinds.specs.declared.Counts.{Counts}
 use Rattle.kinds.specs.declared.Answer.{Answer}
 use Rattle.kinds.specs.Kinds.{individual}
+use Rattle.meaning.specs.Lent.{Tables}
 use Rattle.meaning.specs.Layout.{zeros}
 use Rattle.frames.specs.declared.Frame.{Frame}
 use Rattle.reading.specs.declared.Held.{Held}
@@ -13,11 +14,10 @@ use Rattle.reading.specs.TableLaws.{table-length}
 use Rattle.laws.specs.Numbers.{get_d_numbered}
 use Rattle.reading.specs.StoreLaws.{store_length, part-fits, shelve-length, table-found}
 use Rattle.reading.specs.Reads.{TableIn, table-in, table-in-once}
-use Rattle.index.specs.Settle.{lending}
 use Rattle.reading.specs.Store.{place, tableCount, held_of}
 use Rattle.reading.specs.Keeping.{Bytes}
 use Rattle.index.specs.declared.Prepared.{Prepared}
-use Rattle.index.specs.Prepare.{Lending, Prepares}
+use Rattle.index.specs.Prepare.{Lending, lending, Prepares}
 use Rattle.index.specs.Reply.{Replies}
 use Rattle.index.specs.Mean.{replies-answered}
 use Rattle.file.specs.Text.{text, answerLine}
@@ -60,14 +60,23 @@ asks-count : (fs : List Frame) → length (table 11 fs) / 2 ≡ entries 11 fs
 unfolding width
 asks-count fs = omega (arith, table-length 11 fs)
 
+abbrev made : List ℕ → List ℕ → List ℕ → List ℕ → List ℕ → List ℕ → List ℕ → List ℕ → Tables
+made a b c d e f g h = record { concept-rules = a; concept-exclusions = b; role-rules = c; role-exclusions = d; concept-facts = e; role-facts = f; steps = g; finals = h }
+
+-- tables of the same lists are the same
+same-tables : (t u : Tables) → t.concept-rules ≡ u.concept-rules → t.concept-exclusions ≡ u.concept-exclusions → t.role-rules ≡ u.role-rules
+    → t.role-exclusions ≡ u.role-exclusions → t.concept-facts ≡ u.concept-facts → t.role-facts ≡ u.role-facts → t.steps ≡ u.steps → t.finals ≡ u.finals → t ≡ u
+same-tables t u a b c d e f g h =
+    let k : made t.concept-rules t.concept-exclusions t.role-rules t.role-exclusions t.concept-facts t.role-facts t.steps t.finals
+    ≡ made u.concept-rules u.concept-exclusions u.role-rules u.role-exclusions u.concept-facts u.role-facts u.steps u.finals = rw (a, b, c, d, e, f, g, h) refl in k
+
 -- replies from a preparation of what are the file's own tables
-own-answers : (fs : List Frame) (n : Counts) (cr ce rr re cf rf st fi asks : List ℕ) (m : ℕ) (area spare : List ℕ) → n ≡ declared_by fs → cr ≡ table 2 fs → ce ≡ table 3 fs
-    → rr ≡ table 4 fs → re ≡ table 5 fs → cf ≡ table 6 fs → rf ≡ table 7 fs → st ≡ table 8 fs → fi ≡ table 10 fs → asks ≡ table 11 fs → m ≡ allowanceOf fs → area ≡ zeros
-    → spare ≡ zeros → (p : Prepared) (x y out : List ℕ) → Prepares (lending n cr ce rr re cf rf st fi m area spare) p x y → Replied p n asks rf fi (length asks / 2) out
-    → Answered fs (entries 11 fs) out
-own-answers fs n cr ce rr re cf rf st fi asks m area spare a b c d e f g h i j k l o p x y out q v =
-    let q' : Prepares (lendingOf fs) p x y = rw (a, b, c, d, e, f, g, h, i, k, l, o) at q in
-    let v' : Replied p (declared_by fs) (table 11 fs) (table 7 fs) (table 10 fs) (length (table 11 fs) / 2) out = rw (a, j, g, i) at v in
+own-answers : (fs : List Frame) (n : Counts) (t : Tables) (asks : List ℕ) (m : ℕ) (area spare : List ℕ) → n ≡ declared_by fs → t ≡ tables_of fs → asks ≡ table 11 fs
+    → m ≡ allowanceOf fs → area ≡ zeros → spare ≡ zeros → (p : Prepared) (x y out : List ℕ) → Prepares (lending n t m area spare) p x y
+    → Replied p n asks t.role-facts t.finals (length asks / 2) out → Answered fs (entries 11 fs) out
+own-answers fs n t asks m area spare a b c d e f p x y out q v =
+    let q' : Prepares (lendingOf fs) p x y = rw (a, b, d, e, f) at q in
+    let v' : Replied p (declared_by fs) (table 11 fs) (table 7 fs) (table 10 fs) (length (table 11 fs) / 2) out = rw (a, b, c) at v in
     replied-answered fs p x y q' (entries 11 fs) out (subst (λ (z : ℕ). Replied p (declared_by fs) (table 11 fs) (table 7 fs) (table 10 fs) z out) (asks-count fs) v')
 
 used-at : (fs : List Frame) {held : Held} → held ≡ held_of fs → (t : ℕ) → t < tableCount → get_or held.used t 0 ≡ entries t fs
@@ -104,12 +113,13 @@ module _ {held : Held} {store : List ℕ} (w : Shelved held store) where
       rw n refl
 
   -- THEOREM: replies from a preparation of the tables that are read from the store answer the file's asks
-  pub answers-all : (cr ce rr re cf rf st fi asks area spare : List ℕ) → TableIn store held.used 2 cr → TableIn store held.used 3 ce → TableIn store held.used 4 rr
-      → TableIn store held.used 5 re → TableIn store held.used 6 cf → TableIn store held.used 7 rf → TableIn store held.used 8 st
-      → TableIn store held.used 10 fi → TableIn store held.used 11 asks → area ≡ zeros → spare ≡ zeros → (p : Prepared) (x y out : List ℕ)
-      → Prepares (lending held.counts cr ce rr re cf rf st fi held.allowance area spare) p x y → Replied p held.counts asks rf fi (length asks / 2) out
-      → Answered fs (entries 11 fs) out
-  answers-all cr ce rr re cf rf st fi asks area spare a b c d e f g h i j k p x y out q o =
-      own-answers fs held.counts cr ce rr re cf rf st fi asks held.allowance area spare (ap (λ (n : Held). n.counts) w.holds) (table-read 2 cr (omega arith) a)
-      (table-read 3 ce (omega arith) b) (table-read 4 rr (omega arith) c) (table-read 5 re (omega arith) d) (table-read 6 cf (omega arith) e) (table-read 7 rf (omega arith) f)
-      (table-read 8 st (omega arith) g) (table-read 10 fi (omega arith) h) (table-read 11 asks (omega arith) i) (ap (λ (n : Held). n.allowance) w.holds) j k p x y out q o
+  pub answers-all : (t : Tables) (asks area spare : List ℕ) → TableIn store held.used 2 t.concept-rules → TableIn store held.used 3 t.concept-exclusions
+      → TableIn store held.used 4 t.role-rules → TableIn store held.used 5 t.role-exclusions → TableIn store held.used 6 t.concept-facts
+      → TableIn store held.used 7 t.role-facts → TableIn store held.used 8 t.steps → TableIn store held.used 10 t.finals → TableIn store held.used 11 asks
+      → area ≡ zeros → spare ≡ zeros → (p : Prepared) (x y out : List ℕ) → Prepares (lending held.counts t held.allowance area spare) p x y
+      → Replied p held.counts asks t.role-facts t.finals (length asks / 2) out → Answered fs (entries 11 fs) out
+  answers-all t asks area spare a b c d e f g h i j k p x y out q o =
+      own-answers fs held.counts t asks held.allowance area spare (ap (λ (n : Held). n.counts) w.holds)
+      (same-tables t (tables_of fs) (table-read 2 _ (omega arith) a) (table-read 3 _ (omega arith) b) (table-read 4 _ (omega arith) c) (table-read 5 _ (omega arith) d)
+      (table-read 6 _ (omega arith) e) (table-read 7 _ (omega arith) f) (table-read 8 _ (omega arith) g) (table-read 10 _ (omega arith) h))
+      (table-read 11 asks (omega arith) i) (ap (λ (n : Held). n.allowance) w.holds) j k p x y out q o

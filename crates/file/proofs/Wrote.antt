@@ -1,9 +1,11 @@
 -- What reading a file found decides what is written; no text is longer than 256 answers.
-use Rattle.std.specs.Prelude.{ℕ, zero, suc, ◌+◌, ◌*◌, ◌<◌, ◌≤◌, ◌≡◌, refl, List, [], length, replicate}
+use Rattle.std.specs.Prelude.{ℕ, zero, suc, ◌+◌, ◌*◌, ◌<◌, ◌≤◌, ◌≡◌, refl, List, [], length, replicate, Ok, Err}
 use Rattle.std.proofs.Common.{sym, ap, ◌∙◌, length-append, arith}
 use Rattle.std.proofs.lemmas.List.{length-replicate}
 use Rattle.frames.specs.declared.Frame.{Frame}
-use Rattle.reading.specs.declared.Read.{Read}
+use Rattle.reading.specs.declared.Held.{Held}
+use Rattle.reading.specs.declared.Fault.{Fault}
+use Rattle.reading.specs.Refusal.{refusalNumber}
 use Rattle.reading.specs.Lines.{lines}
 use Rattle.reading.specs.Tables.{mostAsks, most, entries, askedFirst, askedSecond}
 use Rattle.reading.specs.Reading.{sound, Reading}
@@ -22,31 +24,24 @@ pub new-store : length {A = ℕ} (replicate 19478 0) ≡ storeLength
 new-store = length-replicate {A = ℕ} 19478 0 ∙ sym store_length
 
 -- the two ends of a call, by what reading the file found
-pub fault-small : {input old : List ℕ} {r : Read} {new : List ℕ} → length old ≡ storeLength → Reads input old r new → (r.number ≡ 0 → ⊥) → r.held.lines + 1 < 65536
-fault-small long (no_store n) h = absurd (n long)
-fault-small {input} long (refused before n l z k) h = omega (arith, fault-line input before n k)
-fault-small long (whole fs l k) h = absurd (h refl)
+pub fault-small : {input old : List ℕ} {f : Fault} {new : List ℕ} → length old ≡ storeLength → Reads input old (Err f) new → f.held.lines + 1 < 65536
+fault-small long (no_store n) = absurd (n long)
+fault-small {input} long (refused before r l k) = omega (arith, fault-line input before (refusalNumber r) k)
 
-pub wrote-fault : {input old : List ℕ} {r : Read} {new : List ℕ} → length old ≡ storeLength → Reads input old r new → (r.number ≡ 0 → ⊥)
-    → Writes input (faultLine (r.held.lines + 1) r.number)
-wrote-fault long (no_store n) h = absurd (n long)
-wrote-fault long (refused before n l z k) h = fault before n k
-wrote-fault long (whole fs l k) h = absurd (h refl)
+pub wrote-fault : {input old : List ℕ} {f : Fault} {new : List ℕ} → length old ≡ storeLength → Reads input old (Err f) new
+    → Writes input (faultLine (f.held.lines + 1) (refusalNumber f.refusal))
+wrote-fault long (no_store n) = absurd (n long)
+wrote-fault long (refused before r l k) = fault before (refusalNumber r) k
 
 -- a sound file, all of it held and stored
 abbrev wholly : (input old : List ℕ) (fs : List Frame) → length old ≡ storeLength → Reading [] (lines input) (sound fs) → Shelved (held_of fs) (shelve old [] fs)
 wholly input old fs l k = record { frames = fs; old = old; sound = reading-sound (lines input) [] (sound fs) sound_none k; holds = refl; long = l; stored = refl }
 
-pub shelved : {input old : List ℕ} {r : Read} {new : List ℕ} → length old ≡ storeLength → Reads input old r new → r.number ≡ 0 → Shelved r.held new
-shelved long (no_store n) h = absurd (n long)
-shelved long (refused before n l z k) h = absurd (z h)
-shelved {input} {old} long (whole fs l k) h = wholly input old fs l k
+pub shelved : {input old : List ℕ} {held : Held} {new : List ℕ} → Reads input old (Ok held) new → Shelved held new
+shelved {input} {old} (whole fs l k) = wholly input old fs l k
 
-pub wrote-answers : {input old : List ℕ} {r : Read} {new : List ℕ} → length old ≡ storeLength → Reads input old r new → r.number ≡ 0 → {out : List ℕ}
-    → AnswersAll r.held new out → Writes input out
-wrote-answers long (no_store n) h o = absurd (n long)
-wrote-answers long (refused before n l z k) h o = absurd (z h)
-wrote-answers {input} {old} long (whole fs l k) h {out} o = answers fs out k (o.by (wholly input old fs l k))
+pub wrote-answers : {input old : List ℕ} {held : Held} {new : List ℕ} → Reads input old (Ok held) new → {out : List ℕ} → AnswersAll held new out → Writes input out
+wrote-answers {input} {old} (whole fs l k) {out} o = answers fs out k (o.by (wholly input old fs l k))
 
 -- the longest text: an answer to each of the most asks, 13 bytes each
 abbrev pub mostWritten : ℕ

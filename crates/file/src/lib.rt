@@ -9,14 +9,15 @@ ghost use Rattle.file.specs.Replying.{Replied, Shelved, AnswersAll};
 ghost use Rattle.meaning.specs.Layout.{zeros};
 ghost use Rattle.reading.specs.Prefix.{mostBytes};
 ghost use Rattle.reading.specs.Keeping.{Bytes};
+ghost use Rattle.reading.specs.Refusal.{refusalNumber};
 
 use index::{Prepared, prepare, reply};
 use kinds::{Answer, Counts, Individual};
-use reading::{Held, MOST_BYTES, STORE, read_file, table};
+use reading::{Held, MOST_BYTES, Refusal, STORE, kind, read_file, table};
 use std::alloc::{AllocError, Global};
 use std::io::{Read, Write};
 use std::{fmt, io};
-use tables::AREA;
+use tables::{AREA, Tables};
 
 // The character of a digit.
 #[tactic(auto, using(crate::proofs::TextLaws::character_low, crate::proofs::TextLaws::character_high))]
@@ -43,12 +44,17 @@ fn put_line(out: &mut Vec<u8>, bytes: &[u8]) -> Result<(), AllocError>
 }
 
 // The line of a fault.
-fn fault(alloc: Global, line: usize, number: u8) -> Result<Vec<u8>, AllocError>
+fn fault(alloc: Global, line: usize, refusal: Refusal) -> Result<Vec<u8>, AllocError>
     requires { line < 65536 }
-    ensures { IfOk result (λ v. v.items ≡ faultLine line number) }
+    ensures { IfOk result (λ v. v.items ≡ faultLine line (refusalNumber refusal)) }
 {
     let mut out = Vec::new(alloc);
-    let bytes = [0x8F, (line / 256) as u8, (line % 256) as u8, number];
+    let bytes = [
+        0x8F,
+        (line / 256) as u8,
+        (line % 256) as u8,
+        refusal.number(),
+    ];
     put_line(&mut out, &bytes)?;
     Ok(out)
 }
@@ -113,28 +119,24 @@ fn answers(alloc: Global, held: Held, store: &[u16]) -> Result<Vec<u8>, AllocErr
 {
     let counts = held.counts;
     let used = held.used;
-    if used[11] == 0 {
+    if used[kind::ASK] == 0 {
         return Ok(Vec::new(alloc));
     }
-    let rolefacts = table(store, used, 7);
-    let finals = table(store, used, 10);
+    let tables = Tables {
+        concept_rules: table(store, used, kind::CONCEPT_RULE),
+        concept_exclusions: table(store, used, kind::CONCEPT_EXCLUSION),
+        role_rules: table(store, used, kind::ROLE_RULE),
+        role_exclusions: table(store, used, kind::ROLE_EXCLUSION),
+        concept_facts: table(store, used, kind::CONCEPT_FACT),
+        role_facts: table(store, used, kind::ROLE_FACT),
+        steps: table(store, used, kind::STEP),
+        finals: table(store, used, kind::FINAL),
+    };
+    let asks = table(store, used, kind::ASK);
     let mut first = area();
     let mut second = area();
-    let p = prepare(
-        counts,
-        table(store, used, 2),
-        table(store, used, 3),
-        table(store, used, 4),
-        table(store, used, 5),
-        table(store, used, 6),
-        rolefacts,
-        table(store, used, 8),
-        finals,
-        held.allowance,
-        &mut first,
-        &mut second,
-    );
-    replies(alloc, &p, counts, table(store, used, 11), rolefacts, finals)
+    let p = prepare(counts, &tables, held.allowance, &mut first, &mut second);
+    replies(alloc, &p, counts, asks, tables.role_facts, tables.finals)
 }
 
 // What a whole input writes. Of a longer input its first `MOST_BYTES` decide.
@@ -142,13 +144,10 @@ pub fn answer(alloc: Global, input: &[u8]) -> Result<Vec<u8>, AllocError>
     ensures { IfOk result (λ v. Writes input.now v.items) }
 {
     let mut store = [0u16; STORE];
-    let read = read_file(input, &mut store);
-    let held = read.held;
-    let number = read.number;
-    if number != 0 {
-        return fault(alloc, held.lines + 1, number);
+    match read_file(input, &mut store) {
+        Ok(held) => answers(alloc, held, &store),
+        Err(found) => fault(alloc, found.held.lines + 1, found.refusal),
     }
-    answers(alloc, held, &store)
 }
 
 // Why nothing, or not all, is written.

@@ -1,6 +1,6 @@
 -- The characters of a line: what each is worth as a digit, the bytes that pairs of them make, and which lines are sound.
 use Rattle.std.specs.Prelude.{ℕ, ◌+◌, ◌*◌, ◌-◌, ◌<◌, ◌≤◌, ◌%◌, ◌/◌, ◌≡◌, refl, Bool, true, false, List, ltb, leb, length, get_or}
-use Rattle.std.proofs.Common.{arith, ltb-true, lt-ltb, le-ltb}
+use Rattle.std.proofs.Common.{arith, ltb-true, lt-ltb}
 use Rattle.laws.specs.Search.{and, pick}
 
 -- 0–9 and A–F, and 255, which is no digit, for any other character
@@ -38,7 +38,3 @@ byte_small l ok k = by (ltb k (bytes l)) refl
 pub byte-in : (l : List ℕ) (k : ℕ) → k < bytes l → byteOf l k ≡ 16 * digitOf (get_or l (2 * k) 0) + digitOf (get_or l (2 * k + 1) 0)
 unfolding byteOf
 byte-in l k h = rw (lt-ltb k (bytes l) h) refl
-
-pub byte-out : (l : List ℕ) (k : ℕ) → bytes l ≤ k → byteOf l k ≡ 0
-unfolding byteOf
-byte-out l k h = rw (le-ltb k (bytes l) h) refl

@@ -1,6 +1,6 @@
 -- The frame of a line: for every line one, or the refusals 9 and 10.
-use Rattle.std.specs.Prelude.{ℕ, zero, suc, ◌+◌, ◌*◌, ◌≤◌, ◌≡◌, refl, List, [], ◌∷◌, get_or}
-use Rattle.std.proofs.Common.{sym, ◌∙◌, arith}
+use Rattle.std.specs.Prelude.{ℕ, zero, suc, ◌+◌, ◌*◌, ◌≤◌, ◌≡◌, List, [], ◌∷◌, get_or}
+use Rattle.std.proofs.Common.{sym, ◌∙◌}
 use Rattle.std.proofs.Math.ListN.{get_or-eq_default}
 use Rattle.kinds.specs.declared.Counts.{Counts}
 use Rattle.kinds.specs.Kinds.{conceptName, roleName, individual, state, signed, conceptOf}
@@ -39,16 +39,6 @@ frameBy kind a b c d e = get_or (framesOf a b c d e) kind BadFrame
 abbrev pub NoneTo : ℕ → ℕ → Type 0
 NoneTo zero n = Unit {0}
 NoneTo (suc k) n = NoneTo k n × (n ≡ suc k → ⊥)
-
-none-past : (k : ℕ) {n : ℕ} → NoneTo k n → 1 ≤ n → suc k ≤ n
-none-past zero r some = some
-none-past (suc k) r some = omega (arith, none-past k r.0 some, r.1)
-
--- a number that is none of the twelve kinds has no frame
-pub no-frame : (kind a b c d e : ℕ) → NoneTo 12 kind → frameBy kind a b c d e ≡ BadFrame
-unfolding frameBy
-no-frame zero a b c d e none = refl
-no-frame (suc k) a b c d e none = get_or-eq_default (framesOf a b c d e) BadFrame (none-past 12 none (omega arith))
 
 module _ (l : List ℕ) where
   abbrev pub kind : ℕ

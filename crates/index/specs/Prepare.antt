@@ -24,6 +24,9 @@ pub record Lending : Type 0 where
   pub area : List ℕ
   pub spare : List ℕ
 
+abbrev pub lending : Counts → Tables → ℕ → List ℕ → List ℕ → Lending
+lending c t allowance area spare = record { counts = c; tables = t; allowance = allowance; area = area; spare = spare }
+
 -- the call that asks a pair of it
 abbrev pub asks : Lending → Individual → Individual → Call
 asks l a b = record {

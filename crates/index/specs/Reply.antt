@@ -1,12 +1,11 @@
 -- What a reply answers from a preparation, whatever that is; with a collection's own it is the outcome of asking.
-use Rattle.std.specs.Prelude.{◌≡◌, Bool, false, List, ℕ, ◌≤◌, ◌<◌, length, get_or}
-use Rattle.std.proofs.Common.{sym, subst, arith}
+use Rattle.std.specs.Prelude.{Bool, List, ℕ, ◌<◌, length, get_or}
 use Rattle.kinds.specs.declared.Individual.{Individual}
 use Rattle.kinds.specs.declared.Counts.{Counts}
 use Rattle.kinds.specs.declared.Answer.{Answer}
 use Rattle.kinds.specs.declared.Answer.TheVariants as answer
 use Rattle.kinds.specs.Kinds.{mostIndividuals, mostStates}
-use Rattle.laws.specs.Exactly.{Exactly, exactly-same, exactly-never}
+use Rattle.laws.specs.Exactly.{Exactly, exactly-same}
 use Rattle.laws.specs.Found.{Some}
 use Rattle.laws.specs.Masks.{Bit}
 use Rattle.tables.specs.Checks.{AskFits}
@@ -86,16 +85,3 @@ module _ {p : Prepared} {c : Counts} {facts finals : List ℕ} {a b : Individual
   pub replies-declared : {f : Found} {r s : Answer} → Passed f → IfDeclared c a b s r → Says p c facts finals a b f s → RepliesTo p c facts finals a b f r
   replies-declared h (declared k) v = says k v
   replies-declared h (undeclared k) v = bad-ask h k
-
--- an individual with no row is not reached; one with a row is tested by its set
-pub arrived-none : (reached finals : List ℕ) (b : Individual) → mostIndividuals ≤ b.0 → Exactly false (Arrived reached finals b)
-arrived-none reached finals b h = exactly-never (λ y. let l = y.second in omega arith)
-
-pub arrived-some : {r : Bool} (reached finals : List ℕ) (b : Individual) → b.0 < mostIndividuals → Exactly r (Some (FinalIn (get_or reached b.0 0) finals) (length finals))
-    → Exactly r (Arrived reached finals b)
-arrived-some reached finals b h e = exactly-same e (λ w. record { second = h; some = w }) (λ y. y.some)
-
--- the ends of a reply, by what was found
-module _ (p : Prepared) (c : Counts) (facts finals : List ℕ) (a b : Individual) (r : Answer) where
-  pub replies-found : {f : Found} → p.found ≡ f → RepliesTo p c facts finals a b f r → Replies p c facts finals a b r
-  replies-found e h = subst (λ (f : Found). RepliesTo p c facts finals a b f r) (sym e) h

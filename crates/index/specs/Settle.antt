@@ -2,7 +2,6 @@
 use Rattle.std.specs.Prelude.{◌≡◌, refl, Bool, true, false, List, ℕ, ◌≤◌, ◌<◌, length}
 use Rattle.std.proofs.Math.Decide.{dec_lt}
 use Rattle.std.proofs.Common.{arith}
-use Rattle.kinds.specs.declared.Counts.{Counts}
 use Rattle.laws.specs.Exactly.{Exactly, exactly-same}
 use Rattle.laws.specs.Decide.{exactly-not}
 use Rattle.meaning.proofs.Clash.{contradiction↔clash}
@@ -11,7 +10,7 @@ use Rattle.meaning.specs.Layout.{zeros}
 use Rattle.tables.specs.declared.Checked.{Checked}
 use Rattle.tables.specs.declared.Checked.TheVariants as checked
 use Rattle.tables.specs.Checks as checks
-use Rattle.tables.specs.Checks.{lent, Checks}
+use Rattle.tables.specs.Checks.{Checks}
 use Rattle.orders.specs.Rows.{RoleMarks, ConceptMarks}
 use Rattle.individuals.specs.Concepts.{Concepts}
 use Rattle.living.specs.Living.{Living}
@@ -31,26 +30,12 @@ use Rattle.index.specs.Prepare as prepare
 use Rattle.index.specs.Prepare.{Lending, lent_of, Fit, idle, Broken, NeededRounds, Laid, Settles, Prepares}
 use Rattle.index.specs.Mean.{well}
 
--- what is lent, from a call's parameters
-abbrev pub lending : Counts → List ℕ → List ℕ → List ℕ → List ℕ → List ℕ → List ℕ → List ℕ → List ℕ → ℕ → List ℕ → List ℕ → Lending
-lending c cr ce rr re cf rf st fi allowance area spare = record {
-  counts = c;
-  tables = lent cr ce rr re cf rf st fi;
-  allowance = allowance;
-  area = area;
-  spare = spare;
-}
-
 -- what is made of the rounds' end
 pub data Finishes (allowance : ℕ) (concepts leads : List (List Bool)) (area facts : List ℕ) : Ran → Prepared → Type 0 where
   refused : Finishes allowance concepts leads area facts ran.Refused (idle BadTable)
   spent : Finishes allowance concepts leads area facts ran.Spent (idle (Spent allowance))
   needed : {n : ℕ} {p : Prepared} → p.found ≡ Needed n → Loops concepts area p.loops → Packed leads p.ways → Links facts p.links
       → Finishes allowance concepts leads area facts (ran.Needed n) p
-
--- a collection that passed its tests is settled, whatever its finals are
-pub record Readies (c : Counts) (cr ce rr re cf rf st : List ℕ) (allowance : ℕ) (area spare : List ℕ) (p : Prepared) (x y : List ℕ) : Type 0 where
-  pub settles : (fi : List ℕ) → Fit (lending c cr ce rr re cf rf st fi allowance area spare) → Settles (lending c cr ce rr re cf rf st fi allowance area spare) p x y
 
 module _ (l : Lending) (fit : Fit l) (roles order concepts : List (List Bool)) (o : RoleMarks l.tables.role-rules roles)
     (q : ConceptMarks l.tables.concept-rules l.tables.role-rules order) (h : Concepts l.tables.concept-facts l.tables.role-facts order concepts) where
@@ -96,37 +81,15 @@ module _ (l : Lending) (fit : Fit l) (roles order concepts : List (List Bool)) (
     settled-by {x = x} sane (needed {n = n} {p = p} e loops ways links) (need, k, lays, z) =
         rw z (prepare.needed sane need k lays e (routes-mean l.counts l.tables fit.counts fit.numbers.declared roles order leads concepts o q w h n x lays p.loops p.ways p.links loops ways links))
 
-    pub finish-settles : {r : Ran} {p : Prepared} {x y : List ℕ} → (Broken l → ⊥) → Ended' r x y → Finishes l.allowance concepts leads x l.tables.role-facts r p → Settles l p x y
-    finish-settles sane e f = settled-by sane f e
+  -- the two ends of `ready`
+  module _ (living : List Bool) (v : Living concepts order living) (b : Bool)
+      (e : Exactly b (Clashes l.tables.concept-exclusions l.tables.role-exclusions l.tables.role-facts roles order concepts living)) (p : Prepared) where
+    pub ready-broken : b ≡ true → p ≡ idle Contradiction → Settles l p l.area l.spare
+    ready-broken t z = rw z (prepare.contradiction ((broken-test living v b e).holds t))
 
--- the three ends, as the code comes to them
-module _ (allowance : ℕ) (concepts leads : List (List Bool)) (area facts : List ℕ) (r : Ran) (p : Prepared) where
-  pub finish-refused : r ≡ ran.Refused → p ≡ idle BadTable → Finishes allowance concepts leads area facts r p
-  finish-refused e f = rw (e, f) refused
-
-  pub finish-spent : r ≡ ran.Spent → p ≡ idle (Spent allowance) → Finishes allowance concepts leads area facts r p
-  finish-spent e f = rw (e, f) spent
-
-  pub finish-needed : (n : ℕ) → r ≡ ran.Needed n → p.found ≡ Needed n → Loops concepts area p.loops → Packed leads p.ways → Links facts p.links
-      → Finishes allowance concepts leads area facts r p
-  finish-needed n e = rw e needed
-
--- the two ends of `ready`
-module _ (c : Counts) (cr ce rr re cf rf st : List ℕ) (allowance : ℕ) (area spare : List ℕ) (roles order concepts : List (List Bool)) (living : List Bool)
-    (o : RoleMarks rr roles) (q : ConceptMarks cr rr order) (h : Concepts cf rf order concepts) (v : Living concepts order living)
-    (b : Bool) (e : Exactly b (Clashes ce re rf roles order concepts living)) (p : Prepared) where
-  pub readies-broken : b ≡ true → p ≡ idle Contradiction → Readies c cr ce rr re cf rf st allowance area spare p area spare
-  readies-broken t z = rw z (record {
-    settles = λ fi fit. prepare.contradiction ((broken-test (lending c cr ce rr re cf rf st fi allowance area spare) fit roles order concepts o q h living v b e).holds t);
-  })
-
-  pub readies-run : b ≡ false → (leads : List (List Bool)) → Ways st roles leads → (r : Ran) (x y : List ℕ) → Runs c order leads st allowance area spare r x y
-      → Finishes allowance concepts leads x rf r p → Readies c cr ce rr re cf rf st allowance area spare p x y
-  readies-run t leads w r x y rounds made = record {
-    settles = λ fi fit.
-        let l = lending c cr ce rr re cf rf st fi allowance area spare in
-        finish-settles l fit roles order concepts o q h leads w (exactly-not (broken-test l fit roles order concepts o q h living v b e) t) (ran-ended l fit roles order concepts o q h leads w rounds) made;
-  }
+    pub ready-run : b ≡ false → (leads : List (List Bool)) → Ways l.tables.steps roles leads → (r : Ran) (x y : List ℕ)
+        → Runs l.counts order leads l.tables.steps l.allowance l.area l.spare r x y → Finishes l.allowance concepts leads x l.tables.role-facts r p → Settles l p x y
+    ready-run t leads w r x y rounds made = settled-by leads w (exactly-not (broken-test living v b e) t) made (ran-ended leads w rounds)
 
 -- what the tests on the tables come to: a refusal, or a collection that fits
 abbrev pub Sorted : Lending → Checked → Type 0
@@ -145,11 +108,3 @@ sorted l (checks.sound c t n h) = record { counts = c; tables = t; numbers = n; 
 
 pub sorted-as : (l : Lending) {k : Checked} (m : Checked) → Checks l.counts l.tables (length l.area) (length l.spare) k → k ≡ m → Sorted l m
 sorted-as l m e q = sorted l (rw q at e)
-
-pub prepares-by : (l : Lending) (p q : Prepared) (x y : List ℕ) → p ≡ q → Prepares l q x y → Prepares l p x y
-prepares-by l p q x y e h = rw e h
-
-pub prepares-settled : (c : Counts) (cr ce rr re cf rf st fi : List ℕ) (allowance : ℕ) (area spare : List ℕ) (p : Prepared) (x y : List ℕ)
-    → Fit (lending c cr ce rr re cf rf st fi allowance area spare) → Readies c cr ce rr re cf rf st allowance area spare p x y
-    → Prepares (lending c cr ce rr re cf rf st fi allowance area spare) p x y
-prepares-settled c cr ce rr re cf rf st fi allowance area spare p x y fit r = prepare.settled fit (r.settles fi fit)

@@ -6,11 +6,12 @@ ghost use Rattle.laws.specs.Exactly.{Exactly};
 ghost use Rattle.laws.specs.Found.{Some};
 ghost use Rattle.laws.specs.Masks.{Bit};
 ghost use Rattle.meaning.specs.Outcome.{Outcome};
+ghost use Rattle.tables.specs.Checks.{lists};
 ghost use Rattle.index.specs.declared.Found.TheVariants.{Needed};
-ghost use Rattle.index.specs.Prepare.{asks, idle, Prepares};
+ghost use Rattle.index.specs.Prepare.{lending, asks, idle, Fit, Settles, Prepares};
 ghost use Rattle.index.specs.Reply.{IfDeclared, FinalIn, Arrived, RepliesTo, Replies};
 ghost use Rattle.index.specs.Mean.{refusal};
-ghost use Rattle.index.specs.Settle.{lending, Finishes, Readies};
+ghost use Rattle.index.specs.Settle.{Finishes};
 ghost use Rattle.index.specs.Demands.{Demanded};
 
 use clash::clash;
@@ -20,7 +21,7 @@ use living::living_roles;
 use orders::{concept_order, role_order};
 use routes::{links, loops, packed};
 use sheet::{Ran, run};
-use tables::{Checked, check};
+use tables::{Checked, Tables, check};
 use walk::walk;
 use ways::ways;
 
@@ -88,27 +89,22 @@ fn finish(
 // A collection that passed its tests: the orders, the contradiction test, the rounds.
 fn ready(
     counts: Counts,
-    conceptrules: &[u16],
-    conceptexclusions: &[u16],
-    rolerules: &[u16],
-    roleexclusions: &[u16],
-    conceptfacts: &[u16],
-    rolefacts: &[u16],
-    steps: &[u16],
+    tables: &Tables,
     allowance: Rounds,
     area: &mut [u8],
     spare: &mut [u8],
 ) -> Prepared
-    ensures { Readies counts conceptrules.now conceptexclusions.now rolerules.now roleexclusions.now conceptfacts.now rolefacts.now steps.now allowance area.old spare.old result area.new spare.new }
+    requires { Fit (lending counts (lists tables.now) allowance area.old spare.old) }
+    ensures { Settles (lending counts (lists tables.now) allowance area.old spare.old) result area.new spare.new }
 {
-    let roles = role_order(rolerules);
-    let order = concept_order(conceptrules, rolerules);
-    let concepts = individual_concepts(conceptfacts, rolefacts, order);
+    let roles = role_order(tables.role_rules);
+    let order = concept_order(tables.concept_rules, tables.role_rules);
+    let concepts = individual_concepts(tables.concept_facts, tables.role_facts, order);
     let living = living_roles(concepts, order);
     if clash(
-        conceptexclusions,
-        roleexclusions,
-        rolefacts,
+        tables.concept_exclusions,
+        tables.role_exclusions,
+        tables.role_facts,
         roles,
         order,
         concepts,
@@ -116,59 +112,28 @@ fn ready(
     ) {
         return blank(Found::Contradiction);
     }
-    let leads = ways(steps, roles);
-    let ran = run(area, spare, order, leads, counts, steps, allowance);
-    finish(ran, allowance, concepts, leads, area, rolefacts)
+    let leads = ways(tables.steps, roles);
+    let ran = run(area, spare, order, leads, counts, tables.steps, allowance);
+    finish(ran, allowance, concepts, leads, area, tables.role_facts)
 }
 
 // A collection prepared: its tests 4 to 7, then all that does not depend on a pair. The sheet is left in the first area.
 pub fn prepare(
     counts: Counts,
-    conceptrules: &[u16],
-    conceptexclusions: &[u16],
-    rolerules: &[u16],
-    roleexclusions: &[u16],
-    conceptfacts: &[u16],
-    rolefacts: &[u16],
-    steps: &[u16],
-    finals: &[u16],
+    tables: &Tables,
     allowance: Rounds,
     area: &mut [u8],
     spare: &mut [u8],
 ) -> Prepared
-    ensures { Prepares (lending counts conceptrules.now conceptexclusions.now rolerules.now roleexclusions.now conceptfacts.now rolefacts.now steps.now finals.now allowance area.old spare.old) result area.new spare.new }
+    ensures { Prepares (lending counts (lists tables.now) allowance area.old spare.old) result area.new spare.new }
 {
-    let checked = check(
-        counts,
-        conceptrules,
-        conceptexclusions,
-        rolerules,
-        roleexclusions,
-        conceptfacts,
-        rolefacts,
-        steps,
-        finals,
-        area.len(),
-        spare.len(),
-    );
+    let checked = check(counts, tables, area.len(), spare.len());
     match checked {
         Checked::BadCount => blank(Found::BadCount),
         Checked::BadTable => blank(Found::BadTable),
         Checked::BadNumber => blank(Found::BadNumber),
         Checked::EqualEnds => blank(Found::EqualEnds),
-        Checked::Sound => ready(
-            counts,
-            conceptrules,
-            conceptexclusions,
-            rolerules,
-            roleexclusions,
-            conceptfacts,
-            rolefacts,
-            steps,
-            allowance,
-            area,
-            spare,
-        ),
+        Checked::Sound => ready(counts, tables, allowance, area, spare),
     }
 }
 
@@ -277,52 +242,20 @@ fn unasked(checked: Checked) -> Answer
 // One pair asked of a collection.
 pub fn ask(
     counts: Counts,
-    conceptrules: &[u16],
-    conceptexclusions: &[u16],
-    rolerules: &[u16],
-    roleexclusions: &[u16],
-    conceptfacts: &[u16],
-    rolefacts: &[u16],
-    steps: &[u16],
-    finals: &[u16],
+    tables: &Tables,
     first: Individual,
     second: Individual,
     allowance: Rounds,
     area: &mut [u8],
     spare: &mut [u8],
 ) -> Answer
-    ensures outcome { Outcome (asks (lending counts conceptrules.now conceptexclusions.now rolerules.now roleexclusions.now conceptfacts.now rolefacts.now steps.now finals.now allowance area.old spare.old) first second) result area.new spare.new }
-    ensures demanded { Demanded (asks (lending counts conceptrules.now conceptexclusions.now rolerules.now roleexclusions.now conceptfacts.now rolefacts.now steps.now finals.now allowance area.old spare.old) first second) result area.new spare.new }
+    ensures outcome { Outcome (asks (lending counts (lists tables.now) allowance area.old spare.old) first second) result area.new spare.new }
+    ensures demanded { Demanded (asks (lending counts (lists tables.now) allowance area.old spare.old) first second) result area.new spare.new }
 {
     if !tables::ask(counts, first, second) {
-        let checked = check(
-            counts,
-            conceptrules,
-            conceptexclusions,
-            rolerules,
-            roleexclusions,
-            conceptfacts,
-            rolefacts,
-            steps,
-            finals,
-            area.len(),
-            spare.len(),
-        );
+        let checked = check(counts, tables, area.len(), spare.len());
         return unasked(checked);
     }
-    let p = prepare(
-        counts,
-        conceptrules,
-        conceptexclusions,
-        rolerules,
-        roleexclusions,
-        conceptfacts,
-        rolefacts,
-        steps,
-        finals,
-        allowance,
-        area,
-        spare,
-    );
-    reply(&p, counts, rolefacts, finals, first, second)
+    let p = prepare(counts, tables, allowance, area, spare);
+    reply(&p, counts, tables.role_facts, tables.finals, first, second)
 }

@@ -1,6 +1,6 @@
 -- What one fact adds, what a table of facts adds, and that both tables come to the definition.
-use Rattle.std.specs.Prelude.{ℕ, ◌+◌, ◌*◌, ◌/◌, ◌<◌, ◌≤◌, ◌≡◌, ◌⊎◌, Bool, true, List, [], length}
-use Rattle.std.proofs.Common.{sym, subst, ⊎_elim, arith, add-zero}
+use Rattle.std.specs.Prelude.{ℕ, ◌+◌, ◌*◌, ◌/◌, ◌<◌, ◌≡◌, ◌⊎◌, Bool, true, List, [], length}
+use Rattle.std.proofs.Common.{sym, subst, ⊎_elim, add-zero}
 use Rattle.std.proofs.Math.Path.{ap}
 use Rattle.std.proofs.Math.Logic.{inl, inr}
 use Rattle.std.proofs.Math.ListN.{get_or}
@@ -14,7 +14,7 @@ use Rattle.laws.specs.Member.{◌∈◌}
 use Rattle.laws.specs.Numbers.{numbered-in, numbered-out}
 use Rattle.meaning.specs.Lent.{records, roleFactWidth, conceptFact, roleFact}
 use Rattle.individuals.specs.Concepts.{HasRows, Shown, named, first, second, Concepts}
-use Rattle.laws.specs.Gains.{Gains, Either, Some, blank, gains-same, gains-then, gains-not, gains-blank}
+use Rattle.laws.specs.Gains.{Gains, Either, Some, blank, gains-same, gains-then, gains-blank}
 use Rattle.individuals.specs.InRow.{InRow}
 
 -- what one concept fact adds
@@ -43,25 +43,10 @@ abbrev pub RoleListed : List ℕ → List (List Bool) → ℕ → ℕ → Type 0
 RoleListed t order = Some (RoleHit t order) (length t / 3)
 
 module _ (m order : List (List Bool)) (A : ConceptName) (a : Individual) where
-  pub name-nowhere : 64 ≤ A.0 → Gains 255 128 m (ByConcept order A a) m
-  name-nowhere h = gains-not 255 128 m _ (λ i j hi hj p. omega (arith, p.has-row))
-
-  pub named-nowhere : 255 ≤ a.0 → Gains 255 128 m (ByConcept order A a) m
-  named-nowhere h = gains-not 255 128 m _ (λ i j hi hj p. omega (arith, p.own))
-
   pub concept-fact : (r : List (List Bool)) → A.0 < mostNames → Gains 255 128 m (InRow a.0 (get_or order A.0 [])) r → Gains 255 128 m (ByConcept order A a) r
   concept-fact r h s = gains-same 255 128 m (InRow a.0 (get_or order A.0 [])) (ByConcept order A a) r s (λ i j hi hj p. record { has-row = h; own = p.0; marked = p.1 }) (λ i j hi hj p. (p.own, p.marked))
 
 module _ (m order : List (List Bool)) (r : RoleName) (a b : Individual) where
-  pub role-nowhere : 32 ≤ r.0 → Gains 255 128 m (ByRole order r a b) m
-  role-nowhere h = gains-not 255 128 m _ (λ i j hi hj p. omega (arith, p.has-rows.role))
-
-  pub first-nowhere : 255 ≤ a.0 → Gains 255 128 m (ByRole order r a b) m
-  first-nowhere h = gains-not 255 128 m _ (λ i j hi hj p. omega (arith, p.has-rows.first))
-
-  pub second-nowhere : 255 ≤ b.0 → Gains 255 128 m (ByRole order r a b) m
-  second-nowhere h = gains-not 255 128 m _ (λ i j hi hj p. omega (arith, p.has-rows.second))
-
   pub role-fact : (s q : List (List Bool)) → HasRows r a b → Gains 255 128 m (InRow a.0 (get_or order (base + 2 * r.0) [])) s
       → Gains 255 128 s (InRow b.0 (get_or order (base + 2 * r.0 + 1) [])) q → Gains 255 128 m (ByRole order r a b) q
   role-fact s q h u v =

@@ -8,7 +8,7 @@ ghost use Rattle.individuals.specs.InRow.{InRow};
 ghost use Rattle.individuals.specs.Facts.{ByConcept, ByRole, ConceptListed, RoleListed};
 
 use kinds::{ConceptName, Individual, RoleName};
-use orders::or_concept_row;
+use orders::or_row;
 
 // A row for each individual, and for each number of a basic concept. The functions that read the facts borrow both and write the rows in place:
 // by value 32,640 bytes of rows would be copied for each of up to 5,120 facts.
@@ -22,7 +22,7 @@ fn with_row(rows: &mut Rows, a: usize, row: [bool; 128])
     ensures { Gains 255 128 rows.old (InRow a row) rows.new }
 {
     let own = rows[a];
-    rows[a] = or_concept_row(own, row);
+    rows[a] = or_row(own, row, true);
 }
 
 // One concept fact: all that follows from its name.

@@ -79,9 +79,6 @@ inverse-backward r = let e : 2 * r.0 + 1 + 1 - 2 * ((2 * r.0 + 1) % 2) ≡ 2 * r
 abbrev pub wrapped : SignedRole → SignedRole
 wrapped R = signed (R.0 % 65536)
 
-pub wrapped-small : (R : SignedRole) → R.0 < 65536 → wrapped R ≡ R
-wrapped-small R h = let e : R.0 % 65536 ≡ R.0 = omega arith in ap signed e
-
 -- the number of a basic concept: a name's own, or 64 + R
 unfoldable pub number_of : Concept → ℕ
 number_of (Name A) = A.0

@@ -97,6 +97,9 @@ impl Individual {
     {
         self.0 < counts.individuals
     }
+
+    // A table has a place for each of so many individuals.
+    pub const NUMBERS: usize = Individual::MOST as usize;
 }
 
 impl State {
@@ -107,6 +110,11 @@ impl State {
     {
         self.0 < counts.states
     }
+
+    // A table has a place for each of so many states, or pairs of states.
+    pub const NUMBERS: usize = State::MOST as usize;
+
+    pub const PAIRS: usize = State::NUMBERS * State::NUMBERS;
 }
 
 impl SignedRole {
@@ -135,6 +143,9 @@ impl SignedRole {
     {
         self.0 / 2 < counts.roles
     }
+
+    // A table has a place for each of so many signed roles.
+    pub const NUMBERS: usize = 64;
 }
 
 impl Concept {
@@ -171,6 +182,9 @@ impl Concept {
             Concept::Exists(r) => r.declared(counts),
         }
     }
+
+    // A table has a place for each of so many basic concepts.
+    pub const NUMBERS: usize = 128;
 }
 
 impl Counts {

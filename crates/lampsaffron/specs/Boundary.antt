@@ -5,7 +5,7 @@ use Rattle.kinds.specs.declared.Answer.{Answer}
 use Rattle.kinds.specs.declared.Counts.{Counts}
 use Rattle.kinds.specs.Kinds.{state}
 use Rattle.kinds.specs.Answer.{answerNumber, answerCount}
-use Rattle.meaning.specs.Lent.{Call}
+use Rattle.meaning.specs.Lent.{Tables, Call}
 use Rattle.meaning.specs.Outcome.{Outcome}
 use Rattle.meaning.proofs.OutcomeLaws.{outcome-unique}
 
@@ -17,6 +17,19 @@ counted names roles individuals states start = record {
   individuals = individuals;
   states = states;
   start = state start;
+}
+
+-- the eight tables as a call has them
+abbrev pub lent : List ℕ → List ℕ → List ℕ → List ℕ → List ℕ → List ℕ → List ℕ → List ℕ → Tables
+lent cr ce rr re cf rf st fi = record {
+  concept-rules = cr;
+  concept-exclusions = ce;
+  role-rules = rr;
+  role-exclusions = re;
+  concept-facts = cf;
+  role-facts = rf;
+  steps = st;
+  finals = fi;
 }
 
 pub record Gives (c : Call) (number count : ℕ) (x y : List ℕ) : Type 0 where

@@ -2,12 +2,12 @@
 #![tactic(auto)]
 
 ghost use Rattle.kinds.specs.Kinds.{individual};
-ghost use Rattle.index.specs.Prepare.{asks};
-ghost use Rattle.index.specs.Settle.{lending};
-ghost use Rattle.lampsaffron.specs.Boundary.{counted, Gives};
+ghost use Rattle.index.specs.Prepare.{asks, lending};
+ghost use Rattle.lampsaffron.specs.Boundary.{counted, lent, Gives};
 
 use index::ask;
 use kinds::{Counts, Individual, State};
+use tables::Tables;
 
 // One pair asked of a collection, as `index::ask` does it.
 #[unsafe(no_mangle)]
@@ -32,7 +32,9 @@ pub extern "C" fn lampsaffron_ask(
     spare: &mut [u8],
     count: &mut u16,
 ) -> u8
-    ensures { Gives (asks (lending (counted names roles individuals states start) conceptrules.now conceptexclusions.now rolerules.now roleexclusions.now conceptfacts.now rolefacts.now steps.now finals.now allowance area.old spare.old) (individual first) (individual second)) result count.new area.new spare.new }
+    ensures { let counts = counted names roles individuals states start in
+        let tables = lent conceptrules.now conceptexclusions.now rolerules.now roleexclusions.now conceptfacts.now rolefacts.now steps.now finals.now in
+        Gives (asks (lending counts tables allowance area.old spare.old) (individual first) (individual second)) result count.new area.new spare.new }
 {
     let counts = Counts {
         names: names,
@@ -41,16 +43,19 @@ pub extern "C" fn lampsaffron_ask(
         states: states,
         start: State(start),
     };
+    let tables = Tables {
+        concept_rules: conceptrules,
+        concept_exclusions: conceptexclusions,
+        role_rules: rolerules,
+        role_exclusions: roleexclusions,
+        concept_facts: conceptfacts,
+        role_facts: rolefacts,
+        steps: steps,
+        finals: finals,
+    };
     let answer = ask(
         counts,
-        conceptrules,
-        conceptexclusions,
-        rolerules,
-        roleexclusions,
-        conceptfacts,
-        rolefacts,
-        steps,
-        finals,
+        &tables,
         Individual(first),
         Individual(second),
         allowance,

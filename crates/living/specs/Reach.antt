@@ -1,14 +1,12 @@
 -- What each loop has gathered, and that the roles reached from those that sprout are the living ones.
-use Rattle.std.specs.Prelude.{ℕ, ◌+◌, ◌<◌, ◌≡◌, Bool, true, false, ◌&&◌, List, [], get_or, replicate}
-use Rattle.std.proofs.Common.{sym, ◌∙◌, subst, ⊎_elim, arith}
+use Rattle.std.specs.Prelude.{ℕ, ◌+◌, ◌<◌, ◌≡◌, Bool, true, false, List, [], get_or, replicate}
+use Rattle.std.proofs.Common.{sym, ◌∙◌, arith}
 use Rattle.std.proofs.lemmas.Bool.{false≢true}
-use Rattle.std.proofs.Math.Decide.{ℕ_discrete}
 use Rattle.std.proofs.lemmas.List.{get_or-replicate}
 use Rattle.kinds.specs.Kinds.{flip}
 use Rattle.laws.specs.Exactly.{Exactly}
 use Rattle.laws.specs.Marks.{mark}
-use Rattle.laws.specs.Warshall.{Star, here, edge, then, Edge, Closes, or_left, or_right, or_cases, and-make, and_left, and_right}
-use Rattle.orders.specs.Close.{OrRow}
+use Rattle.laws.specs.Warshall.{Star, here, edge, then, Edge, Closes}
 use Rattle.living.specs.Living.{Lives, sprouts, grows, Living}
 
 -- the mark of ∃ of the role j
@@ -48,39 +46,6 @@ module _ (E : ℕ → ℕ → Type 0) where
               shows = λ w. let h = w.1 in absurd (omega arith);
             };
       }
-
-  -- one more: the row b, where on is true, marks what the set k holds
-  pub gathers-more : (k : ℕ) (a b : List Bool) (on : Bool) (r : List Bool) → Gathers E k a → OrRow 64 a b on r
-      → ((j : ℕ) → j < 64 → Exactly (on && get_or b j false) (E k j)) → Gathers E (k + 1) r
-  gathers-more k a b on r g o x = record { at = λ j hj. record { holds = λ p. into j hj p; shows = λ w. out j hj w (ℕ_discrete w.0 k) } }
-    where
-      into : (j : ℕ) → j < 64 → get_or r j false ≡ true → (h : ℕ) × (h < k + 1) × E h j
-      into j hj p =
-          ⊎_elim (λ q. let w = (g.at j hj).holds q in let l = w.1 in (w.0, omega arith, w.2)) (λ q. (k, omega arith, (x j hj).holds q))
-          (or_cases (get_or a j false) (on && get_or b j false) (sym (o.at j hj) ∙ p))
-
-      out : (j : ℕ) → j < 64 → (w : (h : ℕ) × (h < k + 1) × E h j) → Dec (w.0 ≡ k) → get_or r j false ≡ true
-      out j hj w (yes e) = o.at j hj ∙ or_right (get_or a j false) (on && get_or b j false) ((x j hj).shows (subst (λ (h : ℕ). E h j) e w.2))
-      out j hj w (no e) = o.at j hj ∙ or_left (get_or a j false) (on && get_or b j false) ((g.at j hj).shows (w.0, (let l = w.1 in omega arith), w.2))
-
-  pub gathers-all : (k n : ℕ) (r : List Bool) → k ≡ n → Gathers E k r → Gathers E n r
-  gathers-all k n r e g = rw e at g
-
--- one more individual
-pub sprout-more : (concepts : List (List Bool)) (a : ℕ) (old b r : List Bool) → Gathers (SproutAt concepts) a old → Half (get_or concepts a []) b → OrRow 64 old b true r
-    → Gathers (SproutAt concepts) (a + 1) r
-sprout-more concepts a old b r g h o =
-    gathers-more (SproutAt concepts) a old b true r g o (λ j hj. record { holds = λ p. record { marked = sym (h.at j hj) ∙ p }; shows = λ p. h.at j hj ∙ p.marked })
-
--- one more role
-pub reach-more : (from : List Bool) (closed : List (List Bool)) (k : ℕ) (old r : List Bool) → Gathers (ReachAt from closed) k old
-    → OrRow 64 old (get_or closed k []) (get_or from k false) r → Gathers (ReachAt from closed) (k + 1) r
-reach-more from closed k old r g o =
-    gathers-more (ReachAt from closed) k old (get_or closed k []) (get_or from k false) r g o
-    (λ j hj.
-    let u = get_or from k false in
-    let v = mark closed k j in
-    record { holds = λ p. record { begins = and_left u v p; marked = and_right u v p }; shows = λ p. and-make u v p.begins p.marked })
 
 -- a living role has a row
 pub lives-below : {concepts order : List (List Bool)} {R : ℕ} → Lives concepts order R → R < 64

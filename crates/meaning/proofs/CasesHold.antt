@@ -26,7 +26,7 @@ use Rattle.meaning.proofs.Reply.{declaredIndividuals, factTypes, endTypes, isTyp
 use Rattle.meaning.specs.Lent.{records, collection, Sound}
 use Rattle.meaning.specs.Layout.{place, areaLength, Lays, Standing}
 use Rattle.meaning.proofs.OutcomeLaws.{outcome-exists, passes-all, sound-well-formed, holds-sheet}
-use Rattle.meaning.proofs.Calculate.{countsFit, whole, shapesOk, conceptsDeclared, rolesDeclared, conceptFactDeclared, roleFactDeclared, numbersDeclared, numbersOk, endsOk, askOk, soundAnswer, afterClash, afterRounds, answer, sheetArea, areaAfter, spareAfter}
+use Rattle.meaning.proofs.Calculate.{countsFit, whole, shapesOk, conceptsDeclared, rolesDeclared, conceptFactDeclared, roleFactDeclared, numbersDeclared, numbersOk, endsOk, askOk, soundAnswer, afterClash, afterRounds, sheetArea, areaAfter, spareAfter}
 use Rattle.meaning.proofs.CalculateLaws.{counts-test, shapes-test, numbers-test, ends-test, ask-test}
 use Rattle.meaning.specs.Cases.{Case, cases, lend, MarksStand, Says}
 

@@ -14,71 +14,68 @@ ghost use Rattle.orders.specs.Widen.{WideRow};
 
 use kinds::SignedRole;
 
-// A row of marks for each signed role, and for each number of a basic concept. The role relation goes by value while it is closed; the functions
-// that mark rules, and those that close the concepts, borrow their rows and write in place: by value 16 KB would be copied for each step.
+// A row of marks for each signed role, and for each number of a basic concept. The role relation goes by value while it is closed. What marks rules,
+// a step of closing and the closing of the concepts borrow their rows and write in place: by value up to 16 KB would be copied for each step.
 pub type RoleRows = [[bool; 64]; 64];
 
 pub type ConceptRows = [[bool; 128]; 128];
 
 // The marks of a and, where on is true, those of b.
-pub fn or_role_row(a: [bool; 64], b: [bool; 64], on: bool) -> [bool; 64]
-    ensures { OrRow 64 a b on result }
+pub fn or_row<const N: usize>(a: [bool; N], b: [bool; N], on: bool) -> [bool; N]
+    ensures { OrRow N a.entry b.entry on result }
 {
     let mut out = a;
-    for j in 0..64 {
+    for j in 0..N {
         out[j] = out[j] | (on & b[j]);
     }
     out
 }
 
 // Every (i, i) is marked.
-fn reflexive_roles(m: RoleRows) -> RoleRows
-    ensures { Gains 64 64 m Diagonal result }
+fn reflexive<const N: usize>(m: &mut [[bool; N]; N])
+    requires { Square N m.old }
+    ensures { Square N m.new × Gains N N m.old Diagonal m.new }
 {
-    let mut out = m;
-    for i in 0..64 {
-        out[i][i] = true;
+    for i in 0..N {
+        m[i][i] = true;
     }
-    out
 }
 
-// What goes through the role k.
-fn through_role(m: RoleRows, k: usize) -> RoleRows
-    requires { k < 64 }
-    ensures { Stepped 64 (mark m) k (mark result) }
+// What goes through the number k: the row of k is put into each row that marks k, and the others are not written.
+fn through<const N: usize>(m: &mut [[bool; N]; N], k: usize)
+    requires { (k < N) × Square N m.old }
+    ensures { Square N m.new × Stepped N (mark m.old) k (mark m.new) }
 {
     let row = m[k];
-    let mut out = m;
-    for i in 0..64 {
-        let own = out[i];
-        out[i] = or_role_row(own, row, own[k]);
+    for i in 0..N {
+        if m[i][k] {
+            let own = m[i];
+            m[i] = or_row(own, row, true);
+        }
     }
-    out
-}
-
-// The smallest reflexive and transitive relation that holds m.
-pub fn close_roles(m: [[bool; 64]; 64]) -> [[bool; 64]; 64]
-    ensures { Closes 64 (mark m) (mark result) }
-{
-    let mut out = reflexive_roles(m);
-    for k in 0..64 {
-        let next = through_role(out, k);
-        out = next;
-    }
-    out
 }
 
 // One mark; a number that has no row is passed over.
-fn mark_role(m: &mut RoleRows, left: SignedRole, right: SignedRole)
-    requires { Square 64 m.old }
-    ensures { Square 64 m.new × Gains 64 64 m.old (Pair left.0 right.0) m.new }
+fn mark_pair<const N: usize>(m: &mut [[bool; N]; N], i: usize, j: usize)
+    requires { Square N m.old }
+    ensures { Square N m.new × Gains N N m.old (Pair i j) m.new }
 {
-    if left.0 >= 64 || right.0 >= 64 {
-        return;
+    if i < N && j < N {
+        m[i][j] = true;
     }
-    let i = left.0 as usize;
-    let j = right.0 as usize;
-    m[i][j] = true;
+}
+
+// The smallest reflexive and transitive relation that holds m.
+#[tactic(auto, using(crate::specs::Close::closing))]
+pub fn close_roles(m: [[bool; 64]; 64]) -> [[bool; 64]; 64]
+    ensures { Closes 64 (mark m) (mark result) }
+{
+    let mut out = m;
+    reflexive(&mut out);
+    for k in 0..64 {
+        through(&mut out, k);
+    }
+    out
 }
 
 // A rule and its inverse.
@@ -86,10 +83,10 @@ fn mark_role_rule(m: &mut RoleRows, left: SignedRole, right: SignedRole)
     requires { Square 64 m.old }
     ensures { Square 64 m.new × Gains 64 64 m.old (Turned (Pair left.0 right.0)) m.new }
 {
-    mark_role(m, left, right);
+    mark_pair(m, left.0 as usize, right.0 as usize);
     let back = left.inverse();
     let other = right.inverse();
-    mark_role(m, back, other);
+    mark_pair(m, back.0 as usize, other.0 as usize);
 }
 
 // Every rule of a table and its inverse.
@@ -114,49 +111,15 @@ pub fn role_order(rules: &[u16]) -> [[bool; 64]; 64]
     close_roles(m)
 }
 
-// The marks of a and those of b.
-pub fn or_concept_row(a: [bool; 128], b: [bool; 128]) -> [bool; 128]
-    ensures { OrRow 128 a b true result }
-{
-    let mut out = a;
-    for j in 0..128 {
-        out[j] = out[j] | b[j];
-    }
-    out
-}
-
-// Every (i, i) is marked.
-fn reflexive_concepts(m: &mut ConceptRows)
-    requires { Square 128 m.old }
-    ensures { Square 128 m.new × Gains 128 128 m.old Diagonal m.new }
-{
-    for i in 0..128 {
-        m[i][i] = true;
-    }
-}
-
-// What goes through the concept k: the row of k is put into each row that marks k, and the others are not written.
-fn through_concept(m: &mut ConceptRows, k: usize)
-    requires { (k < 128) × Square 128 m.old }
-    ensures { Square 128 m.new × Stepped 128 (mark m.old) k (mark m.new) }
-{
-    let row = m[k];
-    for i in 0..128 {
-        if m[i][k] {
-            let own = m[i];
-            m[i] = or_concept_row(own, row);
-        }
-    }
-}
-
 // The smallest reflexive and transitive relation that holds m.
+#[tactic(auto, using(crate::specs::Close::closing))]
 fn close_concepts(m: &mut ConceptRows)
     requires { Square 128 m.old }
     ensures { Closes 128 (mark m.old) (mark m.new) }
 {
-    reflexive_concepts(m);
+    reflexive(m);
     for k in 0..128 {
-        through_concept(m, k);
+        through(m, k);
     }
 }
 
@@ -168,11 +131,7 @@ fn mark_concept_rules(m: &mut ConceptRows, rules: &[u16])
     let n = rules.len() / 2;
     for k in 0..n {
         let at = 2 * k;
-        let i = rules[at] as usize;
-        let j = rules[at + 1] as usize;
-        if i < 128 && j < 128 {
-            m[i][j] = true;
-        }
+        mark_pair(m, rules[at] as usize, rules[at + 1] as usize);
     }
 }
 

@@ -1,5 +1,5 @@
 -- The number that refuses a frame, as the code finds it: one test after another, by what is held of the frames before.
-use Rattle.std.specs.Prelude.{ℕ, ◌<◌, ◌≤◌, ◌≡◌, refl, Bool, true, not, List, eqb, ltb, length, get_or}
+use Rattle.std.specs.Prelude.{ℕ, ◌<◌, ◌≤◌, ◌≡◌, refl, Bool, true, not, ◌&&◌, List, eqb, ltb, length, get_or}
 use Rattle.std.proofs.Common.{arith, sym, ap, ◌∙◌, subst}
 use Rattle.laws.specs.Exactly.{Exactly, exactly-same, below-exactly}
 use Rattle.laws.specs.First.{First, fails, holds, first-pick}
@@ -8,7 +8,7 @@ use Rattle.laws.specs.Numbers.{get_d_numbered}
 use Rattle.kinds.specs.declared.Counts.{Counts}
 use Rattle.kinds.specs.declared.Individual.{Individual}
 use Rattle.kinds.specs.Kinds.{individual, CountsFit}
-use Rattle.laws.specs.Decide.{equal-exactly, not-exactly}
+use Rattle.laws.specs.Decide.{exactly-both, equal-exactly, not-exactly}
 use Rattle.frames.specs.declared.Frame.{Frame}
 use Rattle.frames.specs.declared.Frame.TheVariants.{Declared, Allowance}
 use Rattle.reading.specs.declared.Held.{Held}
@@ -93,14 +93,12 @@ module _ {held : Held} where
   pub judges-counts : {c : Counts} → held.lines ≤ 0 → (b : Bool) → Exactly b (CountsFit c) → Judges held (Declared c) (pick b 0 4)
   judges-counts h b x = record { by = λ before d. holds (omega (arith, held-lines before d)) (first-pick 4 0 Taken b x refl) }
 
-  pub judges-early : {m : ℕ} → held.lines ≤ 0 → Judges held (Allowance m) 11
-  judges-early h = record { by = λ before d. fails (λ w. omega (arith, held-lines before d, w.0)) }
-
-  pub judges-allowance : {m : ℕ} → 0 < held.lines → (b : Bool) → Exactly b (get_or held.used 12 0 ≡ 0) → Judges held (Allowance m) (pick b 0 11)
-  judges-allowance h b x =
+  pub judges-allowance : {m : ℕ} {b : Bool} → (ltb 0 held.lines && eqb (get_or held.used 12 0) 0) ≡ b → Judges held (Allowance m) (pick b 0 11)
+  judges-allowance {b = b} q =
       record {
         by = λ before d.
-            let l : 0 < length before = omega (arith, held-lines before d) in
+            let l : held.lines ≡ length before = held-lines before d in
             let u : get_or held.used 12 0 ≡ entries 12 before = rw d (get_d_numbered (λ t. entries t before) tableCount 12 0 (omega arith)) in
-            first-pick 11 0 Taken b (exactly-same x (λ z. (l, sym u ∙ z)) (λ w. u ∙ w.1)) refl;
+            let x : Exactly b (0 < held.lines × (get_or held.used 12 0 ≡ 0)) = rw (← q) (exactly-both _ _ (below-exactly 0 held.lines) (equal-exactly (get_or held.used 12 0) 0)) in
+            first-pick 11 0 Taken b (exactly-same x (λ w. (omega (arith, w.0), sym u ∙ w.1)) (λ w. (omega (arith, w.0), u ∙ w.1))) refl;
       }

@@ -1,6 +1,6 @@
 -- Keeping a frame that is taken: its record goes into the store, and what is held is brought up to it.
 use Rattle.std.specs.Prelude.{ℕ, zero, suc, ◌+◌, ◌*◌, ◌<◌, ◌≡◌, refl, List, [], ◌∷◌, eqb, length, get_or, take, set}
-use Rattle.std.proofs.Common.{sym, subst, arith}
+use Rattle.std.proofs.Common.{arith}
 use Rattle.std.proofs.Math.Seq.{paste}
 use Rattle.laws.specs.Search.{pick}
 use Rattle.kinds.specs.declared.Counts.{Counts}
@@ -127,10 +127,3 @@ module _ (before : List Frame) where
   taking (Allowance n) h =
       let w = (first-passed h (λ e. omega arith)).0 in
       later w.0 (λ e. omega arith) (λ e. w.1) (λ k. tt) (λ k e. absurd (omega arith))
-
--- the same frame by another name
-pub row_told : {f g : Frame} {r : Row} → f ≡ g → RowOf g r → RowOf f r
-row_told {r = r} e h = subst (λ (x : Frame). RowOf x r) (sym e) h
-
-pub small-told : {f g : Frame} → f ≡ g → Small f → Small g
-small-told e h = subst Small e h

@@ -1,3 +1,4 @@
+pub mod Refusal
 pub mod Lines
 pub mod Tables
 pub mod Reading

@@ -1,5 +1,5 @@
 -- Reading a whole input into the store: what comes back and what the store then holds, for every input and every store.
-use Rattle.std.specs.Prelude.{ℕ, suc, ◌+◌, ◌-◌, ◌*◌, ◌<◌, ◌≤◌, ◌≡◌, ◌⊎◌, length, get_or, take, drop}
+use Rattle.std.specs.Prelude.{ℕ, suc, ◌+◌, ◌-◌, ◌*◌, ◌<◌, ◌≤◌, ◌≡◌, ◌⊎◌, length, get_or, take, drop, Result, Ok, Err}
 use Rattle.std.proofs.Math.Path.{refl, sym, ap}
 use Rattle.std.proofs.Common.{◌∙◌, inl, inr, drop_of_length-le, length-drop, take_all, get_or-take, get_or-drop, drop-drop, length-take-le, eq-or-lt_of_le, arith}
 use mathlib.Core.List.{List, [], ◌∷◌, ◌++◌}
@@ -8,43 +8,47 @@ use Rattle.laws.specs.First.{First, fails, holds, first-once}
 use Rattle.frames.specs.Frames.{FrameOf}
 use Rattle.frames.specs.declared.Frame.{Frame}
 use Rattle.reading.specs.declared.Held.{Held}
-use Rattle.reading.specs.declared.Read.{Read}
+use Rattle.reading.specs.declared.Fault.{Fault}
+use Rattle.reading.specs.declared.Refusal.{Refusal}
+use Rattle.reading.specs.declared.Refusal.TheVariants.{BadTable, OutOfPlace}
+use Rattle.reading.specs.Refusal.{refusalNumber, refusal-counts, refusal-once}
 use Rattle.reading.specs.Lines.{newline, lines, Plain, no_lines, line_first, line-last}
 use Rattle.reading.specs.Tables.{width, most}
 use Rattle.reading.specs.TableLaws.{within-lines}
-use Rattle.reading.specs.Reading.{Judged, Result, faulty, sound, framesOf, refusalOf, Reading}
+use Rattle.reading.specs.Reading.{Judged, faulty, sound, framesOf, refusalOf, Reading}
+use Rattle.reading.specs.Reading as reading
 use Rattle.reading.specs.ReadingLaws.{reading-once}
 use Rattle.reading.specs.Store.{place, tableCount, storeLength, shelved, shelve, held_of}
 use Rattle.reading.specs.StoreLaws.{shelve-more, shelve-length}
 use Rattle.reading.specs.Kept.{Sound, sound_none, sound_more}
 
-abbrev pub readAs : List Frame → ℕ → Read
-readAs fs n = record { held = held_of fs; number = n }
+abbrev pub fault_after : List Frame → Refusal → Fault
+fault_after before r = record { held = held_of before; refusal = r }
 
--- a store of another length is refused with number 5, as an area is; else the file is refused at its first faulty line, or read whole, with number 0
-pub data Reads (input old : List ℕ) : Read → List ℕ → Type 0 where
-  no_store : (length old ≡ storeLength → ⊥) → Reads input old (readAs [] 5) old
-  refused : (before : List Frame) (n : ℕ) → length old ≡ storeLength → (n ≡ 0 → ⊥) → Reading [] (lines input) (faulty before n) → Reads input old (readAs before n) (shelve old [] before)
-  whole : (fs : List Frame) → length old ≡ storeLength → Reading [] (lines input) (sound fs) → Reads input old (readAs fs 0) (shelve old [] fs)
+-- a store of another length is refused as an area is; else the file is refused at its first faulty line, or read whole
+pub data Reads (input old : List ℕ) : Result Held Fault → List ℕ → Type 0 where
+  no_store : (length old ≡ storeLength → ⊥) → Reads input old (Err (fault_after [] BadTable)) old
+  refused : (before : List Frame) (r : Refusal) → length old ≡ storeLength → Reading [] (lines input) (faulty before (refusalNumber r)) → Reads input old (Err (fault_after before r)) (shelve old [] before)
+  whole : (fs : List Frame) → length old ≡ storeLength → Reading [] (lines input) (sound fs) → Reads input old (Ok (held_of fs)) (shelve old [] fs)
 
 -- THEOREM: two outcomes of reading an input into a store are equal
-pub reads-once : {input old : List ℕ} {r q : Read} {x y : List ℕ} → Reads input old r x → Reads input old q y → (r ≡ q) × (x ≡ y)
+pub reads-once : {input old : List ℕ} {r q : Result Held Fault} {x y : List ℕ} → Reads input old r x → Reads input old q y → (r ≡ q) × (x ≡ y)
 reads-once (no_store a) (no_store b) = (refl, refl)
-reads-once (no_store a) (refused g m l n h) = absurd (a l)
+reads-once (no_store a) (refused g m l h) = absurd (a l)
 reads-once (no_store a) (whole g l h) = absurd (a l)
-reads-once (refused f n l z h) (no_store b) = absurd (b l)
-reads-once {input} {old} (refused f n l z h) (refused g m l' z' k) =
-    let e = reading-once (lines input) [] (faulty f n) (faulty g m) h k in
+reads-once (refused f n l h) (no_store b) = absurd (b l)
+reads-once {input} {old} (refused f n l h) (refused g m l' k) =
+    let e = reading-once (lines input) [] (faulty f (refusalNumber n)) (faulty g (refusalNumber m)) h k in
     let d : f ≡ g = ap framesOf e in
-    let i : n ≡ m = ap refusalOf e in
+    let i : n ≡ m = refusal-once (ap refusalOf e) in
     (rw (d, i) refl, ap (shelve old []) d)
-reads-once {input} (refused f n l z h) (whole g l' k) =
-    let e = reading-once (lines input) [] (faulty f n) (sound g) h k in
-    absurd (z (ap refusalOf e))
+reads-once {input} (refused f n l h) (whole g l' k) =
+    let e = reading-once (lines input) [] (faulty f (refusalNumber n)) (sound g) h k in
+    absurd (refusal-counts n (ap refusalOf e))
 reads-once (whole f l h) (no_store b) = absurd (b l)
-reads-once {input} (whole f l h) (refused g m l' z k) =
-    let e = reading-once (lines input) [] (sound f) (faulty g m) h k in
-    absurd (z (sym (ap refusalOf e)))
+reads-once {input} (whole f l h) (refused g m l' k) =
+    let e = reading-once (lines input) [] (sound f) (faulty g (refusalNumber m)) h k in
+    absurd (refusal-counts m (sym (ap refusalOf e)))
 reads-once {input} {old} (whole f l h) (whole g l' k) =
     let d : f ≡ g = ap framesOf (reading-once (lines input) [] (sound f) (sound g) h k) in
     (rw d refl, ap (shelve old []) d)
@@ -62,25 +66,6 @@ pub record Seeking (x : List ℕ) (from n at : ℕ) : Type 0 where
   pub begun : from ≤ at
   pub within : at ≤ n
   pub none : (j : ℕ) → from ≤ j → j < at → get_or x j 0 ≡ newline → ⊥
-
-module _ {x : List ℕ} {from n at : ℕ} (s : Seeking x from n at) where
-  pub seek-more : at < n → (get_or x at 0 ≡ newline → ⊥) → Seeking x from n (at + 1)
-  seek-more h p =
-      let b = s.begun in
-      record { whole = s.whole; begun = omega arith; within = omega arith; none = λ j k l. by j k (eq-or-lt_of_le {n = j} {m = at} (omega arith)) }
-    where
-      by : (j : ℕ) → from ≤ j → (j ≡ at) ⊎ (j < at) → get_or x j 0 ≡ newline → ⊥
-      by j k (inl e) q = p (rw e at q)
-      by j k (inr l) q = s.none j k l q
-
-  pub seek_found : at < n → get_or x at 0 ≡ newline → LineEnd x from at
-  seek_found h e = record { from = s.begun; within = omega (arith, s.whole); plain = s.none; ends = λ l. e }
-
-  pub seek-end : n ≤ at → LineEnd x from n
-  seek-end h =
-      let b = s.begun in
-      let w = s.within in
-      record { from = omega arith; within = omega (arith, s.whole); plain = λ j k l. s.none j k (omega arith); ends = λ l. absurd (omega (arith, s.whole)) }
 
 line-alone : (l : List ℕ) → 0 < length l → Plain l → lines l ≡ l ∷ []
 line-alone [] h p = absurd (omega arith)
@@ -137,7 +122,7 @@ pub record Along (input old : List ℕ) (held : Held) (at : ℕ) (store : List �
   pub sound : Sound before
   pub holds : held ≡ held_of before
   pub stored : store ≡ shelve old [] before
-  pub goes : (q : Result) → Reading before (lines (drop at input)) q → Reading [] (lines input) q
+  pub goes : (q : reading.Result) → Reading before (lines (drop at input)) q → Reading [] (lines input) q
 
 pub along-none : (input old : List ℕ) (held : Held) → length old ≡ storeLength → held ≡ held_of [] → Along input old held 0 old
 unfolding shelve
@@ -152,11 +137,11 @@ module _ {input old : List ℕ} {held : Held} {at : ℕ} {store : List ℕ} (w :
 
   module _ (e : ℕ) (h : at < length input) (d : LineEnd input at e) (f : Frame) (m : FrameOf (take (e - at) (drop at input)) f) where
     -- a line that is refused ends it
-    pub along-refused : (n : ℕ) → (n ≡ 0 → ⊥) → Judged w.before f n → Reads input old (record { held = held; number = n }) store
+    pub along-refused : (r : Refusal) → Judged w.before f (refusalNumber r) → Reads input old (Err (record { held = held; refusal = r })) store
     unfolding Reading
-    along-refused n z j =
-        rw (w.holds, w.stored)
-        (refused w.before n w.long z (w.goes (faulty w.before n) (rw (line_at input at e h d) (f, n, m, j, fails z))))
+    along-refused r j =
+        let n = refusalNumber r in
+        rw (w.holds, w.stored) (refused w.before r w.long (w.goes (faulty w.before n) (rw (line_at input at e h d) (f, n, m, j, fails (refusal-counts r)))))
 
     -- a line that is taken is one more
     pub along-more : Judged w.before f 0 → {held' : Held} {store' : List ℕ} → held' ≡ held_of (w.before ++ f ∷ []) → store' ≡ shelved store w.before f → Along input old held' (e + 1) store'
@@ -173,17 +158,17 @@ module _ {input old : List ℕ} {held : Held} {at : ℕ} {store : List ℕ} (w :
 
   -- past the last line
   module _ (h : length input ≤ at) where
-    ended : (q : Result) → Reading w.before [] q → Reading [] (lines input) q
+    ended : (q : reading.Result) → Reading w.before [] q → Reading [] (lines input) q
     ended q g =
         let e : drop at input ≡ [] = drop_of_length-le input h in
         w.goes q (rw (e, no_lines) g)
 
-    pub along-empty : held.lines ≡ 0 → Reads input old (record { held = held; number = 11 }) store
+    pub along-empty : held.lines ≡ 0 → Reads input old (Err (record { held = held; refusal = OutOfPlace })) store
     along-empty z =
         let l = ap (λ (k : Held). k.lines) w.holds in
-        rw (w.holds, w.stored) (refused w.before 11 w.long (λ e. omega arith) (ended (faulty w.before 11) (end_empty w.before (omega arith))))
+        rw (w.holds, w.stored) (refused w.before OutOfPlace w.long (ended (faulty w.before 11) (end_empty w.before (omega arith))))
 
-    pub along-whole : (held.lines ≡ 0 → ⊥) → Reads input old (record { held = held; number = 0 }) store
+    pub along-whole : (held.lines ≡ 0 → ⊥) → Reads input old (Ok held) store
     along-whole z =
         let l = ap (λ (k : Held). k.lines) w.holds in
         rw (w.holds, w.stored) (whole w.before w.long (ended (sound w.before) (end_whole w.before (λ e. z (l ∙ e)))))

@@ -8,6 +8,7 @@ ghost use Rattle.kinds.specs.Kinds.{number_of};
 ghost use Rattle.frames.specs.Frames.{FrameOf};
 ghost use Rattle.reading.specs.Tables.{width, most};
 ghost use Rattle.reading.specs.Store.{place, held_of};
+ghost use Rattle.reading.specs.Refusal.{refusalNumber, numberOf};
 ghost use Rattle.reading.specs.Judging.{judgement, HasRoom, Judges};
 ghost use Rattle.reading.specs.Keeping.{keptCounts, keptAllowance, Small, RowOf, Keepable, Keeps};
 ghost use Rattle.reading.specs.Reads.{LineEnd, Reads, TableIn};
@@ -22,8 +23,33 @@ use tables::{
 // The most asks of a file.
 pub const ASKS: usize = 256;
 
-// The numbers in the store.
-pub const STORE: usize = 19478;
+// The number of each table: that of its frames' kind. Test steps stand with the role steps.
+pub mod kind {
+    pub const COUNTS: usize = 1;
+
+    pub const CONCEPT_RULE: usize = 2;
+
+    pub const CONCEPT_EXCLUSION: usize = 3;
+
+    pub const ROLE_RULE: usize = 4;
+
+    pub const ROLE_EXCLUSION: usize = 5;
+
+    pub const CONCEPT_FACT: usize = 6;
+
+    pub const ROLE_FACT: usize = 7;
+
+    pub const STEP: usize = 8;
+
+    pub const FINAL: usize = 10;
+
+    pub const ASK: usize = 11;
+
+    pub const ALLOWANCE: usize = 12;
+}
+
+// The numbers in the store: up to the end of the last table.
+pub const STORE: usize = PLACES[12] + WIDTHS[12] * MOSTS[12];
 
 // The allowance of a file that gives none.
 pub const ALLOWANCE: Rounds = 64;
@@ -44,7 +70,6 @@ pub const LINES: usize = 2
 pub const MOST_BYTES: usize = (LINES + 1) * (LINE + 1);
 
 // What is held of a file beside its store: line 1's counts, the allowance, the records of each table, and the lines read.
-// A table has the number of its frames' kind; test steps stand with the role steps, in table 8.
 #[derive(Drop)]
 pub struct Held {
     pub counts: Counts,
@@ -53,11 +78,41 @@ pub struct Held {
     pub lines: usize,
 }
 
-// A file read to its end, with number 0, or up to its first faulty line, with the number that refuses it.
+// Why a line, and with it the file, is refused.
+#[derive(Clone, Copy)]
+pub enum Refusal {
+    BadCount,
+    BadTable,
+    BadNumber,
+    EqualEnds,
+    BadAsk,
+    BadLine,
+    BadFrame,
+    OutOfPlace,
+}
+
+// What is held of the lines before the first faulty one, and why that one is refused.
 #[derive(Drop)]
-pub struct Read {
+pub struct Fault {
     pub held: Held,
-    pub number: u8,
+    pub refusal: Refusal,
+}
+
+impl Refusal {
+    pub fn number(self) -> u8
+        ensures { result ≡ refusalNumber self }
+    {
+        match self {
+            Refusal::BadCount => 4,
+            Refusal::BadTable => 5,
+            Refusal::BadNumber => 6,
+            Refusal::EqualEnds => 7,
+            Refusal::BadAsk => 8,
+            Refusal::BadLine => 9,
+            Refusal::BadFrame => 10,
+            Refusal::OutOfPlace => 11,
+        }
+    }
 }
 
 // A frame's table, and the numbers of its record first in the values.
@@ -67,7 +122,7 @@ struct Row {
     values: [u16; 5],
 }
 
-// The numbers in a record of each table, the most records, and where in the store the table begins.
+// The numbers in a record of each table, the most records, and where in the store the table begins: after those before it.
 const WIDTHS: [usize; 13] = [0, 5, 2, 2, 2, 2, 2, 3, 4, 0, 1, 2, 1];
 
 const MOSTS: [usize; 13] = [
@@ -86,8 +141,25 @@ const MOSTS: [usize; 13] = [
     1,
 ];
 
+// What some tables take in the store together.
+macro_rules! room {
+    ($($t:literal)*) => { 0 $(+ WIDTHS[$t] * MOSTS[$t])* };
+}
+
 const PLACES: [usize; 13] = [
-    0, 0, 5, 1029, 2053, 2309, 2565, 4613, 16901, 18949, 18949, 18965, 19477,
+    room!(),
+    room!(0),
+    room!(0 1),
+    room!(0 1 2),
+    room!(0 1 2 3),
+    room!(0 1 2 3 4),
+    room!(0 1 2 3 4 5),
+    room!(0 1 2 3 4 5 6),
+    room!(0 1 2 3 4 5 6 7),
+    room!(0 1 2 3 4 5 6 7 8),
+    room!(0 1 2 3 4 5 6 7 8 9),
+    room!(0 1 2 3 4 5 6 7 8 9 10),
+    room!(0 1 2 3 4 5 6 7 8 9 10 11),
 ];
 
 #[tactic(auto, unfolding(crate::specs::Tables::width))]
@@ -113,26 +185,26 @@ fn place(t: usize) -> usize
     PLACES[t]
 }
 
-// The first test that fails gives its number: 11, 5, 6, 7, 8.
-fn judge(begun: bool, room: bool, numbers: bool, ends: bool, asked: bool) -> u8
-    ensures { result ≡ judgement begun room numbers ends asked }
+// The first test that fails refuses.
+fn judge(begun: bool, room: bool, numbers: bool, ends: bool, asked: bool) -> Option<Refusal>
+    ensures { numberOf result ≡ judgement begun room numbers ends asked }
 {
     if !begun {
-        return 11;
+        return Some(Refusal::OutOfPlace);
     }
     if !room {
-        return 5;
+        return Some(Refusal::BadTable);
     }
     if !numbers {
-        return 6;
+        return Some(Refusal::BadNumber);
     }
     if !ends {
-        return 7;
+        return Some(Refusal::EqualEnds);
     }
     if !asked {
-        return 8;
+        return Some(Refusal::BadAsk);
     }
-    0
+    None
 }
 
 fn has_room(used: [usize; 13], t: usize) -> bool
@@ -142,91 +214,102 @@ fn has_room(used: [usize; 13], t: usize) -> bool
     used[t] < most(t)
 }
 
-// The number that refuses a frame after those held, or 0.
-fn refusal(frame: Frame, held: &Held) -> u8
-    ensures { Judges held.now frame result }
+// What refuses a frame after those held, if anything does.
+fn refused_by(frame: Frame, held: &Held) -> Option<Refusal>
+    ensures { Judges held.now frame (numberOf result) }
 {
     let counts = held.counts;
     let used = held.used;
     let begun = 0 < held.lines;
     match frame {
-        Frame::BadLine => 9,
-        Frame::BadFrame => 10,
+        Frame::BadLine => Some(Refusal::BadLine),
+        Frame::BadFrame => Some(Refusal::BadFrame),
         Frame::Declared(c) => {
             if begun {
-                return 11;
+                return Some(Refusal::OutOfPlace);
             }
-            if c.fit() { 0 } else { 4 }
+            if c.fit() {
+                None
+            } else {
+                Some(Refusal::BadCount)
+            }
         }
         Frame::ConceptRule(c, d) => judge(
             begun,
-            has_room(used, 2),
+            has_room(used, kind::CONCEPT_RULE),
             c.declared(counts) & d.declared(counts),
             true,
             true,
         ),
         Frame::ConceptExclusion(c, d) => judge(
             begun,
-            has_room(used, 3),
+            has_room(used, kind::CONCEPT_EXCLUSION),
             c.declared(counts) & d.declared(counts),
             true,
             true,
         ),
         Frame::RoleRule(r, s) => judge(
             begun,
-            has_room(used, 4),
+            has_room(used, kind::ROLE_RULE),
             r.declared(counts) & s.declared(counts),
             true,
             true,
         ),
         Frame::RoleExclusion(r, s) => judge(
             begun,
-            has_room(used, 5),
+            has_room(used, kind::ROLE_EXCLUSION),
             r.declared(counts) & s.declared(counts),
             true,
             true,
         ),
         Frame::ConceptFact(a, i) => judge(
             begun,
-            has_room(used, 6),
+            has_room(used, kind::CONCEPT_FACT),
             a.declared(counts) & i.declared(counts),
             true,
             true,
         ),
         Frame::RoleFact(r, i, j) => judge(
             begun,
-            has_room(used, 7),
+            has_room(used, kind::ROLE_FACT),
             r.declared(counts) & i.declared(counts) & j.declared(counts),
             i.0 != j.0,
             true,
         ),
         Frame::RoleStep(s, r, t) => judge(
             begun,
-            has_room(used, 8),
+            has_room(used, kind::STEP),
             s.declared(counts) & r.declared(counts) & t.declared(counts),
             true,
             true,
         ),
         Frame::TestStep(s, a, t) => judge(
             begun,
-            has_room(used, 8),
+            has_room(used, kind::STEP),
             s.declared(counts) & a.declared(counts) & t.declared(counts),
             true,
             true,
         ),
-        Frame::Final(s) => judge(begun, has_room(used, 10), s.declared(counts), true, true),
+        Frame::Final(s) => judge(
+            begun,
+            has_room(used, kind::FINAL),
+            s.declared(counts),
+            true,
+            true,
+        ),
         Frame::Ask(i, j) => judge(
             begun,
-            has_room(used, 11),
+            has_room(used, kind::ASK),
             true,
             true,
             i.declared(counts) & j.declared(counts),
         ),
         Frame::Allowance(_) => {
-            if !begun {
-                return 11;
+            if begun & (used[kind::ALLOWANCE] == 0) {
+                None
+            } else {
+                Some(Refusal::OutOfPlace)
             }
-            if used[12] == 0 { 0 } else { 11 }
         }
     }
 }
@@ -256,52 +339,52 @@ fn row_of(frame: Frame) -> Row
         Frame::Declared(c) => {
             let start = c.start;
             Row {
-                table: 1,
+                table: kind::COUNTS,
                 values: [c.names, c.roles, c.individuals, c.states, start.0],
             }
         }
         Frame::ConceptRule(c, d) => Row {
-            table: 2,
+            table: kind::CONCEPT_RULE,
             values: [number(c), number(d), 0, 0, 0],
         },
         Frame::ConceptExclusion(c, d) => Row {
-            table: 3,
+            table: kind::CONCEPT_EXCLUSION,
             values: [number(c), number(d), 0, 0, 0],
         },
         Frame::RoleRule(r, s) => Row {
-            table: 4,
+            table: kind::ROLE_RULE,
             values: [r.0, s.0, 0, 0, 0],
         },
         Frame::RoleExclusion(r, s) => Row {
-            table: 5,
+            table: kind::ROLE_EXCLUSION,
             values: [r.0, s.0, 0, 0, 0],
         },
         Frame::ConceptFact(a, i) => Row {
-            table: 6,
+            table: kind::CONCEPT_FACT,
             values: [a.0, i.0, 0, 0, 0],
         },
         Frame::RoleFact(r, i, j) => Row {
-            table: 7,
+            table: kind::ROLE_FACT,
             values: [r.0, i.0, j.0, 0, 0],
         },
         Frame::RoleStep(s, r, t) => Row {
-            table: 8,
+            table: kind::STEP,
             values: [0, s.0, r.0, t.0, 0],
         },
         Frame::TestStep(s, a, t) => Row {
-            table: 8,
+            table: kind::STEP,
             values: [1, s.0, a.0, t.0, 0],
         },
         Frame::Final(s) => Row {
-            table: 10,
+            table: kind::FINAL,
             values: [s.0, 0, 0, 0, 0],
         },
         Frame::Ask(i, j) => Row {
-            table: 11,
+            table: kind::ASK,
             values: [i.0, j.0, 0, 0, 0],
         },
         Frame::Allowance(n) => Row {
-            table: 12,
+            table: kind::ALLOWANCE,
             values: [n, 0, 0, 0, 0],
         },
     }
@@ -321,7 +404,7 @@ fn put(store: &mut [u16], at: usize, values: [u16; 5], n: usize)
 fn counts_after(t: usize, v: [u16; 5], counts: Counts) -> Counts
     ensures { result ≡ keptCounts t v counts }
 {
-    if t == 1 {
+    if t == kind::COUNTS {
         return Counts {
             names: v[0],
             roles: v[1],
@@ -336,7 +419,7 @@ fn counts_after(t: usize, v: [u16; 5], counts: Counts) -> Counts
 fn allowance_after(t: usize, v: [u16; 5], allowance: Rounds) -> Rounds
     ensures { result ≡ keptAllowance t v allowance }
 {
-    if t == 12 {
+    if t == kind::ALLOWANCE {
         return v[0];
     }
     allowance
@@ -402,30 +485,35 @@ fn frame_at(input: &[u8], from: usize, to: usize) -> Frame
     read(&input[from..to])
 }
 
-// A whole input read into the store. A store of another length is refused with number 5.
-pub fn read_file(input: &[u8], store: &mut [u16]) -> Read
+// A whole input read into the store, up to its first faulty line. A store of another length is refused as a bad table.
+pub fn read_file(input: &[u8], store: &mut [u16]) -> Result<Held, Fault>
     ensures { Reads input.now store.old result store.new }
 {
     let mut held = nothing();
     if store.len() != STORE {
-        return Read { held, number: 5 };
+        return Err(Fault {
+            held,
+            refusal: Refusal::BadTable,
+        });
     }
     let mut at = 0;
     while at < input.len() {
         let end = line_end(input, at);
         let frame = frame_at(input, at, end);
-        let number = refusal(frame, &held);
-        if number != 0 {
-            return Read { held, number };
+        if let Some(refusal) = refused_by(frame, &held) {
+            return Err(Fault { held, refusal });
         }
         let next = keep(row_of(frame), held, store);
         held = next;
         at = end + 1;
     }
     if held.lines == 0 {
-        return Read { held, number: 11 };
+        return Err(Fault {
+            held,
+            refusal: Refusal::OutOfPlace,
+        });
     }
-    Read { held, number: 0 }
+    Ok(held)
 }
 
 // The records of a table in the store, by their number; nothing where there is no such table, or no room for them.

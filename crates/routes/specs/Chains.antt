@@ -4,7 +4,7 @@ use Rattle.std.proofs.Common.{sym, ◌∙◌, arith, length-set, get_or-set_same
 use Rattle.std.proofs.Math.Decide.{ℕ_discrete}
 use Rattle.std.proofs.lemmas.List.{length-replicate, get_or-replicate}
 use Rattle.kinds.specs.Kinds.{mostIndividuals}
-use Rattle.routes.specs.Routes.{hops, noHop, source, FirstHop, found, none, linkCount, Links}
+use Rattle.routes.specs.Routes.{hops, noHop, source, FirstHop, found, none, linkCount}
 
 -- heads are the first hops from i on, those hops have their next, and the places below i are as they were
 pub record LinksFrom (facts : List ℕ) (i : ℕ) (r : List ℕ) : Type 0 where
@@ -35,15 +35,6 @@ module _ (facts : List ℕ) where
     where
       blank : (p : ℕ) → p < linkCount → get_or (replicate linkCount noHop) p 0 ≡ noHop
       blank p h = get_or-replicate linkCount p noHop 0 h
-
-  -- all are done
-  pub links-all : (i : ℕ) (r : List ℕ) → i ≡ 0 → LinksFrom facts i r → Links facts r
-  links-all i r e l = record {
-    first = λ a h. rw e at (l.first a h);
-    next = λ h k s. l.next h (omega arith) k s;
-    stray = λ h k s. l.stray h (omega arith) k s;
-    rest = l.rest;
-  }
 
   -- the hops from h on are those after h - 1, whose turn comes
   pub one_left : (h : ℕ) (r : List ℕ) → 0 < h → LinksFrom facts h r → LinksFrom facts (h - 1 + 1) r

@@ -1,18 +1,14 @@
 -- What the functions of a round make, from what the functions below them made.
-use Rattle.std.specs.Prelude.{◌≡◌, Bool, false, ◌&&◌, List, [], ℕ, ◌+◌, ◌*◌, ◌/◌, ◌%◌, ◌≤◌, ◌<◌, length, get_or}
-use Rattle.std.proofs.Common.{sym, ◌∙◌, arith}
-use Rattle.std.proofs.lemmas.Bool.{false≢true}
-use Rattle.kinds.specs.declared.State.{State}
-use Rattle.kinds.specs.declared.ConceptName.{ConceptName}
+use Rattle.std.specs.Prelude.{◌≡◌, Bool, false, List, [], ℕ, ◌+◌, ◌*◌, ◌/◌, ◌%◌, ◌<◌, length, get_or}
+use Rattle.std.proofs.Common.{arith}
 use Rattle.kinds.specs.declared.Counts.{Counts}
-use Rattle.kinds.specs.Kinds.{flip, conceptOf, ConceptDeclared}
+use Rattle.kinds.specs.Kinds.{flip}
 use Rattle.laws.specs.Exactly.{Exactly, exactly-same}
-use Rattle.laws.specs.Adds.{Adds, Upto, adds_none, adds_same, adds_then}
-use Rattle.laws.specs.Found.{Some, found-both, found-self}
-use Rattle.laws.specs.Marks.{mark}
+use Rattle.laws.specs.Adds.{Adds, Upto, adds_same, adds_then}
+use Rattle.laws.specs.Found.{Some}
 use Rattle.sheet.specs.Below.{Below, BelowRow, BelowRows}
-use Rattle.sheet.specs.Rules.{RowTurn, JoinPair, Column, Meets, Product, PairAt, HangTurn}
-use Rattle.sheet.specs.Places.{TestPlace, TestTurn, Leads, HangPlace, RoundPlace}
+use Rattle.sheet.specs.Rules.{JoinPair, Column, Meets, Product, HangTurn}
+use Rattle.sheet.specs.Places.{TestTurn, Leads, HangPlace, RoundPlace}
 
 -- the product of the way down with the old marks, and then with the way up
 module _ (down : List Bool) (old : List ℕ) (e : ℕ) (up marked half leads : List Bool) (old-marks : Column old e marked) (first : Product down marked half) (second : Product half up leads) where
@@ -73,39 +69,8 @@ hang-made below ways states r old back marked half leads e old-marks first secon
     from : (p : ℕ) → HangPlace below ways states old r p → Upto (HangTurn leads (get_or below (64 + r) []) states) 256 p
     from p w = (w.q, w.q-low, record { leads-there = (is w.q w.q-low).shows w.leads; from = w.from-declared; to = w.to-declared; place = w.place })
 
--- a role with no way down
-pub no-way-down : (below ways : List (List Bool)) (states r : ℕ) (old l : List ℕ) {any : Bool} → Exactly any (Some (PairAt (get_or ways r [])) 256) → any ≡ false
-    → Adds (HangPlace below ways states old r) l l
-no-way-down below ways states r old l test none =
-    adds_none l (λ p w.
-    let h = w.q-low in
-    let k = w.leads.x-low in
-    false≢true (sym none ∙ test.shows (16 * (w.q / 16) + w.leads.x, omega arith, record { leads = w.leads.goes_down })))
-
--- a test step that adds nothing, and one that adds its row
-module _ (below : List (List Bool)) (states kind : ℕ) (from : State) (by : ConceptName) (to : State) where
-  pub no_test : (l : List ℕ) → (kind ≡ 1 → ⊥) → Adds (TestPlace below states kind from by to) l l
-  no_test l ne = adds_none l (λ p w. ne w.test)
-
-  pub from-undeclared : (l : List ℕ) → states ≤ from.0 → Adds (TestPlace below states kind from by to) l l
-  from-undeclared l h = adds_none l (λ p w. let k = w.from-declared in omega arith)
-
-  pub to-undeclared : (l : List ℕ) → states ≤ to.0 → Adds (TestPlace below states kind from by to) l l
-  to-undeclared l h = adds_none l (λ p w. let k = w.to-declared in omega arith)
-
-  pub no_name : (l : List ℕ) → 128 ≤ by.0 → Adds (TestPlace below states kind from by to) l l
-  no_name l h = adds_none l (λ p w. let k = w.named in omega arith)
-
-  pub test-made : {l m : List ℕ} (s t a : ℕ) → s ≡ from.0 → t ≡ to.0 → a ≡ by.0 → kind ≡ 1 → s < states → t < states → a < 128
-      → Adds (Upto (RowTurn ((16 * s + t) * 128) (get_or below a [])) 128) l m → Adds (TestPlace below states kind from by to) l m
-  test-made s t a es et ea k hs ht ha d =
-      adds_same (λ p w. record { test = k; from-declared = rw (← es) hs; to-declared = rw (← et) ht; named = rw (← ea) ha; place = rw (es, et, ea) at w }) (λ p w. let v = w.place in rw (← es, ← et, ← ea) at v) d
-
 pub below_row : (order : List (List Bool)) (d : ℕ) (c : Counts) (r : List Bool) → ((b : ℕ) → b < 128 → Exactly (get_or r b false) (Below order c d b)) → BelowRow order d c r
 below_row order d c r h = record { at = h }
-
-pub below-turn : (order : List (List Bool)) (d b : ℕ) (c : Counts) {known : Bool} → Exactly known (ConceptDeclared c (conceptOf b)) → Exactly (mark order b d && known) (Below order c d b)
-below-turn order d b c k = found-both (found-self (mark order b d)) k
 
 pub below_rows : (order : List (List Bool)) (c : Counts) (r : List (List Bool)) → ((d : ℕ) → d < 128 → BelowRow order d c (get_or r d [])) → BelowRows order c r
 below_rows order c r h = record { at = λ d b hd hb. (h d hd).at b hb }

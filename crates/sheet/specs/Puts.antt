@@ -1,5 +1,5 @@
 -- Marks that are put at some places of a row, every other mark left as it was: what loops over a table of pairs of states keep.
-use Rattle.std.specs.Prelude.{◌≡◌, refl, Bool, true, false, ◌||◌, ◌⊎◌, List, ℕ, ◌+◌, ◌<◌, length, get_or, set, replicate}
+use Rattle.std.specs.Prelude.{◌≡◌, refl, Bool, true, false, ◌||◌, ◌⊎◌, List, ℕ, ◌<◌, length, get_or, set, replicate}
 use Rattle.std.proofs.Common.{sym, ◌∙◌, inl, inr, ⊎_elim, arith, length-set, get_or-set_same, get_or-set_other}
 use Rattle.std.proofs.lemmas.Bool.{false≢true}
 use Rattle.std.proofs.Math.Decide.{ℕ_discrete}
@@ -36,34 +36,6 @@ puts-same to from a = record {
   long = a.long;
   at = λ p h. exactly-same (a.at p h) (⊎_elim (λ e. inl e) (λ q. inr (to p q))) (⊎_elim (λ e. inl e) (λ q. inr (from p q)));
 }
-
--- one after the other
-puts_then : {P Q : ℕ → Type 0} {l m n : List Bool} → Puts P l m → Puts Q m n → Puts (λ p. P p ⊎ Q p) l n
-puts_then a b = record {
-  long = b.long ∙ a.long;
-  at = λ p h.
-      exactly-same (b.at p (omega (arith, a.long)))
-      (⊎_elim (λ e. ⊎_elim (λ q. inl q) (λ q. inr (inl q)) ((a.at p h).holds e)) (λ q. inr (inr q)))
-      (⊎_elim (λ e. inl ((a.at p h).shows (inl e))) (⊎_elim (λ q. inl ((a.at p h).shows (inr q))) (λ q. inr q)));
-}
-
--- no turn, one turn more, all turns
-pub puts-start : (F : ℕ → ℕ → Type 0) (l : List Bool) → Puts (Upto F 0) l l
-puts-start F l = puts_none l (λ p w. let h = w.1 in omega arith)
-
-pub puts-more : (F : ℕ → ℕ → Type 0) {l m n : List Bool} (k : ℕ) → Puts (Upto F k) l m → Puts (F k) m n → Puts (Upto F (k + 1)) l n
-puts-more F k a b = puts-same to from (puts_then a b)
-  where
-    to : (p : ℕ) → Upto F k p ⊎ F k p → Upto F (k + 1) p
-    to p (inl w) = (w.0, (let h = w.1 in omega arith), w.2)
-    to p (inr h) = (k, omega arith, h)
-
-    from : (p : ℕ) → Upto F (k + 1) p → Upto F k p ⊎ F k p
-    from p w = side (ℕ_discrete w.0 k)
-      where
-        side : Dec (w.0 ≡ k) → Upto F k p ⊎ F k p
-        side (yes e) = let h = w.2 in inr (rw e at h)
-        side (no ne) = inl (w.0, (let h = w.1 in omega arith), w.2)
 
 pub puts-end : (F : ℕ → ℕ → Type 0) {l m : List Bool} (k n : ℕ) → k ≡ n → Puts (Upto F k) l m → Puts (Upto F n) l m
 puts-end F k n e a = rw e at a

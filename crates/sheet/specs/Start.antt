@@ -1,15 +1,12 @@
 -- The places of round 0, and an area that holds them.
-use Rattle.std.specs.Prelude.{◌≡◌, refl, Bool, true, false, List, ℕ, ◌+◌, ◌*◌, ◌/◌, ◌%◌, ◌≤◌, ◌<◌, length}
+use Rattle.std.specs.Prelude.{◌≡◌, refl, Bool, List, ℕ, ◌+◌, ◌*◌, ◌/◌, ◌%◌, ◌≤◌, ◌<◌, length}
 use Rattle.std.proofs.Common.{sym, ap, ◌∙◌, arith}
-use Rattle.std.proofs.lemmas.Bool.{false≢true}
 use Rattle.std.proofs.Math.Decide.{dec_lt}
 use Rattle.std.proofs.Math.ListN.{get_or, get_or-eq_default}
 use Rattle.kinds.specs.declared.State.{State}
 use Rattle.kinds.specs.declared.Concept.{Concept}
 use Rattle.kinds.specs.declared.Counts.{Counts}
 use Rattle.kinds.specs.Kinds.{state, number_of, conceptOf, number-concept, concept-number, CountsFit, ConceptDeclared}
-use Rattle.laws.specs.Exactly.{Exactly}
-use Rattle.laws.specs.Search.{pick}
 use Rattle.meaning.specs.Kind.{Kind}
 use Rattle.meaning.specs.Sheet.{Mark}
 use Rattle.meaning.specs.Layout.{place, Lays}
@@ -29,16 +26,9 @@ pub record Byte (P : Type 0) (x : ℕ) : Type 0 where
   pub is : x ≡ 1 → P
   pub shows : P → x ≡ 1
 
-pub raised_byte : {P : Type 0} (on : Bool) (x : ℕ) → Exactly on P → x ≡ pick on 1 0 → Byte P x
-raised_byte true x t e = record { low = omega arith; is = λ q. t.holds refl; shows = λ h. e }
-raised_byte false x t e = record { low = omega arith; is = λ q. absurd (omega arith); shows = λ h. absurd (false≢true (t.shows h)) }
-
 pub record Started (c : Counts) (area : List ℕ) : Type 0 where
   pub long : length area ≡ 32768
   pub each : (p : ℕ) → p < 32768 → Byte (FirstPlace c p) (get_or area p 0)
-
-pub started : (c : Counts) (area : List ℕ) → length area ≡ 32768 → ((p : ℕ) → p < 32768 → Byte (FirstPlace c p) (get_or area p 0)) → Started c area
-started c area l h = record { long = l; each = h }
 
 last-digit : (p s t : ℕ) → p ≡ 16 * s + t → t < 16 → p % 16 ≡ t
 last-digit p s t e h = omega arith

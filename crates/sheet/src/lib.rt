@@ -1,7 +1,7 @@
 // The loop sheet in the lent areas: one round, and rounds against an allowance.
 #![tactic(auto)]
 
-ghost use Rattle.std.specs.Prelude.{◌≡◌, true, false, ◌+◌, ◌*◌, ◌/◌, ◌<◌, ◌≤◌, length, replicate};
+ghost use Rattle.std.specs.Prelude.{◌≡◌, true, false, ◌+◌, ◌*◌, ◌/◌, ◌<◌, ◌≤◌, length};
 ghost use Rattle.laws.specs.Exactly.{Exactly};
 ghost use Rattle.laws.specs.Search.{pick};
 ghost use Rattle.laws.specs.Adds.{Adds, Upto};
@@ -17,8 +17,10 @@ ghost use Rattle.sheet.specs.Places.{TestPlace, TestTurn, HangPlace, RoundPlace}
 ghost use Rattle.sheet.specs.Puts.{Puts};
 ghost use Rattle.sheet.specs.Rules.{RowTurn, MarkAt, Filled, JoinTurn, JoinVia, JoinPair, Column, StateTurn, Product, PairAt, HangAt, HangTurn};
 
-use kinds::{Concept, ConceptName, Counts, Rounds, State};
+use kinds::{Concept, ConceptName, Counts, Rounds, SignedRole, State};
+use orders::ConceptRows;
 use tables::AREA;
+use ways::WayRows;
 
 // How rounds end: counts or areas that do not fit, a sheet that no longer changes after so many, or an allowance spent before.
 #[derive(Drop)]
@@ -36,11 +38,11 @@ fn raised(x: u8, on: bool) -> u8
 }
 
 // A 1 wherever the row has a mark.
-fn add_row(new: &mut [u8], at: usize, row: [bool; 128])
+fn add_row(new: &mut [u8], at: usize, row: [bool; Concept::NUMBERS])
     requires { at + 128 ≤ length new.old }
     ensures { Adds (Upto (RowTurn at row) 128) new.old new.new }
 {
-    for b in 0..128 {
+    for b in 0..Concept::NUMBERS {
         let p = at + b;
         new[p] = raised(new[p], row[b]);
     }
@@ -51,7 +53,7 @@ fn join_rows(new: &mut [u8], old: &[u8], at: usize, i: usize, j: usize)
     requires { (at + 128 ≤ length new.old) × (i + 128 ≤ length old.now) × (j + 128 ≤ length old.now) }
     ensures { Adds (Upto (JoinTurn old.now at i j) 128) new.old new.new }
 {
-    for b in 0..128 {
+    for b in 0..Concept::NUMBERS {
         let p = at + b;
         let one = old[i + b] == 1;
         let other = old[j + b] == 1;
@@ -64,39 +66,34 @@ fn has_mark(old: &[u8], at: usize) -> bool
     requires { at + 128 ≤ length old.now }
     ensures { Exactly result (Some (MarkAt old.now at) 128) }
 {
-    let mut found = false;
-    for b in 0..128 {
-        let marked = old[at + b] == 1;
-        found = found | marked;
-    }
-    found
+    old[at..at + Concept::NUMBERS].contains(&1)
 }
 
 // The pairs of states that have one: two of which one has none need not be joined.
-fn filled(old: &[u8]) -> [bool; 256]
+fn filled(old: &[u8]) -> [bool; State::PAIRS]
     requires { length old.now ≡ areaLength }
     ensures { Filled old.now result }
 {
-    let mut out = [false; 256];
-    for q in 0..256 {
-        out[q] = has_mark(old, q * 128);
+    let mut out = [false; State::PAIRS];
+    for q in 0..State::PAIRS {
+        out[q] = has_mark(old, q * Concept::NUMBERS);
     }
     out
 }
 
 // The marks (s, v) and (v, t) of the old sheet meet, for some state v.
-fn join_at(new: &mut [u8], old: &[u8], pairs: &[bool; 256], s: usize, t: usize)
+fn join_at(new: &mut [u8], old: &[u8], pairs: &[bool; State::PAIRS], s: usize, t: usize)
     requires { (s < 16) × (t < 16) × (length new.old ≡ areaLength) × (length old.now ≡ areaLength) × Filled old.now pairs.now }
     ensures { Adds (Upto (JoinVia old.now s t) 16) new.old new.new }
 {
-    for v in 0..16 {
-        if pairs[16 * s + v] & pairs[16 * v + t] {
+    for v in 0..State::NUMBERS {
+        if pairs[State::NUMBERS * s + v] & pairs[State::NUMBERS * v + t] {
             join_rows(
                 new,
                 old,
-                (16 * s + t) * 128,
-                (16 * s + v) * 128,
-                (16 * v + t) * 128,
+                (State::NUMBERS * s + t) * Concept::NUMBERS,
+                (State::NUMBERS * s + v) * Concept::NUMBERS,
+                (State::NUMBERS * v + t) * Concept::NUMBERS,
             );
         }
     }
@@ -107,84 +104,78 @@ fn joins(new: &mut [u8], old: &[u8])
     ensures { Adds (Upto (JoinPair old.now) 256) new.old new.new }
 {
     let pairs = filled(old);
-    for q in 0..256 {
-        join_at(new, old, &pairs, q / 16, q % 16);
+    for q in 0..State::PAIRS {
+        join_at(new, old, &pairs, q / State::NUMBERS, q % State::NUMBERS);
     }
 }
 
 // The marks of the old sheet at the concept e, a table of pairs of states.
-fn column(old: &[u8], e: usize) -> [bool; 256]
+fn column(old: &[u8], e: usize) -> [bool; State::PAIRS]
     requires { (e < 128) × (length old.now ≡ areaLength) }
     ensures { Column old.now e result }
 {
-    let mut out = [false; 256];
-    for q in 0..256 {
-        out[q] = old[q * 128 + e] == 1;
+    let mut out = [false; State::PAIRS];
+    for q in 0..State::PAIRS {
+        out[q] = old[q * Concept::NUMBERS + e] == 1;
     }
     out
 }
 
 // The 16 marks of b from a place on, put into those of out from another: a whole row of states at a time.
-fn put_states(out: &mut [bool; 256], b: &[bool; 256], at: usize, from: usize)
+fn put_states(out: &mut [bool; State::PAIRS], b: &[bool; State::PAIRS], at: usize, from: usize)
     requires { (at + 16 ≤ 256) × (from + 16 ≤ 256) × (length out.old ≡ 256) }
     ensures { Puts (Upto (StateTurn b.now at from) 16) out.old out.new }
 {
-    for t in 0..16 {
-        let p = at + t;
-        let old = out[p];
-        out[p] = old | b[from + t];
+    for t in 0..State::NUMBERS {
+        out[at + t] |= b[from + t];
     }
 }
 
 // Where a leads from s to some y, and b from there to t. Only the pairs by which a leads are followed further.
-fn product(a: &[bool; 256], b: &[bool; 256]) -> [bool; 256]
+fn product(a: &[bool; State::PAIRS], b: &[bool; State::PAIRS]) -> [bool; State::PAIRS]
     ensures { Product a.now b.now result }
 {
-    let mut out = [false; 256];
-    for q in 0..256 {
+    let mut out = [false; State::PAIRS];
+    for q in 0..State::PAIRS {
         if a[q] {
-            put_states(&mut out, b, 16 * (q / 16), 16 * (q % 16));
+            let s = q / State::NUMBERS;
+            let y = q % State::NUMBERS;
+            put_states(&mut out, b, State::NUMBERS * s, State::NUMBERS * y);
         }
     }
     out
 }
 
 // A table of pairs of states has a mark.
-fn any_pair(table: &[bool; 256]) -> bool
+fn any_pair(table: &[bool; State::PAIRS]) -> bool
     ensures { Exactly result (Some (PairAt table.now) 256) }
 {
-    let mut found = false;
-    for q in 0..256 {
-        found = found | table[q];
-    }
-    found
+    table.contains(&true)
 }
 
 // The concepts of the row are marked at the pair of states q, where the role leads there and both are declared.
-fn hang_at(new: &mut [u8], row: [bool; 128], states: usize, q: usize, on: bool)
+fn hang_at(new: &mut [u8], row: [bool; Concept::NUMBERS], states: usize, q: usize, on: bool)
     requires { (q < 256) × (length new.old ≡ areaLength) }
     ensures { Adds (HangAt on row states q) new.old new.new }
 {
-    if !on {
-        return;
+    if on && q / State::NUMBERS < states && q % State::NUMBERS < states {
+        add_row(new, q * Concept::NUMBERS, row);
     }
-    if q / 16 >= states {
-        return;
-    }
-    if q % 16 >= states {
-        return;
-    }
-    add_row(new, q * 128, row);
 }
 
-fn hang_role(new: &mut [u8], leads: &[bool; 256], row: [bool; 128], states: usize)
+fn hang_role(
+    new: &mut [u8],
+    leads: &[bool; State::PAIRS],
+    row: [bool; Concept::NUMBERS],
+    states: usize,
+)
     requires { length new.old ≡ areaLength }
     ensures { Adds (Upto (HangTurn leads.now row states) 256) new.old new.new }
 {
     if !any_pair(leads) {
         return;
     }
-    for q in 0..256 {
+    for q in 0..State::PAIRS {
         hang_at(new, row, states, q, leads[q]);
     }
 }
@@ -208,25 +199,23 @@ fn valid(b: usize, counts: Counts) -> bool
 }
 
 // The valid concepts from which d follows. The order is lent, as it is read once for each of 128 rows.
-fn below_row(order: &[[bool; 128]; 128], d: usize, counts: Counts) -> [bool; 128]
+fn below_row(order: &ConceptRows, d: usize, counts: Counts) -> [bool; Concept::NUMBERS]
     requires { d < 128 }
     ensures { BelowRow order.now d counts result }
 {
-    let mut out = [false; 128];
-    for b in 0..128 {
-        let row = order[b];
-        let known = valid(b, counts);
-        out[b] = row[d] & known;
+    let mut out = [false; Concept::NUMBERS];
+    for b in 0..Concept::NUMBERS {
+        out[b] = order[b][d] & valid(b, counts);
     }
     out
 }
 
-fn below_rows(order: [[bool; 128]; 128], counts: Counts) -> [[bool; 128]; 128]
+fn below_rows(order: ConceptRows, counts: Counts) -> ConceptRows
     ensures { BelowRows order counts result }
 {
-    let blank = [false; 128];
-    let mut out = [blank; 128];
-    for d in 0..128 {
+    let blank = [false; Concept::NUMBERS];
+    let mut out = [blank; Concept::NUMBERS];
+    for d in 0..Concept::NUMBERS {
         out[d] = below_row(&order, d, counts);
     }
     out
@@ -235,7 +224,7 @@ fn below_rows(order: [[bool; 128]; 128], counts: Counts) -> [[bool; 128]; 128]
 // One test step: every concept below its name is marked. The rows are lent: a copy for each step of each round would be 16 KB.
 fn test_one(
     new: &mut [u8],
-    below: &[[bool; 128]; 128],
+    below: &ConceptRows,
     states: usize,
     kind: u16,
     from: State,
@@ -245,26 +234,15 @@ fn test_one(
     requires { (length new.old ≡ areaLength) × (states ≤ 16) }
     ensures { Adds (TestPlace below.now states kind from by to) new.old new.new }
 {
-    if kind != 1 {
-        return;
-    }
     let s = from.0 as usize;
-    if s >= states {
-        return;
-    }
-    let t = to.0 as usize;
-    if t >= states {
-        return;
-    }
     let a = by.0 as usize;
-    if a >= 128 {
-        return;
+    let t = to.0 as usize;
+    if kind == 1 && s < states && a < Concept::NUMBERS && t < states {
+        add_row(new, (State::NUMBERS * s + t) * Concept::NUMBERS, below[a]);
     }
-    let row = below[a];
-    add_row(new, (16 * s + t) * 128, row);
 }
 
-fn tests(new: &mut [u8], below: &[[bool; 128]; 128], states: usize, steps: &[u16])
+fn tests(new: &mut [u8], below: &ConceptRows, states: usize, steps: &[u16])
     requires { (length new.old ≡ areaLength) × (states ≤ 16) }
     ensures { Adds (Upto (TestTurn below.now states steps.now) (length steps.now / 4)) new.old new.new }
 {
@@ -284,14 +262,7 @@ fn tests(new: &mut [u8], below: &[[bool; 128]; 128], states: usize, steps: &[u16
 }
 
 // Down by a role, a mark of the old sheet at the child, and back up. A role that no step goes down by adds nothing.
-fn hang(
-    new: &mut [u8],
-    old: &[u8],
-    below: &[[bool; 128]; 128],
-    ways: &[[bool; 256]; 64],
-    states: usize,
-    r: usize,
-)
+fn hang(new: &mut [u8], old: &[u8], below: &ConceptRows, ways: &WayRows, states: usize, r: usize)
     requires { (r < 64) × (length new.old ≡ areaLength) × (length old.now ≡ areaLength) }
     ensures { Adds (HangPlace below.now ways.now states old.now r) new.old new.new }
 {
@@ -301,34 +272,18 @@ fn hang(
     }
     let back = turned(r);
     let up = ways[back];
-    let marked = column(old, 64 + back);
+    let marked = column(old, Concept::BASE as usize + back);
     let half = product(&down, &marked);
     let leads = product(&half, &up);
-    hang_role(new, &leads, below[64 + r], states);
+    hang_role(new, &leads, below[Concept::BASE as usize + r], states);
 }
 
-fn hangs(
-    new: &mut [u8],
-    old: &[u8],
-    below: &[[bool; 128]; 128],
-    ways: &[[bool; 256]; 64],
-    states: usize,
-)
+fn hangs(new: &mut [u8], old: &[u8], below: &ConceptRows, ways: &WayRows, states: usize)
     requires { (length new.old ≡ areaLength) × (length old.now ≡ areaLength) }
     ensures { Adds (Upto (HangPlace below.now ways.now states old.now) 64) new.old new.new }
 {
-    for r in 0..64 {
+    for r in 0..SignedRole::NUMBERS {
         hang(new, old, below, ways, states, r);
-    }
-}
-
-fn copy(new: &mut [u8], old: &[u8])
-    requires { length new.old ≡ length old.now }
-    ensures { new.new ≡ old.now }
-{
-    let n = old.len();
-    for i in 0..n {
-        new[i] = old[i];
     }
 }
 
@@ -336,15 +291,15 @@ fn copy(new: &mut [u8], old: &[u8])
 fn round(
     new: &mut [u8],
     old: &[u8],
-    below: &[[bool; 128]; 128],
-    ways: &[[bool; 256]; 64],
+    below: &ConceptRows,
+    ways: &WayRows,
     states: usize,
     steps: &[u16],
 )
     requires { (length new.old ≡ areaLength) × (length old.now ≡ areaLength) × (states ≤ 16) }
     ensures { Adds (RoundPlace below.now ways.now states steps.now old.now) old.now new.new }
 {
-    copy(new, old);
+    new.copy_from_slice(old);
     tests(new, below, states, steps);
     joins(new, old);
     hangs(new, old, below, ways, states);
@@ -355,14 +310,9 @@ fn first_mark(p: usize, counts: Counts) -> bool
     requires { p < areaLength }
     ensures { Exactly result (FirstPlace counts p) }
 {
-    let s = p / 2048;
-    if s != p / 128 % 16 {
-        return false;
-    }
-    if s >= counts.states as usize {
-        return false;
-    }
-    valid(p % 128, counts)
+    let pair = p / Concept::NUMBERS;
+    let s = pair / State::NUMBERS;
+    s == pair % State::NUMBERS && s < counts.states as usize && valid(p % Concept::NUMBERS, counts)
 }
 
 fn start(area: &mut [u8], counts: Counts)
@@ -374,35 +324,19 @@ fn start(area: &mut [u8], counts: Counts)
     }
 }
 
-// Without a way out of the loop the compiler compares many bytes at a time.
 fn same(a: &[u8], b: &[u8]) -> bool
     requires { length a.now ≡ length b.now }
     ensures { Exactly result (a.now ≡ b.now) }
 {
-    let n = a.len();
-    let mut equal = true;
-    for i in 0..n {
-        let here = a[i] == b[i];
-        equal = equal & here;
-    }
-    equal
-}
-
-fn clear(a: &mut [u8])
-    ensures { a.new ≡ replicate (length a.old) 0 }
-{
-    let n = a.len();
-    for i in 0..n {
-        a[i] = 0;
-    }
+    a == b
 }
 
 // Rounds from the sheet of round 0 on, until one changes nothing or the allowance is spent.
 fn rounds(
     first: &mut [u8],
     second: &mut [u8],
-    order: [[bool; 128]; 128],
-    ways: [[bool; 256]; 64],
+    order: ConceptRows,
+    ways: WayRows,
     counts: Counts,
     steps: &[u16],
     allowance: Rounds,
@@ -416,15 +350,15 @@ fn rounds(
     loop {
         round(second, first, &below, &ways, states, steps);
         if same(first, second) {
-            clear(second);
+            second.fill(0);
             return Ran::Needed(n);
         }
         let spent = n == allowance;
         if spent {
-            clear(second);
+            second.fill(0);
             return Ran::Spent;
         }
-        copy(first, second);
+        first.copy_from_slice(second);
         n += 1;
     }
 }
@@ -440,8 +374,8 @@ fn fits(counts: Counts, first: &[u8], second: &[u8]) -> bool
 pub fn run(
     first: &mut [u8],
     second: &mut [u8],
-    order: [[bool; 128]; 128],
-    ways: [[bool; 256]; 64],
+    order: ConceptRows,
+    ways: WayRows,
     counts: Counts,
     steps: &[u16],
     allowance: Rounds,

@@ -5,20 +5,21 @@ use Rattle.kinds.specs.declared.Counts.{Counts}
 use Rattle.kinds.specs.Kinds.{CountsFit, IndividualDeclared}
 use Rattle.meaning.specs.Collection.{Each, LetterDeclared, StepDeclared}
 use Rattle.meaning.specs.Lent.{Tables, records, stepWidth, letterOf, stepAt, kinds, TablesFit, NumbersFit, EndsFit}
+use Rattle.tables.specs.declared.Tables as code
 use Rattle.tables.specs.declared.Checked.{Checked}
 use Rattle.tables.specs.declared.Checked.TheVariants.{Sound, BadCount, BadTable, BadNumber, EqualEnds}
 
--- the eight tables, as a call lends them
-abbrev pub lent : List ℕ → List ℕ → List ℕ → List ℕ → List ℕ → List ℕ → List ℕ → List ℕ → Tables
-lent cr ce rr re cf rf st fi = record {
-  concept-rules = cr;
-  concept-exclusions = ce;
-  role-rules = rr;
-  role-exclusions = re;
-  concept-facts = cf;
-  role-facts = rf;
-  steps = st;
-  finals = fi;
+-- the lists that lent tables hold
+abbrev pub lists : code.Tables → Tables
+lists t = record {
+  concept-rules = t.concept_rules.now;
+  concept-exclusions = t.concept_exclusions.now;
+  role-rules = t.role_rules.now;
+  role-exclusions = t.role_exclusions.now;
+  concept-facts = t.concept_facts.now;
+  role-facts = t.role_facts.now;
+  steps = t.steps.now;
+  finals = t.finals.now;
 }
 
 -- a step's kind is 0 or 1, and what it reads is declared

@@ -1,14 +1,29 @@
 // The lent tables, read by record, and the tests 4 to 8 on them. A number becomes its kind at the first step of reading.
 #![tactic(auto)]
 
-ghost use Rattle.std.specs.Prelude.{◌<◌};
+ghost use Rattle.std.specs.Prelude.{◌<◌, ◌≡◌, ◌/◌, ℕ, List, length};
+ghost use Rattle.kinds.specs.declared.Counts.{Counts};
 ghost use Rattle.laws.specs.Exactly.{Exactly};
 ghost use Rattle.meaning.specs.Collection.{Each, ConceptsDeclared, RolesDeclared, ConceptFactDeclared, RoleFactDeclared};
-ghost use Rattle.meaning.specs.Lent.{records, ruleWidth, conceptFactWidth, roleFactWidth, finalWidth, conceptPair, rolePair, conceptFact, roleFact, finalAt, Whole, ShapesOk, NumbersFit, EndsDiffer};
+ghost use Rattle.meaning.specs.Lent.{records, ruleWidth, conceptFactWidth, roleFactWidth, stepWidth, finalWidth, conceptPair, rolePair, conceptFact, roleFact, finalAt, Whole, ShapesOk, NumbersFit, EndsDiffer};
 ghost use Rattle.kinds.specs.Kinds.{StateDeclared};
-ghost use Rattle.tables.specs.Checks.{lent, Checks, LetterFits, StepsFit, AskFits};
+ghost use Rattle.tables.specs.Checks.{lists, Checks, LetterFits, StepsFit, AskFits};
+ghost use Rattle.tables.specs.Records.{lent_step, StepFits};
 
 use kinds::{Concept, ConceptName, Counts, Individual, RoleName, SignedRole, State};
+
+// The eight tables, as a call lends them.
+#[derive(Clone, Copy)]
+pub struct Tables<'a> {
+    pub concept_rules: &'a [u16],
+    pub concept_exclusions: &'a [u16],
+    pub role_rules: &'a [u16],
+    pub role_exclusions: &'a [u16],
+    pub concept_facts: &'a [u16],
+    pub role_facts: &'a [u16],
+    pub steps: &'a [u16],
+    pub finals: &'a [u16],
+}
 
 // What a collection is found to be before any pair is asked.
 #[derive(Drop)]
@@ -39,119 +54,167 @@ pub const FINALS: usize = 16;
 
 pub const AREA: usize = 32768;
 
-// A table has whole records, and not too many of them.
-fn whole(t: &[u16], width: usize, most: usize) -> bool
-    requires { 0 < width }
-    ensures { Exactly result (Whole width most t.now) }
-{
-    if t.len() % width != 0 {
-        return false;
-    }
-    t.len() / width <= most
+// A kind of record: how many numbers it takes, how it is read as the collection has it, and its test.
+trait Record {
+    ghost WIDTH: { ℕ };
+
+    ghost read: { List ℕ → ℕ → Self };
+
+    ghost Declared: { Counts → Self → Type 0 };
+
+    const WIDTH: usize;
+
+    // Record k of a table, each field as its kind.
+    fn read(t: &[u16], k: usize) -> Self
+        requires { k < length t.now / WIDTH }
+        ensures { result ≡ read t.now k };
+
+    // Every number in it is declared.
+    fn declared(self, counts: Counts) -> bool
+        ensures { Exactly result (Declared counts self) };
 }
 
-fn shapes(
-    conceptrules: &[u16],
-    conceptexclusions: &[u16],
-    rolerules: &[u16],
-    roleexclusions: &[u16],
-    conceptfacts: &[u16],
-    rolefacts: &[u16],
-    steps: &[u16],
-    finals: &[u16],
-) -> bool
-    ensures { Exactly result (ShapesOk (lent conceptrules.now conceptexclusions.now rolerules.now roleexclusions.now conceptfacts.now rolefacts.now steps.now finals.now)) }
-{
-    if !whole(conceptrules, 2, CONCEPT_RULES) {
-        return false;
-    }
-    if !whole(conceptexclusions, 2, CONCEPT_EXCLUSIONS) {
-        return false;
-    }
-    if !whole(rolerules, 2, ROLE_RULES) {
-        return false;
-    }
-    if !whole(roleexclusions, 2, ROLE_EXCLUSIONS) {
-        return false;
-    }
-    if !whole(conceptfacts, 2, CONCEPT_FACTS) {
-        return false;
-    }
-    if !whole(rolefacts, 3, ROLE_FACTS) {
-        return false;
-    }
-    if !whole(steps, 4, STEPS) {
-        return false;
-    }
-    whole(finals, 1, FINALS)
-}
+type ConceptPair = (Concept, Concept);
 
-// Every concept of every rule or exclusion is valid.
-fn concept_pairs(t: &[u16], counts: Counts) -> bool
-    ensures { Exactly result (Each (records ruleWidth conceptPair t.now) (ConceptsDeclared counts)) }
-{
-    let n = t.len() / 2;
-    for k in 0..n {
+impl Record for ConceptPair {
+    ghost WIDTH = { ruleWidth };
+
+    ghost read = { conceptPair };
+
+    ghost Declared = { ConceptsDeclared };
+
+    const WIDTH: usize = 2;
+
+    fn read(t: &[u16], k: usize) -> ConceptPair {
         let at = 2 * k;
-        if !Concept::read(t[at]).declared(counts) {
-            return false;
-        }
-        if !Concept::read(t[at + 1]).declared(counts) {
-            return false;
-        }
+        (Concept::read(t[at]), Concept::read(t[at + 1]))
     }
-    true
+
+    fn declared(self, counts: Counts) -> bool {
+        self.0.declared(counts) && self.1.declared(counts)
+    }
 }
 
-fn role_pairs(t: &[u16], counts: Counts) -> bool
-    ensures { Exactly result (Each (records ruleWidth rolePair t.now) (RolesDeclared counts)) }
-{
-    let n = t.len() / 2;
-    for k in 0..n {
+type RolePair = (SignedRole, SignedRole);
+
+impl Record for RolePair {
+    ghost WIDTH = { ruleWidth };
+
+    ghost read = { rolePair };
+
+    ghost Declared = { RolesDeclared };
+
+    const WIDTH: usize = 2;
+
+    fn read(t: &[u16], k: usize) -> RolePair {
         let at = 2 * k;
-        if !SignedRole(t[at]).declared(counts) {
-            return false;
-        }
-        if !SignedRole(t[at + 1]).declared(counts) {
-            return false;
-        }
+        (SignedRole(t[at]), SignedRole(t[at + 1]))
     }
-    true
+
+    fn declared(self, counts: Counts) -> bool {
+        self.0.declared(counts) && self.1.declared(counts)
+    }
 }
 
-fn concept_facts_in(t: &[u16], counts: Counts) -> bool
-    ensures { Exactly result (Each (records conceptFactWidth conceptFact t.now) (ConceptFactDeclared counts)) }
-{
-    let n = t.len() / 2;
-    for k in 0..n {
+type ConceptFact = (ConceptName, Individual);
+
+impl Record for ConceptFact {
+    ghost WIDTH = { conceptFactWidth };
+
+    ghost read = { conceptFact };
+
+    ghost Declared = { ConceptFactDeclared };
+
+    const WIDTH: usize = 2;
+
+    fn read(t: &[u16], k: usize) -> ConceptFact {
         let at = 2 * k;
-        if !ConceptName(t[at]).declared(counts) {
-            return false;
-        }
-        if !Individual(t[at + 1]).declared(counts) {
-            return false;
-        }
+        (ConceptName(t[at]), Individual(t[at + 1]))
     }
-    true
+
+    fn declared(self, counts: Counts) -> bool {
+        let (name, individual) = self;
+        name.declared(counts) && individual.declared(counts)
+    }
 }
 
-fn role_facts_in(t: &[u16], counts: Counts) -> bool
-    ensures { Exactly result (Each (records roleFactWidth roleFact t.now) (RoleFactDeclared counts)) }
-{
-    let n = t.len() / 3;
-    for k in 0..n {
+type RoleFact = (RoleName, Individual, Individual);
+
+impl Record for RoleFact {
+    ghost WIDTH = { roleFactWidth };
+
+    ghost read = { roleFact };
+
+    ghost Declared = { RoleFactDeclared };
+
+    const WIDTH: usize = 3;
+
+    fn read(t: &[u16], k: usize) -> RoleFact {
         let at = 3 * k;
-        if !RoleName(t[at]).declared(counts) {
-            return false;
-        }
-        if !Individual(t[at + 1]).declared(counts) {
-            return false;
-        }
-        if !Individual(t[at + 2]).declared(counts) {
-            return false;
+        (
+            RoleName(t[at]),
+            Individual(t[at + 1]),
+            Individual(t[at + 2]),
+        )
+    }
+
+    fn declared(self, counts: Counts) -> bool {
+        let (role, from, to) = self;
+        role.declared(counts) && from.declared(counts) && to.declared(counts)
+    }
+}
+
+impl Record for State {
+    ghost WIDTH = { finalWidth };
+
+    ghost read = { finalAt };
+
+    ghost Declared = { StateDeclared };
+
+    const WIDTH: usize = 1;
+
+    fn read(t: &[u16], k: usize) -> State {
+        State(t[k])
+    }
+
+    fn declared(self, counts: Counts) -> bool {
+        self.declared(counts)
+    }
+}
+
+// A step as it is lent: its kind says whether it reads a signed role or a name.
+#[derive(Drop)]
+struct LentStep {
+    kind: u16,
+    from: State,
+    letter: u16,
+    to: State,
+}
+
+impl Record for LentStep {
+    ghost WIDTH = { stepWidth };
+
+    ghost read = { lent_step };
+
+    ghost Declared = { StepFits };
+
+    const WIDTH: usize = 4;
+
+    fn read(t: &[u16], k: usize) -> LentStep {
+        let at = 4 * k;
+        LentStep {
+            kind: t[at],
+            from: State(t[at + 1]),
+            letter: t[at + 2],
+            to: State(t[at + 3]),
         }
     }
-    true
+
+    fn declared(self, counts: Counts) -> bool {
+        self.from.declared(counts)
+            && letter_in(self.kind, self.letter, counts)
+            && self.to.declared(counts)
+    }
 }
 
 // A role step's signed role, or a test step's name; a kind above 1 is refused.
@@ -167,117 +230,96 @@ fn letter_in(kind: u16, x: u16, counts: Counts) -> bool
     false
 }
 
+// A table has whole records, and not too many of them.
+fn whole<R: Record>(t: &[u16], most: usize) -> bool
+    requires { 0 < R.WIDTH }
+    ensures { Exactly result (Whole R.WIDTH most t.now) }
+{
+    if t.len() % R::WIDTH != 0 {
+        return false;
+    }
+    t.len() / R::WIDTH <= most
+}
+
+fn shapes(tables: &Tables) -> bool
+    ensures { Exactly result (ShapesOk (lists tables.now)) }
+{
+    whole::<ConceptPair>(tables.concept_rules, CONCEPT_RULES)
+        && whole::<ConceptPair>(tables.concept_exclusions, CONCEPT_EXCLUSIONS)
+        && whole::<RolePair>(tables.role_rules, ROLE_RULES)
+        && whole::<RolePair>(tables.role_exclusions, ROLE_EXCLUSIONS)
+        && whole::<ConceptFact>(tables.concept_facts, CONCEPT_FACTS)
+        && whole::<RoleFact>(tables.role_facts, ROLE_FACTS)
+        && whole::<LentStep>(tables.steps, STEPS)
+        && whole::<State>(tables.finals, FINALS)
+}
+
+// Every record of a table is declared.
+fn all_declared<R: Record>(t: &[u16], counts: Counts) -> bool
+    requires { 0 < R.WIDTH }
+    ensures { Exactly result (Each (records R.WIDTH R.read t.now) (R.Declared counts)) }
+{
+    (0..t.len() / R::WIDTH).all(|k| R::read(t, k).declared(counts))
+}
+
+// A step as it is lent fits exactly where its kind is low and the step that it means is declared.
+#[tactic(auto, using(crate::specs::Records::steps_fit))]
 fn steps_in(t: &[u16], counts: Counts) -> bool
     ensures { Exactly result (StepsFit counts t.now) }
 {
-    let n = t.len() / 4;
-    for k in 0..n {
-        let at = 4 * k;
-        if !State(t[at + 1]).declared(counts) {
-            return false;
-        }
-        if !letter_in(t[at], t[at + 2], counts) {
-            return false;
-        }
-        if !State(t[at + 3]).declared(counts) {
-            return false;
-        }
-    }
-    true
+    all_declared::<LentStep>(t, counts)
 }
 
-fn finals_in(t: &[u16], counts: Counts) -> bool
-    ensures { Exactly result (Each (records finalWidth finalAt t.now) (StateDeclared counts)) }
+fn numbers(counts: Counts, tables: &Tables) -> bool
+    ensures { Exactly result (NumbersFit counts (lists tables.now)) }
 {
-    let n = t.len();
-    for k in 0..n {
-        if !State(t[k]).declared(counts) {
-            return false;
-        }
+    if !all_declared::<ConceptPair>(tables.concept_rules, counts) {
+        return false;
     }
-    true
+    if !all_declared::<ConceptPair>(tables.concept_exclusions, counts) {
+        return false;
+    }
+    if !all_declared::<RolePair>(tables.role_rules, counts) {
+        return false;
+    }
+    if !all_declared::<RolePair>(tables.role_exclusions, counts) {
+        return false;
+    }
+    if !all_declared::<ConceptFact>(tables.concept_facts, counts) {
+        return false;
+    }
+    if !all_declared::<RoleFact>(tables.role_facts, counts) {
+        return false;
+    }
+    if !steps_in(tables.steps, counts) {
+        return false;
+    }
+    all_declared::<State>(tables.finals, counts)
 }
 
-fn numbers(
-    counts: Counts,
-    conceptrules: &[u16],
-    conceptexclusions: &[u16],
-    rolerules: &[u16],
-    roleexclusions: &[u16],
-    conceptfacts: &[u16],
-    rolefacts: &[u16],
-    steps: &[u16],
-    finals: &[u16],
-) -> bool
-    ensures { Exactly result (NumbersFit counts (lent conceptrules.now conceptexclusions.now rolerules.now roleexclusions.now conceptfacts.now rolefacts.now steps.now finals.now)) }
+// The two ends of a role fact differ.
+fn differ(fact: RoleFact) -> bool
+    ensures { Exactly result (EndsDiffer fact) }
 {
-    if !concept_pairs(conceptrules, counts) {
-        return false;
-    }
-    if !concept_pairs(conceptexclusions, counts) {
-        return false;
-    }
-    if !role_pairs(rolerules, counts) {
-        return false;
-    }
-    if !role_pairs(roleexclusions, counts) {
-        return false;
-    }
-    if !concept_facts_in(conceptfacts, counts) {
-        return false;
-    }
-    if !role_facts_in(rolefacts, counts) {
-        return false;
-    }
-    if !steps_in(steps, counts) {
-        return false;
-    }
-    finals_in(finals, counts)
+    let (_, from, to) = fact;
+    from.0 != to.0
 }
 
-// The two ends of every role fact differ.
+// Those of every role fact do.
 fn ends(t: &[u16]) -> bool
     ensures { Exactly result (Each (records roleFactWidth roleFact t.now) EndsDiffer) }
 {
-    let n = t.len() / 3;
-    for k in 0..n {
-        let at = 3 * k;
-        if t[at + 1] == t[at + 2] {
-            return false;
-        }
-    }
-    true
+    (0..t.len() / RoleFact::WIDTH).all(|k| differ(RoleFact::read(t, k)))
 }
 
 // The tests 4 to 7, in the library's order. The lengths are those of the two areas.
-pub fn check(
-    counts: Counts,
-    conceptrules: &[u16],
-    conceptexclusions: &[u16],
-    rolerules: &[u16],
-    roleexclusions: &[u16],
-    conceptfacts: &[u16],
-    rolefacts: &[u16],
-    steps: &[u16],
-    finals: &[u16],
-    area: usize,
-    spare: usize,
-) -> Checked
-    ensures { Checks counts (lent conceptrules.now conceptexclusions.now rolerules.now roleexclusions.now conceptfacts.now rolefacts.now steps.now finals.now) area spare result }
+pub fn check(counts: Counts, tables: &Tables, area: usize, spare: usize) -> Checked
+    ensures { Checks counts (lists tables.now) area spare result }
 {
     if !counts.fit() {
         return Checked::BadCount;
     }
-    if !shapes(
-        conceptrules,
-        conceptexclusions,
-        rolerules,
-        roleexclusions,
-        conceptfacts,
-        rolefacts,
-        steps,
-        finals,
-    ) {
+    if !shapes(tables) {
         return Checked::BadTable;
     }
     if area != AREA {
@@ -286,20 +328,10 @@ pub fn check(
     if spare != AREA {
         return Checked::BadTable;
     }
-    if !numbers(
-        counts,
-        conceptrules,
-        conceptexclusions,
-        rolerules,
-        roleexclusions,
-        conceptfacts,
-        rolefacts,
-        steps,
-        finals,
-    ) {
+    if !numbers(counts, tables) {
         return Checked::BadNumber;
     }
-    if !ends(rolefacts) {
+    if !ends(tables.role_facts) {
         return Checked::EqualEnds;
     }
     Checked::Sound

@@ -1,8 +1,7 @@
 -- A test of several individuals at once: whether one of them has states that were not followed.
-use Rattle.std.specs.Prelude.{◌≡◌, Bool, false, not, List, ℕ, ◌+◌, ◌<◌, ◌≤◌, eqb, get_or}
+use Rattle.std.specs.Prelude.{◌≡◌, Bool, false, List, ℕ, ◌+◌, ◌<◌, ◌≤◌, get_or}
 use Rattle.std.proofs.Math.Decide.{ℕ_discrete}
-use Rattle.std.proofs.Common.{arith, eqb-true}
-use Rattle.std.proofs.lemmas.Bool.{not-false}
+use Rattle.std.proofs.Common.{arith}
 use Rattle.std.specs.Int.Bits.{bit_or, bit_xor, xor_add_and}
 use Rattle.std.proofs.lemmas.Nat.{or_comm, and_le_l, and_le_r}
 use Rattle.laws.specs.Masks.{or-more}
@@ -25,9 +24,6 @@ xor-none : (a b : ℕ) → bit_xor a b ≡ 0 → b ≡ a
 xor-none a b e = omega (arith, xor_add_and a b, and_le_l a b, and_le_r a b)
 
 module _ (at : ℕ) (r f : List ℕ) where
-  pub compare-start : Comparing at 0 r f 0
-  compare-start = record { below = omega arith; same = λ e k l h. absurd (omega arith) }
-
   pub compare-more : (i d : ℕ) → Comparing at i r f d → i < part → Comparing at (i + 1) r f (bit_or d (bit_xor (get_or r (at + i) 0) (get_or f (at + i) 0)))
   compare-more i d w h = record { below = omega arith; same = λ e k l g. side e k l g (ℕ_discrete k (at + i)) }
     where
@@ -36,6 +32,3 @@ module _ (at : ℕ) (r f : List ℕ) where
           rw q (xor-none (get_or r (at + i) 0) (get_or f (at + i) 0)
           (omega (arith, e, or-more (bit_xor (get_or r (at + i) 0) (get_or f (at + i) 0)) d, or_comm d (bit_xor (get_or r (at + i) 0) (get_or f (at + i) 0)))))
       side e k l g (no ne) = w.same (omega (arith, e, or-more d (bit_xor (get_or r (at + i) 0) (get_or f (at + i) 0)))) k l (omega arith)
-
-  pub compare-end : (i d : ℕ) → Comparing at i r f d → part ≤ i → Behind at part r f (not (eqb d 0))
-  compare-end i d w h = record { clean = λ e k l g. w.same (eqb-true d 0 (not-false (eqb d 0) e)) k l (omega arith) }

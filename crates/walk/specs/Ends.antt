@@ -98,9 +98,6 @@ module _ (loops ways links facts : List ℕ) where
   abbrev pub Swept : List ℕ → List ℕ → List ℕ → List ℕ → Bool → Type 0
   Swept r f r' f' again = Passed loops ways links facts 0 mostIndividuals r f r' f' again
 
-  pub onward-more : (r f r' f' r'' f'' : List ℕ) (again : Bool) → Onward r f r' f' → Swept r' f' r'' f'' again → Onward r f r'' f''
-  onward-more r f r' f' r'' f'' again v w = record { ready = w.ready; walks = λ from start x. w.walks from start (v.walks from start x) }
-
   -- a sweep after which another is needed leaves less room to grow
   pub onward-less : (r f r' f' : List ℕ) (again : Bool) → Swept r f r' f' again → again ≡ true → room r' < room r
   unfolding room

@@ -1,11 +1,10 @@
 -- The hops at an individual, followed along their chain: what each adds.
-use Rattle.std.specs.Prelude.{◌≡◌, ◌⊎◌, Bool, false, ◌||◌, List, ℕ, ◌+◌, ◌*◌, ◌/◌, ◌<◌, ◌≤◌, get_or}
+use Rattle.std.specs.Prelude.{◌≡◌, ◌⊎◌, Bool, ◌||◌, List, ℕ, ◌+◌, ◌*◌, ◌<◌, ◌≤◌, get_or}
 use Rattle.std.proofs.Common.{inl, inr, arith}
 use Rattle.kinds.specs.Kinds.{mostIndividuals, mostStates, mostRoles}
-use Rattle.meaning.specs.Lent.{roleFactWidth}
 use Rattle.routes.specs.Routes.{hops, noHop, target, roleOf, Linked, first, next}
-use Rattle.walk.specs.Image.{Leads, Image}
-use Rattle.walk.specs.Grow.{Grows, grows_none, grows_same, Going, going_start, going_more, going_end, InSet}
+use Rattle.walk.specs.Image.{Leads}
+use Rattle.walk.specs.Grow.{Grows, grows_same, Going, going_more, going_end}
 
 -- the hop h leads from a state of m to b in the state t
 pub record ByHop (ways facts : List ℕ) (h m b t : ℕ) : Type 0 where
@@ -48,22 +47,6 @@ pub record ByChain (ways links facts : List ℕ) (h m b t : ℕ) : Type 0 where
   pub chain : Chain links facts h hop
   pub by : ByHop ways facts hop m b t
 
--- one hop, which the code passes over where its role or its individual has no row
-module _ (ways facts : List ℕ) (h m : ℕ) (l : List ℕ) where
-  pub hop-no-role : mostRoles ≤ get_or facts (roleFactWidth * (h / 2)) 0 → Grows (ByHop ways facts h m) l l false
-  hop-no-role k = grows_none l (λ b t p. let r = p.role in omega arith)
-
-  pub hop-no-individual : mostIndividuals ≤ target facts h → Grows (ByHop ways facts h m) l l false
-  hop-no-individual k = grows_none l (λ b t p. let r = p.individual in omega arith)
-
-  pub hop-joins : (i : ℕ) (new : List ℕ) (grew : Bool) → get_or facts (roleFactWidth * (h / 2)) 0 < mostRoles → target facts h < mostIndividuals
-      → Image ways (mostStates * roleOf facts h) m i → Grows (InSet (target facts h) i) l new grew → Grows (ByHop ways facts h m) l new grew
-  hop-joins i new grew r k image w =
-      grows_same
-      (λ b t p. record { there = p.there; individual = k; role = omega arith; leads = image.sound t p.in-set })
-      (λ b t p. record { there = p.there; in-set = image.full t p.leads })
-      w
-
 -- the hops at a, from the first of their chain on
 module _ (ways links facts : List ℕ) (a m : ℕ) (old : List ℕ) where
   abbrev begin : ℕ
@@ -72,9 +55,6 @@ module _ (ways links facts : List ℕ) (a m : ℕ) (old : List ℕ) where
   -- what the loop keeps at the hop h
   abbrev pub Following : ℕ → List ℕ → Bool → Type 0
   Following h new grew = Going (ByChain ways links facts begin m) (ByChain ways links facts h m) old new grew
-
-  pub follow-start : (h : ℕ) → h ≡ begin → Following h old false
-  follow-start h e = rw e (going_start old)
 
   -- the chain has the hops at a
   followed : (new : List ℕ) (x : Bool) → Grows (ByChain ways links facts begin m) old new x → Grows (ByHops ways links facts a m) old new x

@@ -25,9 +25,6 @@ pub record Imaging (table : List ℕ) (at m s out : ℕ) : Type 0 where
   pub full : (u t : ℕ) → u < s → Bit m u → Bit (get_or table (at + u) 0) t → Bit out t
 
 module _ (table : List ℕ) (at m : ℕ) where
-  pub imaging-start : Imaging table at m 0 0
-  imaging-start = record { sound = λ t b. absurd (bit-zero t b); full = λ u t l. absurd (omega arith) }
-
   -- one more state
   module _ (s out : ℕ) (w : Imaging table at m s out) where
     abbrev set_there : ℕ

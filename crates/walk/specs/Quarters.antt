@@ -1,5 +1,5 @@
 -- Images by quarters of the 16 states: a table of the images of all sets within one quarter, and any other image as a union of four of them.
-use Rattle.std.specs.Prelude.{◌≡◌, List, ℕ, ◌+◌, ◌-◌, ◌*◌, ◌/◌, ◌%◌, ◌^◌, ◌<◌, ◌≤◌, length, get_or, set, replicate, take, drop}
+use Rattle.std.specs.Prelude.{◌≡◌, List, ℕ, ◌+◌, ◌-◌, ◌*◌, ◌/◌, ◌%◌, ◌^◌, ◌<◌, length, get_or, set, replicate, take, drop}
 use Rattle.std.proofs.Math.Path.{sym}
 use Rattle.std.proofs.Common.{ap, ◌∙◌, ⊎_elim, arith, mod-lt, get_or-take, get_or-drop, pow_pos, shr-shr}
 use Rattle.std.proofs.Math.Decide.{dec_lt}
@@ -8,7 +8,7 @@ use Rattle.std.proofs.Math.Pow.{pow-lt, field, mod-mod-pow}
 use Rattle.std.specs.Int.Bits.{bit_or}
 use Rattle.kinds.specs.Kinds.{mostStates, mostRoles}
 use Rattle.laws.specs.Masks.{Bit, bit-or, or-bit-left, or-bit-right, bit-one, one_bit, masks-once, Held}
-use Rattle.laws.specs.Fill.{Filling, one_more, all_done}
+use Rattle.laws.specs.Fill.{Filling, one_more}
 use Rattle.laws.specs.Digits.{bit_below}
 use Rattle.laws.specs.Numbers.{numbered, length-numbered, get_d_numbered}
 use Rattle.walk.specs.Image.{Leads, Image}
@@ -44,12 +44,6 @@ module _ (ways out : List ℕ) where
       let d : (16 * i + v) % 16 ≡ v = omega arith in
       let f = one_more (Entry ways) 0 imageCount (replicate imageCount 0) out (16 * i + v) x w (omega arith) (λ e. record { small = s; image = rw (b, d) image }) in
       rw a at f
-
-  pub filled-to : (i j : ℕ) → i ≡ j → Filled ways out i → Filled ways out j
-  filled-to i j e w = rw e at w
-
-  pub filled-all : (i : ℕ) → Filled ways out i → imageCount ≤ i → Held wayCount ways → Quartered ways out
-  filled-all i w h k = record { held = k; at = all_done (Entry ways) 0 imageCount (replicate imageCount 0) out i w h }
 
 -- the place of the image of one state alone, which is the way of place k
 abbrev alone : ℕ → ℕ

@@ -1,12 +1,10 @@
 -- What the walk keeps: the sets reached so far, and in each the states that were followed.
-use Rattle.std.specs.Prelude.{◌≡◌, refl, Bool, true, false, ◌||◌, List, ℕ, ◌+◌, ◌^◌, ◌<◌, ◌≤◌, length, get_or, set}
-use Rattle.std.proofs.Common.{sym, ◌∙◌, ⊎_elim, arith, length-set, get_or-set_same, get_or-set_other}
-use Rattle.std.proofs.lemmas.Bool.{false≢true}
-use Rattle.std.proofs.Math.Decide.{ℕ_discrete, dec_lt}
+use Rattle.std.specs.Prelude.{◌≡◌, refl, Bool, true, false, List, ℕ, ◌+◌, ◌^◌, ◌<◌, ◌≤◌, length, get_or, set}
+use Rattle.std.proofs.Common.{◌∙◌, ⊎_elim, arith, length-set, get_or-set_same, get_or-set_other}
+use Rattle.std.proofs.Math.Decide.{ℕ_discrete}
 use Rattle.std.specs.Int.Bits.{bit_xor}
 use Rattle.kinds.specs.Kinds.{mostIndividuals, mostStates}
 use Rattle.laws.specs.Masks.{Bit, Held}
-use Rattle.laws.specs.Warshall.{or_cases}
 use Rattle.meaning.specs.Run.{Run, stop, one}
 use Rattle.meaning.specs.Run as run
 use Rattle.routes.specs.Routes.{target}
@@ -14,7 +12,7 @@ use Rattle.walk.specs.Walk.{Stride, along, loop}
 use Rattle.laws.specs.Digits.{bit_below, xor-either, xor-other}
 use Rattle.laws.specs.Sum.{total, total-set}
 use Rattle.walk.specs.Image.{Looped, none, more, Settled}
-use Rattle.walk.specs.Grow.{Grows, raised-most, held-set, or-none}
+use Rattle.walk.specs.Grow.{Grows, raised-most, held-set}
 use Rattle.walk.specs.Hops.{ByHops}
 
 -- arrays of the right sizes, as the types of the code have them
@@ -46,46 +44,6 @@ module _ (loops ways links facts : List ℕ) where
   looped-run : (a s t : ℕ) → Looped loops a s t → Run (Stride loops ways links facts) a s a t
   looped-run a s t none = stop
   looped-run a s t (more l h b) = run.join (looped-run a s _ l) (one (loop h b))
-
-  -- individuals of which each state was followed
-  pub passed-clean : (lo hi : ℕ) (r f : List ℕ) → Ready r f → ((k : ℕ) → lo ≤ k → k < hi → get_or f k 0 ≡ get_or r k 0) → Passed lo hi r f r f false
-  passed-clean lo hi r f ready clean =
-      record {
-        ready = ready;
-        walks = λ from start w. w;
-        most = omega arith;
-        grows = λ z. absurd (false≢true z);
-        settled = λ z all. record { at = λ k p. side all k p (dec_lt k lo) };
-      }
-    where
-      side : AllFollowed lo r f → (k : ℕ) → k < hi → Dec (k < lo) → get_or f k 0 ≡ get_or r k 0
-      side all k p (yes l) = all.at k l
-      side all k p (no l) = clean k (omega arith) p
-
-  pub passed_start : (lo hi : ℕ) (r f : List ℕ) → hi ≡ lo → Ready r f → Passed lo hi r f r f false
-  passed_start lo hi r f e ready = passed-clean lo hi r f ready (λ k l h. absurd (omega arith))
-
-  pub passed-one : (a : ℕ) (r f : List ℕ) → Ready r f → get_or r a 0 ≡ get_or f a 0 → Passed a (a + 1) r f r f false
-  passed-one a r f ready e = passed-clean a (a + 1) r f ready (λ k l h. let q : k ≡ a = omega arith in rw q (sym e))
-
-  -- one part after the other
-  pub passed_then : (lo mid hi top : ℕ) (r f r' f' r'' f'' : List ℕ) (x y : Bool) → hi ≡ top → Passed lo mid r f r' f' x → Passed mid hi r' f' r'' f'' y
-      → Passed lo top r f r'' f'' (x || y)
-  passed_then lo mid hi top r f r' f' r'' f'' x y e v w =
-      let m = v.most in
-      let n = w.most in
-      rw (← e)
-      (record {
-        ready = w.ready;
-        walks = λ from start k. w.walks from start (v.walks from start k);
-        most = omega arith;
-        grows = λ e. ⊎_elim (λ p. omega (arith, v.grows p)) (λ p. omega (arith, w.grows p)) (or_cases x y e);
-        settled = λ e all. let z = or-none x y e in w.settled z.1 (v.settled z.0 all);
-      })
-
-  -- no more than there are
-  pub passed-end : (lo hi top : ℕ) (r f r' f' : List ℕ) (again : Bool) → hi ≡ top → Passed lo hi r f r' f' again → Passed lo top r f r' f' again
-  passed-end lo hi top r f r' f' again e w = rw e at w
 
   -- a visit: all is what a's loops reach from its set
   module _ (a : ℕ) (r f : List ℕ) (all : ℕ) (ready : Ready r f) (h : a < mostIndividuals) (set_all : Settled loops a (get_or r a 0) all) where

@@ -13,30 +13,22 @@ ghost use Rattle.walk.specs.Steps.{Ready, Passed};
 ghost use Rattle.walk.specs.Behind.{part, Behind};
 ghost use Rattle.walk.specs.Ends.{Swept};
 
-use kinds::{Individual, RoleName, State};
-use routes::{NO_HOP, hop_count};
+use kinds::{Individual, RoleName, SignedRole, State};
+use routes::{Chains, LoopSets, NO_HOP, WaySets, hop_count};
 
 // A set of states for each individual, the state t as the bit t.
-type Sets = [u16; 255];
+type Sets = [u16; Individual::NUMBERS];
 
-// Tables of `routes`: the loops, as 16 sets for each individual, and the chains of hops.
-type Loops = [u16; 4080];
-
-type Links = [u16; 8447];
+// The states are taken four at a time: a role has four quarters of them, and a quarter 16 sets of states.
+const QUARTERS_LONG: usize = 64 * SignedRole::NUMBERS;
 
 // For each signed role and each quarter of the 16 states, the images of the 16 sets of states in it.
-type Quarters = [u16; 4096];
+type Quarters = [u16; QUARTERS_LONG];
 
 // The individuals are tested in 17 parts of 15.
 const PART: usize = 15;
 
 const PARTS: usize = 17;
-
-fn wide(x: u16) -> usize
-    ensures { result ≡ x }
-{
-    x as usize
-}
 
 // The states to which those of m lead, by the n sets of a table from a place on. Each is taken once or not at all: without a branch the
 // compiler takes many at a time.
@@ -47,7 +39,7 @@ fn image(table: &[u16], at: usize, n: usize, m: u16) -> u16
     let mut out: u16 = 0;
     for s in 0..n {
         let on = (m >> s) & 1;
-        out = out | table[at + s] * on;
+        out |= table[at + s] * on;
     }
     out
 }
@@ -58,8 +50,8 @@ fn quartered(ways: &[u16]) -> Quarters
     requires { length ways.now ≡ 1024 }
     ensures { Quartered ways.now result }
 {
-    let mut out = [0u16; 4096];
-    for q in 0..256 {
+    let mut out = [0u16; QUARTERS_LONG];
+    for q in 0..4 * SignedRole::NUMBERS {
         for v in 0..16 {
             out[16 * q + v] = image(ways, 4 * q, 4, v as u16);
         }
@@ -107,7 +99,7 @@ fn follow(reached: &mut Sets, quarters: &Quarters, facts: &[u16], h: usize, m: u
     if b >= Individual::MOST {
         return false;
     }
-    let role = 2 * (name as usize) + h % 2;
+    let role = 2 * name as usize + h % 2;
     join(reached, b as usize, led(quarters, role, m))
 }
 
@@ -115,7 +107,7 @@ fn follow(reached: &mut Sets, quarters: &Quarters, facts: &[u16], h: usize, m: u
 fn follow_all(
     reached: &mut Sets,
     quarters: &Quarters,
-    links: &Links,
+    links: &Chains,
     facts: &[u16],
     count: usize,
     a: usize,
@@ -125,11 +117,10 @@ fn follow_all(
     ensures { Grows (ByHops (ways_of quarters.now) links.now facts.now a m) reached.old reached.new result }
 {
     let mut grew = false;
-    let mut h = wide(links[NO_HOP + a]);
+    let mut h = links[NO_HOP + a] as usize;
     while h < count {
-        let more = follow(reached, quarters, facts, h, m);
-        grew = grew | more;
-        let next = wide(links[h]);
+        grew |= follow(reached, quarters, facts, h, m);
+        let next = links[h] as usize;
         if next <= h {
             return grew;
         }
@@ -139,13 +130,13 @@ fn follow_all(
 }
 
 // The states m, and all to which loops at the individual a lead from them.
-fn settle(loops: &Loops, a: usize, m: u16) -> u16
+fn settle(loops: &LoopSets, a: usize, m: u16) -> u16
     requires { a < 255 }
     ensures { Settled loops.now a m result }
 {
     let mut all = m;
     loop {
-        let more = all | image(loops, 16 * a, 16, all);
+        let more = all | image(loops, State::NUMBERS * a, State::NUMBERS, all);
         if more == all {
             return all;
         }
@@ -157,9 +148,9 @@ fn settle(loops: &Loops, a: usize, m: u16) -> u16
 fn visit(
     reached: &mut Sets,
     followed: &mut Sets,
-    loops: &Loops,
+    loops: &LoopSets,
     quarters: &Quarters,
-    links: &Links,
+    links: &Chains,
     facts: &[u16],
     count: usize,
     a: usize,
@@ -185,7 +176,7 @@ fn behind(reached: &Sets, followed: &Sets, at: usize) -> bool
 {
     let mut differs: u16 = 0;
     for i in 0..PART {
-        differs = differs | (reached[at + i] ^ followed[at + i]);
+        differs |= reached[at + i] ^ followed[at + i];
     }
     differs != 0
 }
@@ -194,9 +185,9 @@ fn behind(reached: &Sets, followed: &Sets, at: usize) -> bool
 fn pass(
     reached: &mut Sets,
     followed: &mut Sets,
-    loops: &Loops,
+    loops: &LoopSets,
     quarters: &Quarters,
-    links: &Links,
+    links: &Chains,
     facts: &[u16],
     count: usize,
     at: usize,
@@ -209,7 +200,7 @@ fn pass(
         return again;
     }
     for i in 0..PART {
-        let grew = visit(
+        again |= visit(
             reached,
             followed,
             loops,
@@ -219,7 +210,6 @@ fn pass(
             count,
             at + i,
         );
-        again = again | grew;
     }
     again
 }
@@ -228,9 +218,9 @@ fn pass(
 fn sweep(
     reached: &mut Sets,
     followed: &mut Sets,
-    loops: &Loops,
+    loops: &LoopSets,
     quarters: &Quarters,
-    links: &Links,
+    links: &Chains,
     facts: &[u16],
 ) -> bool
     requires { Ready reached.old followed.old × Whole quarters.now }
@@ -249,28 +239,25 @@ fn sweep(
             count,
             PART * p,
         );
-        again = again | more;
+        again |= more;
     }
     again
 }
 
 // The walk from the first individual in the start state; no set has a state where either has no row.
 pub fn walk(
-    loops: &[u16; 4080],
-    ways: &[u16; 1024],
-    links: &[u16; 8447],
+    loops: &LoopSets,
+    ways: &WaySets,
+    links: &Chains,
     facts: &[u16],
     first: Individual,
     start: State,
-) -> [u16; 255]
+) -> Sets
     ensures { Walked loops.now ways.now links.now facts.now first start result }
 {
-    let mut reached = [0u16; 255];
-    let mut followed = [0u16; 255];
-    if first.0 >= Individual::MOST {
-        return reached;
-    }
-    if start.0 >= State::MOST {
+    let mut reached = [0u16; Individual::NUMBERS];
+    let mut followed = [0u16; Individual::NUMBERS];
+    if first.0 >= Individual::MOST || start.0 >= State::MOST {
         return reached;
     }
     let quarters = quartered(ways);

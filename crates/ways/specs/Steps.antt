@@ -1,10 +1,9 @@
 -- The loops over rows and over steps: what they have marked so far.
-use Rattle.std.specs.Prelude.{◌≡◌, refl, Bool, true, false, ◌||◌, ◌⊎◌, List, [], ℕ, zero, suc, ◌+◌, ◌*◌, ◌/◌, ◌≤◌, ◌<◌, length, get_or, set, replicate}
-use Rattle.std.proofs.Common.{sym, ap, ◌∙◌, inl, inr, ⊎_elim, add-zero, arith, length-set, get_or-set_same, get_or-set_other}
+use Rattle.std.specs.Prelude.{◌≡◌, refl, Bool, true, false, ◌||◌, ◌⊎◌, List, [], ℕ, zero, suc, ◌+◌, ◌*◌, ◌/◌, ◌<◌, length, get_or, set, replicate}
+use Rattle.std.proofs.Common.{sym, ap, ◌∙◌, inl, inr, ⊎_elim, add-zero, arith}
 use Rattle.std.proofs.lemmas.Bool.{false≢true}
 use Rattle.std.proofs.Math.Decide.{ℕ_discrete}
 use Rattle.std.proofs.lemmas.List.{length-replicate, get_or-replicate}
-use Rattle.std.proofs.Math.ListN.{get_or-eq_default}
 use Rattle.kinds.specs.declared.State.{State}
 use Rattle.kinds.specs.declared.SignedRole.{SignedRole}
 use Rattle.kinds.specs.Kinds.{state, signed}
@@ -20,37 +19,7 @@ use Rattle.ways.specs.Ways.{pair_at, Way, WaysOf, WithStep, ByStep, OneWay}
 abbrev pub rowWith : List (List Bool) → List (List Bool) → ℕ → ℕ → ℕ → List Bool
 rowWith w m at by k = set (get_or w k []) at (mark w k at || mark m k by)
 
-pub with-step : (w m r : List (List Bool)) (at by : ℕ) → ((i : ℕ) → i < 64 → at < length (get_or w i [])) → ((i : ℕ) → i < 64 → get_or r i [] ≡ rowWith w m at by i) → WithStep w m at by r
-with-step w m r at by long row = record {
-  here = λ i h. ap (λ (x : List Bool). get_or x at false) (row i h) ∙ get_or-set_same (get_or w i []) at _ false (long i h);
-  else = λ i p h ne. ap (λ (x : List Bool). get_or x p false) (row i h) ∙ get_or-set_other (get_or w i []) at p _ false ne;
-}
-
--- a turn keeps the size of the table, of which a lent array tells nothing
-pub sized-turn : (w : List (List Bool)) (i at : ℕ) (x : Bool) → i < 64 → Sized 64 256 w → Sized 64 256 (set w i (set (get_or w i []) at x))
-sized-turn w i at x h s = record { high = length-set w i (set (get_or w i []) at x) ∙ s.high; wide = λ j l. side j l (ℕ_discrete j i) }
-  where
-    side : (j : ℕ) → j < 64 → Dec (j ≡ i) → length (get_or (set w i (set (get_or w i []) at x)) j []) ≡ 256
-    side j l (yes e) = rw (e, get_or-set_same w i (set (get_or w i []) at x) [] (omega (arith, s.high))) (length-set (get_or w i []) at x ∙ s.wide i h)
-    side j l (no ne) = rw (get_or-set_other w i j (set (get_or w i []) at x) [] ne) (s.wide j l)
-
 module _ (w m : List (List Bool)) (kind : ℕ) (from : State) (by : SignedRole) (to : State) where
-  -- a step that adds nothing
-  pub no_way : ((R s t : ℕ) → R < 64 → s < 16 → t < 16 → ByStep m kind from by to R s t → ⊥) → OneWay w m kind from by to w
-  no_way never = record { at = λ R s t hR hs ht. record { holds = λ e. inl e; shows = ⊎_elim (λ e. e) (λ a. absurd (never R s t hR hs ht a)) } }
-
-  pub other-kind : (kind ≡ 0 → ⊥) → OneWay w m kind from by to w
-  other-kind ne = no_way (λ R s t hR hs ht a. ne a.role-step)
-
-  pub from-nowhere : 16 ≤ from.0 → OneWay w m kind from by to w
-  from-nowhere h = no_way (λ R s t hR hs ht a. omega (arith, a.from-there))
-
-  pub to-nowhere : 16 ≤ to.0 → OneWay w m kind from by to w
-  to-nowhere h = no_way (λ R s t hR hs ht a. omega (arith, a.to-there))
-
-  pub by-nothing : ((i : ℕ) → i < 64 → length (get_or m i []) ≡ 64) → 64 ≤ by.0 → OneWay w m kind from by to w
-  by-nothing long h = no_way (λ R s t hR hs ht a. false≢true (sym (get_or-eq_default (get_or m R []) false (rw (long R hR) h)) ∙ a.marked))
-
   module _ (r : List (List Bool)) (at by' : ℕ) (step-made : WithStep w m at by' r) (kind-is : kind ≡ 0) (at-is : at ≡ pair_at from.0 to.0) (by-is : by' ≡ by.0) (hf : from.0 < 16) (ht : to.0 < 16) where
     there : (R s t : ℕ) → R < 64 → s < 16 → t < 16 → pair_at s t ≡ at → Exactly (mark r R (pair_at s t)) ((mark w R (pair_at s t) ≡ true) ⊎ ByStep m kind from by to R s t)
     there R s t hR hs h e =

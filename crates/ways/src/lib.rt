@@ -6,23 +6,27 @@ ghost use Rattle.laws.specs.Marks.{Sized};
 ghost use Rattle.ways.specs.Ways.{Ways, WithStep, OneWay};
 
 use kinds::{SignedRole, State};
+use orders::RoleRows;
+
+// A table of pairs of states for each signed role: the pairs (s, t) where a step by the role leads from s to t.
+pub type WayRows = [[bool; State::PAIRS]; SignedRole::NUMBERS];
 
 // One role step: a way for every role from which its own follows. The tables are lent, as a copy for each step would be 16 KB.
-fn with_step(w: &mut [[bool; 256]; 64], m: &[[bool; 64]; 64], at: usize, by: usize)
+fn with_step(w: &mut WayRows, m: &RoleRows, at: usize, by: usize)
     requires { (at < 256) × (by < 64) × Sized 64 256 w.old }
     ensures { WithStep w.old m.now at by w.new × Sized 64 256 w.new }
 {
-    for i in 0..64 {
+    for i in 0..SignedRole::NUMBERS {
         w[i][at] |= m[i][by];
     }
 }
 
 // The ways of every role step; a step whose numbers have no row is passed over.
-pub fn ways(steps: &[u16], m: [[bool; 64]; 64]) -> [[bool; 256]; 64]
+pub fn ways(steps: &[u16], m: RoleRows) -> WayRows
     ensures { Ways steps.now m result }
 {
-    let row = [false; 256];
-    let mut w = [row; 64];
+    let row = [false; State::PAIRS];
+    let mut w = [row; SignedRole::NUMBERS];
     let n = steps.len() / 4;
     for k in 0..n {
         let at = 4 * k;
@@ -38,29 +42,14 @@ pub fn ways(steps: &[u16], m: [[bool; 64]; 64]) -> [[bool; 256]; 64]
     w
 }
 
-fn one_way(
-    w: &mut [[bool; 256]; 64],
-    m: &[[bool; 64]; 64],
-    kind: u16,
-    from: State,
-    by: SignedRole,
-    to: State,
-)
+fn one_way(w: &mut WayRows, m: &RoleRows, kind: u16, from: State, by: SignedRole, to: State)
     requires { Sized 64 256 w.old × Sized 64 64 m.now }
     ensures { OneWay w.old m.now kind from by to w.new × Sized 64 256 w.new }
 {
-    if kind != 0 {
-        return;
+    let s = from.0 as usize;
+    let r = by.0 as usize;
+    let t = to.0 as usize;
+    if kind == 0 && s < State::NUMBERS && r < SignedRole::NUMBERS && t < State::NUMBERS {
+        with_step(w, m, State::NUMBERS * s + t, r);
     }
-    if from.0 >= State::MOST {
-        return;
-    }
-    if to.0 >= State::MOST {
-        return;
-    }
-    if by.0 >= 64 {
-        return;
-    }
-    let at = 16 * (from.0 as usize) + to.0 as usize;
-    with_step(w, m, at, by.0 as usize);
 }

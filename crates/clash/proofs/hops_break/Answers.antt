@@ -1,5 +1,5 @@
 -- `hops_break`: a hop that leads from a adds its role to the set of its pair, and meets what that set has.
-use Rattle.std.proofs.Common.{arith, ◌+◌}
+use Rattle.std.proofs.Common.{arith, refl, ◌+◌}
 use Rattle.laws.specs.Exactly.{exactly-holds}
 use Rattle.laws.specs.Decide.{exactly-not}
 use Rattle.clash.specs.Walk.{Turn, turn-first, turn-next, tried-none, tried-pass, tried-meets, tried-more}
@@ -7,7 +7,7 @@ use Rattle.clash.proofs.hops_break.Goals.{then-leads+else-meet, else-leads}
 use Rattle.clash.proofs.hops_break.Goals as goal
 
 pub loop-h-init : goal.loop-h-init
-loop-h-init c = tried-none _ _ _ _ (turn-first _ _ _ c.requires.1 c.requires.0 _ c.wide-h.ensures)
+loop-h-init c = tried-none _ _ _ _ (turn-first _ _ _ c.requires.1 c.requires.0 _ refl)
 
 pub returns-then-meet : goal.returns-then-meet
 returns-then-meet c =

@@ -1,18 +1,22 @@
 -- `prepare`: each refusal of the tests, or a collection that fits and is settled.
-use Rattle.index.specs.Settle.{sorted-as, prepares-by, prepares-settled}
+use Rattle.index.specs.Prepare.{settled}
+use Rattle.index.specs.Settle.{sorted-as}
 use Rattle.index.proofs.prepare.Goals as goal
 
 pub returns-in-BadCount : goal.returns-in-BadCount
-returns-in-BadCount c = prepares-by _ _ _ _ _ c.blank.ensures (sorted-as _ _ c.check-checked.ensures c.in-BadCount.is)
+returns-in-BadCount c = rw c.blank.ensures (sorted-as _ _ c.check-checked.ensures c.in-BadCount.is)
 
 pub returns-in-BadTable : goal.returns-in-BadTable
-returns-in-BadTable c = prepares-by _ _ _ _ _ c.blank-in-BadTable.ensures (sorted-as _ _ c.check-checked.ensures c.in-BadTable.is)
+returns-in-BadTable c = rw c.blank-in-BadTable.ensures (sorted-as _ _ c.check-checked.ensures c.in-BadTable.is)
 
 pub returns-in-BadNumber : goal.returns-in-BadNumber
-returns-in-BadNumber c = prepares-by _ _ _ _ _ c.blank-in-BadNumber.ensures (sorted-as _ _ c.check-checked.ensures c.in-BadNumber.is)
+returns-in-BadNumber c = rw c.blank-in-BadNumber.ensures (sorted-as _ _ c.check-checked.ensures c.in-BadNumber.is)
 
 pub returns-in-EqualEnds : goal.returns-in-EqualEnds
-returns-in-EqualEnds c = prepares-by _ _ _ _ _ c.blank-in-EqualEnds.ensures (sorted-as _ _ c.check-checked.ensures c.in-EqualEnds.is)
+returns-in-EqualEnds c = rw c.blank-in-EqualEnds.ensures (sorted-as _ _ c.check-checked.ensures c.in-EqualEnds.is)
+
+pub ready-requires : goal.ready-requires
+ready-requires c = sorted-as _ _ c.check-checked.ensures c.in-Sound.is
 
 pub returns-in-Sound : goal.returns-in-Sound
-returns-in-Sound c = prepares-settled _ _ _ _ _ _ _ _ _ _ _ _ _ _ _ (sorted-as _ _ c.check-checked.ensures c.in-Sound.is) c.ready.ensures
+returns-in-Sound c = settled (sorted-as _ _ c.check-checked.ensures c.in-Sound.is) c.ready.ensures

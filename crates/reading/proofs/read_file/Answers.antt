@@ -11,28 +11,25 @@ returns-then-store-ne-STORE c = rw c.nothing-held.ensures (no_store (λ e. c.if-
 pub loop-at-init : goal.loop-at-init
 loop-at-init c = along-none _ _ _ (c.if-store-ne-STORE.false ∙ sym store_length) c.nothing-held.ensures
 
-pub returns-then-number-ne0 : goal.returns-then-number-ne0
-returns-then-number-ne0 c =
+pub returns-in-Some : goal.returns-in-Some
+returns-in-Some c =
     let w = c.loop-at.invariant in
-    along-refused w _ c.loop-at-test.true c.line_end-end.ensures _ c.frame_at-frame.ensures _ c.if-number-ne0.true (c.refusal-number.ensures.by w.before w.holds)
+    along-refused w _ c.loop-at-test.true c.line_end-end.ensures _ c.frame_at-frame.ensures _ (c.in-Some.ensures.by w.before w.holds)
 
 pub row_of-requires : goal.row_of-requires
 row_of-requires c =
     let w = c.loop-at.invariant in
-    let j = c.refusal-number.ensures.by w.before w.holds in
-    small w.before c.frame_at-frame.result (rw c.if-number-ne0.false at j) w.sound
+    small w.before c.frame_at-frame.result (c.in_default.ensures.by w.before w.holds) w.sound
 
 pub keep-next-requires : goal.keep-next-requires
 keep-next-requires c =
     let w = c.loop-at.invariant in
-    let j = c.refusal-number.ensures.by w.before w.holds in
-    keepable w.before c.frame_at-frame.result (rw c.if-number-ne0.false at j) c.row_of.ensures w.holds (along-length w) (along-few w)
+    keepable w.before c.frame_at-frame.result (c.in_default.ensures.by w.before w.holds) c.row_of.ensures w.holds (along-length w) (along-few w)
 
 pub loop-at-preserved : goal.loop-at-preserved
 loop-at-preserved c =
     let w = c.loop-at.invariant in
-    let i = c.refusal-number.ensures.by w.before w.holds in
-    let j = rw c.if-number-ne0.false at i in
+    let j = c.in_default.ensures.by w.before w.holds in
     let f = c.frame_at-frame.result in
     along-more w _ c.loop-at-test.true c.line_end-end.ensures _ c.frame_at-frame.ensures j
     (kept-held w.before f j c.row_of.ensures w.holds c.keep-next.ensures) (kept_store w.before f j c.row_of.ensures w.holds c.keep-next.ensures)

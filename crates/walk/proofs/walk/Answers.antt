@@ -1,14 +1,11 @@
 -- `walk`: the last sweep leaves sets that are closed under strides.
-use Rattle.std.proofs.Common.{refl, arith}
+use Rattle.std.proofs.Common.{refl, arith, ⊎_elim}
 use Rattle.walk.specs.Quarters.{ways-back, whole}
 use Rattle.walk.specs.Ends.{start-ready, onward-start, onward-less, onward-end, walk_none}
 use Rattle.walk.proofs.walk.Goals as goal
 
 pub returns-then-first-ge-MOST : goal.returns-then-first-ge-MOST
-returns-then-first-ge-MOST c = walk_none _ _ _ _ _ _ (λ h k. let l = c.if-first-ge-MOST.true in omega arith)
-
-pub returns-then-start-ge-MOST : goal.returns-then-start-ge-MOST
-returns-then-start-ge-MOST c = walk_none _ _ _ _ _ _ (λ h k. let l = c.if-start-ge-MOST.true in omega arith)
+returns-then-first-ge-MOST c = walk_none _ _ _ _ _ _ (λ h k. ⊎_elim (λ l. omega arith) (λ l. omega arith) c.then-first-ge-MOST.either)
 
 pub loop-followed-init : goal.loop-followed-init
 loop-followed-init c = onward-start _ _ _ _ _ _ (start-ready _ _ c.if-first-ge-MOST.false)

@@ -4,8 +4,8 @@ use Rattle.kinds.specs.Kinds.{StateDeclared, IndividualDeclared}
 use Rattle.laws.specs.Exactly.{exactly-holds, exactly-never}
 use Rattle.laws.specs.Decide.{exactly-not, exactly-both, exactly-three}
 use Rattle.meaning.specs.Collection.{role, test, step, ConceptsDeclared, RolesDeclared, ConceptFactDeclared, RoleFactDeclared, StepDeclared}
-use Rattle.reading.specs.Judging.{ends-exactly, judges-told, judges-declared, judges-ends, judges-asked, judges-again, judges-counts, judges-early, judges-allowance}
-use Rattle.reading.proofs.refusal.Goals as goal
+use Rattle.reading.specs.Judging.{ends-exactly, judges-told, judges-declared, judges-ends, judges-asked, judges-again, judges-counts, judges-allowance}
+use Rattle.reading.proofs.refused_by.Goals as goal
 
 pub returns-then-begun : goal.returns-then-begun
 returns-then-begun c = judges-told c.in-Declared.is (judges-again c.if-begun.true)
@@ -16,14 +16,11 @@ returns-then-fit c = judges-told c.in-Declared.is (judges-counts c.if-begun.fals
 pub returns-else-fit : goal.returns-else-fit
 returns-else-fit c = judges-told c.in-Declared.is (judges-counts c.if-begun.false false (exactly-never (exactly-not c.fit.ensures c.if-fit.false)))
 
-pub returns-then-not-begun : goal.returns-then-not-begun
-returns-then-not-begun c = judges-told c.in-Allowance.is (judges-early c.if-not-begun.true)
+pub returns-then-begun-used : goal.returns-then-begun-used
+returns-then-begun-used c = judges-told c.in-Allowance.is (judges-allowance c.if-begun-used.true)
 
-pub returns-then-used-eq0 : goal.returns-then-used-eq0
-returns-then-used-eq0 c = judges-told c.in-Allowance.is (judges-allowance c.if-not-begun.false true (exactly-holds c.if-used-eq0.true))
-
-pub returns-else-used-eq0 : goal.returns-else-used-eq0
-returns-else-used-eq0 c = judges-told c.in-Allowance.is (judges-allowance c.if-not-begun.false false (exactly-never c.if-used-eq0.false))
+pub returns-else-begun-used : goal.returns-else-begun-used
+returns-else-begun-used c = judges-told c.in-Allowance.is (judges-allowance c.if-begun-used.false)
 
 pub returns-in-ConceptRule : goal.returns-in-ConceptRule
 returns-in-ConceptRule c =
