@@ -16,14 +16,14 @@ ghost use Rattle.index.specs.Demands.{Demanded};
 
 use clash::clash;
 use individuals::individual_concepts;
-use kinds::{Answer, Counts, Individual, Rounds, State};
+use kinds::{Answer, Concept, Counts, Individual, Rounds, State};
 use living::living_roles;
 use orders::{concept_order, role_order};
-use routes::{links, loops, packed};
+use routes::{CHAIN_CELLS, Chains, LOOP_CELLS, LoopSets, WAY_CELLS, WaySets, links, loops, packed};
 use sheet::{Ran, run};
 use tables::{Checked, Tables, check};
 use walk::walk;
-use ways::ways;
+use ways::{WayRows, ways};
 
 // What preparing a collection found.
 #[derive(Clone, Copy)]
@@ -41,9 +41,9 @@ pub enum Found {
 #[derive(Drop)]
 pub struct Prepared {
     pub found: Found,
-    pub loops: [u16; 4080],
-    pub ways: [u16; 1024],
-    pub links: [u16; 8447],
+    pub loops: LoopSets,
+    pub ways: WaySets,
+    pub links: Chains,
 }
 
 // Nothing to walk by.
@@ -51,10 +51,10 @@ fn blank(found: Found) -> Prepared
     ensures { result ≡ idle found }
 {
     Prepared {
-        found: found,
-        loops: [0; 4080],
-        ways: [0; 1024],
-        links: [0; 8447],
+        found,
+        loops: [0; LOOP_CELLS],
+        ways: [0; WAY_CELLS],
+        links: [0; CHAIN_CELLS],
     }
 }
 
@@ -62,8 +62,8 @@ fn blank(found: Found) -> Prepared
 fn finish(
     ran: Ran,
     allowance: Rounds,
-    concepts: [[bool; 128]; 255],
-    leads: [[bool; 256]; 64],
+    concepts: [[bool; Concept::NUMBERS]; Individual::NUMBERS],
+    leads: WayRows,
     area: &[u8],
     rolefacts: &[u16],
 ) -> Prepared

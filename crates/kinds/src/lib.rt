@@ -92,32 +92,35 @@ impl RoleName {
 impl Individual {
     pub const MOST: u16 = 255;
 
+    // A table has a place for each of so many individuals.
+    pub const NUMBERS: usize = Individual::MOST as usize;
+
     pub fn declared(self, counts: Counts) -> bool
         ensures { Exactly result (IndividualDeclared counts self) }
     {
         self.0 < counts.individuals
     }
-
-    // A table has a place for each of so many individuals.
-    pub const NUMBERS: usize = Individual::MOST as usize;
 }
 
 impl State {
     pub const MOST: u16 = 16;
+
+    // A table has a place for each of so many states, or pairs of states.
+    pub const NUMBERS: usize = State::MOST as usize;
+
+    pub const PAIRS: usize = State::NUMBERS * State::NUMBERS;
 
     pub fn declared(self, counts: Counts) -> bool
         ensures { Exactly result (StateDeclared counts self) }
     {
         self.0 < counts.states
     }
-
-    // A table has a place for each of so many states, or pairs of states.
-    pub const NUMBERS: usize = State::MOST as usize;
-
-    pub const PAIRS: usize = State::NUMBERS * State::NUMBERS;
 }
 
 impl SignedRole {
+    // A table has a place for each of so many signed roles, two for a role.
+    pub const NUMBERS: usize = 2 * RoleName::MOST as usize;
+
     #[tactic(auto, unfolding(crate::specs::Kinds::inverse))]
     pub fn inverse(self) -> SignedRole
         ensures { result ≡ inverse self }
@@ -143,14 +146,14 @@ impl SignedRole {
     {
         self.0 / 2 < counts.roles
     }
-
-    // A table has a place for each of so many signed roles.
-    pub const NUMBERS: usize = 64;
 }
 
 impl Concept {
     // The number of "has a neighbour by the signed role 0".
     pub const BASE: u16 = 64;
+
+    // A table has a place for each of so many basic concepts: the names, and "has a neighbour" for each signed role.
+    pub const NUMBERS: usize = Concept::BASE as usize + SignedRole::NUMBERS;
 
     // The basic concept that a table's number means.
     #[tactic(auto, unfolding(crate::specs::Kinds::conceptOf))]
@@ -182,9 +185,6 @@ impl Concept {
             Concept::Exists(r) => r.declared(counts),
         }
     }
-
-    // A table has a place for each of so many basic concepts.
-    pub const NUMBERS: usize = 128;
 }
 
 impl Counts {

@@ -1,2 +1,2 @@
-// What document 01 means, and its theorems: all of it stands in specs/. No code.
+// What document 01 means stands in specs/, and its theorems in proofs/. No code.
 #![tactic(auto)]

@@ -16,11 +16,11 @@ use ways::WayRows;
 // The number after that of the last hop, two for each role fact that a table may have; the chains' first hops stand from there on.
 pub const NO_HOP: usize = 2 * ROLE_FACTS;
 
-const LOOP_CELLS: usize = Individual::NUMBERS * State::NUMBERS;
+pub const LOOP_CELLS: usize = Individual::NUMBERS * State::NUMBERS;
 
-const WAY_CELLS: usize = SignedRole::NUMBERS * State::NUMBERS;
+pub const WAY_CELLS: usize = SignedRole::NUMBERS * State::NUMBERS;
 
-const CHAIN_CELLS: usize = NO_HOP + Individual::NUMBERS;
+pub const CHAIN_CELLS: usize = NO_HOP + Individual::NUMBERS;
 
 // A set of states for each individual and each state: where the individual's loops lead from it.
 pub type LoopSets = [u16; LOOP_CELLS];
