@@ -8,7 +8,7 @@
 /* The bytes of each of the two areas. */
 #define LAMPSAFFRON_AREA 32768
 
-/* Document 01's numbers, which the call returns. */
+/* The numbers that the call returns. */
 enum lampsaffron_number {
     LAMPSAFFRON_NO = 0,
     LAMPSAFFRON_YES = 1,

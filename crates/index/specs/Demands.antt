@@ -1,4 +1,4 @@
--- The three demands, about the public call itself: `ask` promises them beside its outcome.
+-- What is demanded (docs/RULES.md, section 9), about the public call itself: `ask` promises it beside its outcome.
 use Rattle.std.specs.Prelude.{◌≡◌, List, ℕ, ◌≤◌}
 use Rattle.kinds.specs.declared.Answer.{Answer}
 use Rattle.kinds.specs.Answer.{answerNumber, number-listed}
@@ -6,18 +6,19 @@ use Rattle.meaning.specs.Lent.{Call, collectionOf, Sound}
 use Rattle.meaning.specs.Outcome.{Outcome}
 use Rattle.meaning.proofs.OutcomeLaws.{outcome-unique}
 use Rattle.meaning.proofs.Larger.{Larger}
-use Rattle.meaning.proofs.Demands.{mostRounds, Enough, most-enough, AsModelSays, demand-2, Grown, demand-3-growth, allowed, demand-3-allowance}
+use Rattle.meaning.proofs.Demands as theorem
+use Rattle.meaning.proofs.Demands.{mostRounds, Enough, most-enough, AsModelSays, says-what-the-model-says, Grown, allowed}
 
 -- the answer r to the call c, which leaves x and y in the areas
 pub record Demanded (c : Call) (r : Answer) (x y : List ℕ) : Type 0 where
-  -- DEMAND 1: one of the listed answers; no other answer, and nothing else in the areas, is an outcome of this input
+  -- one of the listed answers; no other answer, and nothing else in the areas, is an outcome of this input
   pub listed : answerNumber r ≤ 8
   pub fixed : (q : Answer) (u v : List ℕ) → Outcome c q u v → (q ≡ r) × (u ≡ x) × (v ≡ y)
-  -- DEMAND 2: with enough rounds contradiction, yes and no are exactly as the canonical model says;
+  -- with enough rounds contradiction, yes and no are exactly as the canonical model says;
   -- concepts × states × (states − 1) are always enough
   pub model : Sound c → Enough c → AsModelSays c r
   pub enough : Sound c → mostRounds c.counts ≤ c.allowance → Enough c
-  -- DEMAND 3: a larger collection, asked for the same pair, keeps a yes or turns it into contradiction, keeps a contradiction, and
+  -- a larger collection, asked for the same pair, keeps a yes or turns it into contradiction, keeps a contradiction, and
   -- its no was a no before
   pub grows : (d : Call) (q : Answer) (u v : List ℕ) → Larger (collectionOf c) (collectionOf d) → c.first ≡ d.first → c.second ≡ d.second
       → Sound c → Sound d → Enough c → Enough d → Outcome d q u v → Grown r q
@@ -29,8 +30,8 @@ pub outcome-demanded : {c : Call} {r : Answer} {x y : List ℕ} → Outcome c r 
 outcome-demanded {c} {r} o = record {
   listed = number-listed r;
   fixed = λ q u v p. outcome-unique c p o;
-  model = λ s e. demand-2 c s e o;
+  model = λ s e. says-what-the-model-says c s e o;
   enough = λ s h. most-enough c s h;
-  grows = λ d q u v more first second s s' e e' p. demand-3-growth c d more first second s s' e e' o p;
-  returns = λ n h k. demand-3-allowance c n h o k;
+  grows = λ d q u v more first second s s' e e' p. theorem.grows c d more first second s s' e e' o p;
+  returns = λ n h k. theorem.returns c n h o k;
 }

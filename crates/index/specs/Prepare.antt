@@ -75,6 +75,10 @@ module _ (l : Lending) where
     needed : {n : ℕ} {x : List ℕ} {p : Prepared} → (Broken → ⊥) → NeededRounds n → n ≤ l.allowance → Laid n x → p.found ≡ Needed n
         → RoutesOf (lent_of l) l.tables.role-facts n p.loops p.ways p.links → Settles p x zeros
 
+  -- what is found of any collection settles one that passes the tests 4 to 7
+  pub record Readies (p : Prepared) (x y : List ℕ) : Type 0 where
+    pub settles : Fit l → Settles p x y
+
   -- in the library's order
   pub data Prepares : Prepared → List ℕ → List ℕ → Type 0 where
     bad-count : (CountsFit l.counts → ⊥) → Prepares (idle BadCount) l.area l.spare

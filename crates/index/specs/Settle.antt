@@ -4,7 +4,7 @@ use Rattle.std.proofs.Math.Decide.{dec_lt}
 use Rattle.std.proofs.Common.{arith}
 use Rattle.laws.specs.Exactly.{Exactly, exactly-same}
 use Rattle.laws.specs.Decide.{exactly-not}
-use Rattle.meaning.proofs.Clash.{contradiction↔clash}
+use Rattle.meaning.proofs.ClashShown.{contradiction↔clash}
 use Rattle.meaning.proofs.Demands.{rounds-suffice}
 use Rattle.meaning.specs.Layout.{zeros}
 use Rattle.tables.specs.declared.Checked.{Checked}

@@ -8,7 +8,7 @@ ghost use Rattle.laws.specs.Masks.{Bit};
 ghost use Rattle.meaning.specs.Outcome.{Outcome};
 ghost use Rattle.tables.specs.Checks.{lists};
 ghost use Rattle.index.specs.declared.Found.TheVariants.{Needed};
-ghost use Rattle.index.specs.Prepare.{lending, asks, idle, Fit, Settles, Prepares};
+ghost use Rattle.index.specs.Prepare.{lending, asks, idle, Readies, Prepares};
 ghost use Rattle.index.specs.Reply.{IfDeclared, FinalIn, Arrived, RepliesTo, Replies};
 ghost use Rattle.index.specs.Mean.{refusal};
 ghost use Rattle.index.specs.Settle.{Finishes};
@@ -86,7 +86,7 @@ fn finish(
     }
 }
 
-// A collection that passed its tests: the orders, the contradiction test, the rounds.
+// The orders, the contradiction test, the rounds: of a collection that passed its tests, all that preparing it finds.
 fn ready(
     counts: Counts,
     tables: &Tables,
@@ -94,8 +94,7 @@ fn ready(
     area: &mut [u8],
     spare: &mut [u8],
 ) -> Prepared
-    requires { Fit (lending counts (lists tables.now) allowance area.old spare.old) }
-    ensures { Settles (lending counts (lists tables.now) allowance area.old spare.old) result area.new spare.new }
+    ensures { Readies (lending counts (lists tables.now) allowance area.old spare.old) result area.new spare.new }
 {
     let roles = role_order(tables.role_rules);
     let order = concept_order(tables.concept_rules, tables.role_rules);

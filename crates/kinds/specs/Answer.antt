@@ -1,4 +1,4 @@
--- Document 01's number and count for each answer.
+-- The number and the count of each answer, as docs/RULES.md numbers them (section 7).
 use Rattle.std.specs.Prelude.{ℕ, ◌≤◌}
 use Rattle.std.proofs.Common.{arith}
 use Rattle.kinds.specs.declared.Answer.{Answer}

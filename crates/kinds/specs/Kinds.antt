@@ -1,4 +1,4 @@
--- The four kinds of number, signed roles and basic concepts, as document 01 numbers them.
+-- The four kinds of number, signed roles and basic concepts, as docs/RULES.md numbers them (section 2).
 use Rattle.std.specs.Prelude.{ℕ, ◌+◌, ◌-◌, ◌*◌, ◌%◌, ◌≤◌, ◌<◌, ◌≡◌, refl, Bool, true, false, ltb}
 use Rattle.std.proofs.Common.{ap, arith, lt-ltb, le-ltb, ltb-false}
 use Rattle.kinds.specs.declared.ConceptName.{ConceptName}
@@ -78,6 +78,15 @@ inverse-backward r = let e : 2 * r.0 + 1 + 1 - 2 * ((2 * r.0 + 1) % 2) ≡ 2 * r
 -- a signed role as 16 bits hold it; those of declared roles are held as they are
 abbrev pub wrapped : SignedRole → SignedRole
 wrapped R = signed (R.0 % 65536)
+
+pub wrapped-small : (R : SignedRole) → R.0 < 65536 → wrapped R ≡ R
+wrapped-small R h = let e : R.0 % 65536 ≡ R.0 = omega arith in ap signed e
+
+pub wrapped_forward : (r : RoleName) → r.0 < mostRoles → wrapped (forward r) ≡ forward r
+wrapped_forward r h = wrapped-small (forward r) (omega arith)
+
+pub wrapped_backward : (r : RoleName) → r.0 < mostRoles → wrapped (backward r) ≡ backward r
+wrapped_backward r h = wrapped-small (backward r) (omega arith)
 
 -- the number of a basic concept: a name's own, or 64 + R
 unfoldable pub number_of : Concept → ℕ

@@ -1,9 +1,9 @@
 // The four kinds of number, signed roles and basic concepts over them, the declared counts, and the answers.
 #![tactic(auto)]
 
-ghost use Rattle.std.specs.Prelude.{◌+◌, ◌*◌, ◌%◌, ◌≡◌};
+ghost use Rattle.std.specs.Prelude.{◌+◌, ◌*◌, ◌%◌, ◌<◌, ◌≡◌};
 ghost use Rattle.laws.specs.Exactly.{Exactly};
-ghost use Rattle.kinds.specs.Kinds.{inverse, forward, backward, wrapped, number_of, conceptOf, NameDeclared, RoleDeclared, SignedDeclared, IndividualDeclared, StateDeclared, ConceptDeclared, CountsFit};
+ghost use Rattle.kinds.specs.Kinds.{mostRoles, inverse, forward, backward, wrapped, number_of, conceptOf, NameDeclared, RoleDeclared, SignedDeclared, IndividualDeclared, StateDeclared, ConceptDeclared, CountsFit};
 ghost use Rattle.kinds.specs.Answer.{answerNumber, answerCount};
 
 // A number of rounds, and the allowance of them.
@@ -42,7 +42,7 @@ pub struct Counts {
     pub start: State,
 }
 
-// What a call answers; `number` and `count` are document 01's.
+// What a call answers; `number` and `count` are those of docs/RULES.md, section 7.
 #[derive(Clone, Copy)]
 pub enum Answer {
     No(Rounds),
@@ -76,14 +76,18 @@ impl RoleName {
     }
 
     // Every declared role is far below 32,768; above it the number wraps, as 16 bits do.
+    #[tactic(auto, using(crate::specs::Kinds::wrapped_forward))]
     pub fn forward(self) -> SignedRole
-        ensures { result ≡ wrapped (forward self) }
+        ensures wrapped { result ≡ wrapped (forward self) }
+        ensures declared { self.0 < mostRoles → result ≡ forward self }
     {
         SignedRole(2 * (self.0 % 32768))
     }
 
+    #[tactic(auto, using(crate::specs::Kinds::wrapped_backward))]
     pub fn backward(self) -> SignedRole
-        ensures { result ≡ wrapped (backward self) }
+        ensures wrapped { result ≡ wrapped (backward self) }
+        ensures declared { self.0 < mostRoles → result ≡ backward self }
     {
         SignedRole(2 * (self.0 % 32768) + 1)
     }

@@ -1,4 +1,4 @@
--- What the call from other languages gives: the outcome of asking, with the answer as document 01's number and count.
+-- What the call from other languages gives: the outcome of asking, with the answer as its number and count (docs/RULES.md, section 7).
 use Rattle.std.specs.Prelude.{◌≡◌, List, ℕ}
 use Rattle.std.proofs.Common.{ap, sym, ◌∙◌}
 use Rattle.kinds.specs.declared.Answer.{Answer}

@@ -1,4 +1,4 @@
-// The call for programs in other languages: numbers and slices in, document 01's number out, its count through a reference.
+// The call for programs in other languages: numbers and slices in, the number of docs/RULES.md (section 7) out, its count through a reference.
 #![tactic(auto)]
 
 ghost use Rattle.kinds.specs.Kinds.{individual};

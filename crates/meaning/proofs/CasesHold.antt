@@ -1,4 +1,4 @@
--- The cases marked P hold: one test that the checker computes over the whole table, and what it means.
+-- The cases worked on paper hold: one test that the checker computes over the whole table, and what it means.
 use Rattle.std.specs.Prelude.{◌≡◌, refl, Bool, true, List, map, ℕ, T, eqb, length, get_or}
 use Rattle.std.proofs.Math.Path.{sym}
 use Rattle.std.proofs.Math.Dec.{eqb→eq}
@@ -25,7 +25,7 @@ use Rattle.meaning.proofs.LiteTests.{roleBase, roleLe, conceptBase, conceptLe, l
 use Rattle.meaning.proofs.Reply.{declaredIndividuals, factTypes, endTypes, isTyped, typedTo, individualHas, joinsBy, factEdge, follows, aliveBy, aliveAt, alive, clashAt, clashUnder, conceptClash, clashBetween, clashBelow, roleClash, clash, marked, stride, walks, reachesIn, reaches}
 use Rattle.meaning.specs.Lent.{records, collection, Sound}
 use Rattle.meaning.specs.Layout.{place, areaLength, Lays, Standing}
-use Rattle.meaning.proofs.OutcomeLaws.{outcome-exists, passes-all, sound-well-formed, holds-sheet}
+use Rattle.meaning.proofs.OutcomeExists.{outcome-exists, passes-all, sound-well-formed, holds-sheet}
 use Rattle.meaning.proofs.Calculate.{countsFit, whole, shapesOk, conceptsDeclared, rolesDeclared, conceptFactDeclared, roleFactDeclared, numbersDeclared, numbersOk, endsOk, askOk, soundAnswer, afterClash, afterRounds, sheetArea, areaAfter, spareAfter}
 use Rattle.meaning.proofs.CalculateLaws.{counts-test, shapes-test, numbers-test, ends-test, ask-test}
 use Rattle.meaning.specs.Cases.{Case, cases, lend, MarksStand, Says}
@@ -163,7 +163,7 @@ module _ (area spare : List ℕ) (long : length area ≡ areaLength) (long' : le
         marks = marks-stand k s r (and_right (eqb (answerCount r) k.count) b w);
       }
 
-  -- THEOREM: the cases marked P: for any two areas of the right length, whatever they hold, each row's call has the
+  -- THEOREM: the cases worked on paper: for any two areas of the right length, whatever they hold, each row's call has the
   -- outcome that the row says: its number, its count, and so many marks in the first area
   pub cases-hold : (k : Case) → k ∈ cases → Says area spare k
   cases-hold k m = says k (every-out cases holds (rw table-computes tt) m)

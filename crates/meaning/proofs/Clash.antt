@@ -1,5 +1,5 @@
--- A contradiction anywhere in the canonical model is one among individuals, living roles and pairs joined by a fact.
-use Rattle.std.specs.Prelude.{◌≡◌, refl, ◌↔◌, ℕ, zero, suc}
+-- A contradiction anywhere in the canonical model is found among individuals, living roles and pairs joined by a fact: by one of five finite tests.
+use Rattle.std.specs.Prelude.{◌≡◌, refl, ℕ, zero, suc}
 use Rattle.std.proofs.Common.{ap, arith}
 use Rattle.kinds.specs.declared.Individual.{Individual}
 use Rattle.kinds.specs.declared.SignedRole.{SignedRole}
@@ -10,8 +10,8 @@ use Rattle.laws.specs.Member.{◌∈◌}
 use Rattle.meaning.specs.Collection.{Collection, NumbersDeclared}
 use Rattle.meaning.specs.Orders.{RoleLe, ConceptLe}
 use Rattle.meaning.specs.Tree.{root, ◌▹◌}
-use Rattle.meaning.specs.Model.{Has, Belongs, bare, grown, Edge, fact, child, parent, individuals, Element, Typed, named, first, second, IndividualHas, FactEdge, Contradiction, at-element, at_pair}
-use Rattle.meaning.proofs.ModelLaws.{born, has_above}
+use Rattle.meaning.specs.Model.{Belongs, Edge, fact, child, parent, individuals, Element, Typed, named, first, second, IndividualHas, FactEdge, Contradiction, at-element, at_pair}
+use Rattle.meaning.proofs.ModelLaws.{born}
 
 module _ (𝓒 : Collection) where
   -- a signed role by which some unnamed element ends
@@ -65,7 +65,8 @@ module _ (𝓒 : Collection) where
       let w = up-role g Q refl in
       up-clash Q R w.0 (rw w.1 m) (living x Q c) l w.2
 
-  find : Contradiction 𝓒 → Clash
+  -- THEOREM: a contradiction is a clash
+  pub find : Contradiction 𝓒 → Clash
   find (at-element (root a) C D m b h k) = individual-clash a C D m h k
   find (at-element (x ▹ R) C D m b h k) = unnamed-clash R C D m (living x R b) h k
   find (at_pair x y R S m g h) = find-pair m g h
@@ -82,29 +83,3 @@ module _ (𝓒 : Collection) where
     typed-valid (named {A = A} {a = a} m) = (ok.concept-facts (A, a) m).0
     typed-valid (first {r = r} {a = a} {b = b} m) = let k = (ok.role-facts (r, a, b) m).0 in omega arith
     typed-valid (second {r = r} {a = a} {b = b} m) = let k = (ok.role-facts (r, a, b) m).0 in omega arith
-
-    lives : {R : SignedRole} → Alive R → (x : Element 𝓒) × Belongs 𝓒 (individuals 𝓒) (x ▹ R)
-    lives (sprouts a R h) = (root a, grown (bare (typed-declared h.1)) h)
-    lives (grows R S l k) = let w = lives l in (w.0 ▹ R, grown w.1 k)
-
-    show : Clash → Contradiction 𝓒
-    show (individual-clash a C D m h k) = at-element (root a) C D m (bare (typed-declared h.1)) h k
-    show (unnamed-clash R C D m l h k) = let w = lives l in at-element (w.0 ▹ R) C D m w.1 h k
-    show (fact-clash a b R S m f g) = at_pair (root a) (root b) R S m (fact f) (fact g)
-    show (down-clash Q R S m l h k) = let w = lives l in at_pair w.0 (w.0 ▹ Q) R S m (child w.1 h) (child w.1 k)
-    show (up-clash Q R S m l h k) = let w = lives l in at_pair (w.0 ▹ Q) w.0 (inverse R) (inverse S) m (parent w.1 h) (parent w.1 k)
-
-    -- THEOREM: the canonical model, of any depth, breaks an exclusion exactly when one of the five finite tests finds a clash
-    pub contradiction↔clash : Contradiction 𝓒 ↔ Clash
-    contradiction↔clash = (find, show)
-
-  -- THEOREM: an element, individual or unnamed, of a concept that is excluded from itself is a contradiction,
-  -- so that it need not imply everything: no answer differs
-  pub self-exclusion : (x : Element 𝓒) (C : Concept) → (C, C) ∈ 𝓒.concept-exclusions → Belongs 𝓒 (individuals 𝓒) x → Has 𝓒 (individuals 𝓒) x C
-      → Contradiction 𝓒
-  self-exclusion x C m b h = at-element x C C m b h h
-
-  -- THEOREM: the same of a concept from which two follow that exclude each other
-  pub empty-concept : (x : Element 𝓒) (C D E : Concept) → ConceptLe 𝓒 C D → ConceptLe 𝓒 C E → (D, E) ∈ 𝓒.concept-exclusions
-      → Belongs 𝓒 (individuals 𝓒) x → Has 𝓒 (individuals 𝓒) x C → Contradiction 𝓒
-  empty-concept x C D E d e m b h = at-element x D E m b (has_above 𝓒 x h d) (has_above 𝓒 x h e)

@@ -16,7 +16,8 @@ use Rattle.meaning.specs.Orders.{RoleLe, ConceptLe}
 use Rattle.meaning.specs.Lite.{signedRoles}
 use Rattle.meaning.specs.Model.{IndividualHas, Contradiction}
 use Rattle.meaning.proofs.ModelWalk.{edge-declared}
-use Rattle.meaning.proofs.Clash.{Alive, sprouts, grows, Clash, individual-clash, unnamed-clash, fact-clash, down-clash, up-clash, contradiction↔clash, typed-declared}
+use Rattle.meaning.proofs.Clash.{Alive, sprouts, grows, Clash, individual-clash, unnamed-clash, fact-clash, down-clash, up-clash, typed-declared}
+use Rattle.meaning.proofs.ClashShown.{contradiction↔clash}
 use Rattle.meaning.proofs.Declared.{signed-in, signed-out, concept-declared}
 use Rattle.meaning.proofs.LiteTests.{sameRole, role_same, roleLe, roleLe-in, roleLe-out, conceptLe, conceptLe-in, conceptLe-out}
 use Rattle.meaning.proofs.Reply.{declaredIndividuals, individualHas, factEdge, follows, aliveBy, aliveAt, alive, clashAt, clashUnder, conceptClash, clashBetween, clashBelow, roleClash, clash}

@@ -1,4 +1,4 @@
--- The three demands, about the outcome of a library call, as they are worded.
+-- What is demanded of a library call (docs/RULES.md, section 9), about its outcome.
 use Rattle.std.specs.Prelude.{◌≡◌, refl, ◌↔◌, ◌⊎◌, List, ℕ, ◌+◌, ◌*◌, ◌-◌, ◌≤◌, ◌<◌}
 use Rattle.std.proofs.Common.{inl, inr, mul-le-mul, arith}
 use Rattle.kinds.specs.declared.State.{State}
@@ -21,7 +21,8 @@ use Rattle.meaning.proofs.Tests.{rounds-bound}
 use Rattle.meaning.proofs.LiteTests.{liteTests, lite-decides}
 use Rattle.meaning.specs.Lent.{Call, collectionOf, Sound}
 use Rattle.meaning.specs.Outcome.{Outcome, bad-count, bad-table, bad-number, equal-ends, bad-ask, contradiction, spent, says-yes, says-no, Breaks, Reached, RoundsNeeded}
-use Rattle.meaning.proofs.OutcomeLaws.{sound-well-formed, outcome-exists, outcome-unique}
+use Rattle.meaning.proofs.OutcomeExists.{sound-well-formed, outcome-exists}
+use Rattle.meaning.proofs.OutcomeLaws.{outcome-unique}
 use Rattle.meaning.proofs.Calculate.{answer, areaAfter, spareAfter}
 use Rattle.meaning.proofs.Larger.{Larger, yes-grows, contradiction-grows}
 
@@ -52,10 +53,10 @@ module _ (𝓒 : Collection) (ok : WellFormed 𝓒) where
     λ p. loop→mark (lite 𝓒) (lite-sane 𝓒 ok.numbers) n needed.holds ((loop↔treeOf 𝓒 B s t).1 p) (concept-in 𝓒.counts B d) (state-in 𝓒.counts s h),
   )
 
--- DEMAND 1: every input gets one of the listed answers, and only one; what it leaves in both areas is fixed
-pub demand-1 : (c : Call)
+-- THEOREM: every input gets one of the listed answers, and only one; what it leaves in both areas is fixed
+pub every-input-answered : (c : Call)
     → (r : Answer) × (x y : List ℕ) × Outcome c r x y × (answerNumber r ≤ 8) × ((r' : Answer) (x' y' : List ℕ) → Outcome c r' x' y' → (r' ≡ r) × (x' ≡ x) × (y' ≡ y))
-demand-1 c = (answer c, areaAfter c (answer c), spareAfter c (answer c), outcome-exists c, number-listed (answer c), λ r' x' y' o. outcome-unique c o (outcome-exists c))
+every-input-answered c = (answer c, areaAfter c (answer c), spareAfter c (answer c), outcome-exists c, number-listed (answer c), λ r' x' y' o. outcome-unique c o (outcome-exists c))
 
 -- with enough rounds
 abbrev pub Enough : Call → Type 0
@@ -114,11 +115,11 @@ module _ (c : Call) where
     no = λ u. (λ m v. missed (w v), λ v. n);
   }
 
-  -- DEMAND 2: with an allowance of at least the rounds needed, the outcome of a well-formed call is contradiction exactly
+  -- THEOREM: with an allowance of at least the rounds needed, the outcome of a well-formed call is contradiction exactly
   -- when the canonical model breaks an exclusion, and otherwise yes exactly when a path in it from the first individual
   -- to the second spells a word of the question
-  pub demand-2 : {r : Answer} {x y : List ℕ} → Sound c → Enough c → Outcome c r x y → AsModelSays c r
-  demand-2 s e o = decided (verdict s e o)
+  pub says-what-the-model-says : {r : Answer} {x y : List ℕ} → Sound c → Enough c → Outcome c r x y → AsModelSays c r
+  says-what-the-model-says s e o = decided (verdict s e o)
 
 -- an answer r, and the answer q that a larger collection gives: a yes is kept or turned into contradiction, a contradiction
 -- is kept, and a no was a no before
@@ -127,7 +128,7 @@ pub record Grown (r q : Answer) : Type 0 where
   pub contradiction-kept : answerNumber r ≡ 2 → answerNumber q ≡ 2
   pub no-before : answerNumber q ≡ 0 → answerNumber r ≡ 0
 
--- DEMAND 3, between two collections: a shared start state and pair, the records of the first among those of the second
+-- growth, between two collections: a shared start state and pair, the records of the first among those of the second
 module _ (c d : Call) (more : Larger (collectionOf c) (collectionOf d)) (first : c.first ≡ d.first) (second : c.second ≡ d.second) where
   module _ (s : Sound c) (s' : Sound d) where
     breaks-kept : Breaks c → Breaks d
@@ -150,10 +151,11 @@ module _ (c d : Call) (more : Larger (collectionOf c) (collectionOf d)) (first :
     grown (is-no n sane h) (is-yes m u k) = record { yes-kept = λ v. inl m; contradiction-kept = λ v. absurd (omega arith); no-before = λ v. n }
     grown (is-no n sane h) (is-no m u k) = record { yes-kept = λ v. absurd (omega arith); contradiction-kept = λ v. absurd (omega arith); no-before = λ v. n }
 
-    pub demand-3-growth : Enough c → Enough d → {r q : Answer} {x y x' y' : List ℕ} → Outcome c r x y → Outcome d q x' y' → Grown r q
-    demand-3-growth e e' o p = grown (verdict c s e o) (verdict d s' e' p)
+    -- THEOREM: the larger collection's answer has grown from the smaller one's
+    pub grows : Enough c → Enough d → {r q : Answer} {x y x' y' : List ℕ} → Outcome c r x y → Outcome d q x' y' → Grown r q
+    grows e e' o p = grown (verdict c s e o) (verdict d s' e' p)
 
--- DEMAND 3, within one collection: the same call with another allowance
+-- within one collection: the same call with another allowance
 abbrev pub allowed : Call → ℕ → Call
 allowed c n = record { counts = c.counts; tables = c.tables; first = c.first; second = c.second; allowance = n; area = c.area; spare = c.spare }
 
@@ -167,14 +169,14 @@ module _ (c : Call) (n : ℕ) (h : c.allowance ≤ n) where
     ask = s.ask;
   }
 
-  -- an answer 0, 1 or 2 at one allowance returns, with the same count and areas, at every larger one
-  pub demand-3-allowance : {r : Answer} {x y : List ℕ} → Outcome c r x y → answerNumber r ≤ 2 → Outcome (allowed c n) r x y
-  demand-3-allowance (bad-count k) l = absurd (omega arith)
-  demand-3-allowance (bad-table k t) l = absurd (omega arith)
-  demand-3-allowance (bad-number k t u) l = absurd (omega arith)
-  demand-3-allowance (equal-ends k t u v) l = absurd (omega arith)
-  demand-3-allowance (bad-ask k t u v w) l = absurd (omega arith)
-  demand-3-allowance (contradiction s b) l = contradiction (sound-allowed s) b
-  demand-3-allowance (spent s sane need k lays) l = absurd (omega arith)
-  demand-3-allowance (says-yes s sane need k lays reached) l = says-yes (sound-allowed s) sane need (omega arith) lays reached
-  demand-3-allowance (says-no s sane need k lays missed) l = says-no (sound-allowed s) sane need (omega arith) lays missed
+  -- THEOREM: an answer 0, 1 or 2 at one allowance returns, with the same count and areas, at every larger one
+  pub returns : {r : Answer} {x y : List ℕ} → Outcome c r x y → answerNumber r ≤ 2 → Outcome (allowed c n) r x y
+  returns (bad-count k) l = absurd (omega arith)
+  returns (bad-table k t) l = absurd (omega arith)
+  returns (bad-number k t u) l = absurd (omega arith)
+  returns (equal-ends k t u v) l = absurd (omega arith)
+  returns (bad-ask k t u v w) l = absurd (omega arith)
+  returns (contradiction s b) l = contradiction (sound-allowed s) b
+  returns (spent s sane need k lays) l = absurd (omega arith)
+  returns (says-yes s sane need k lays reached) l = says-yes (sound-allowed s) sane need (omega arith) lays reached
+  returns (says-no s sane need k lays missed) l = says-no (sound-allowed s) sane need (omega arith) lays missed

@@ -12,7 +12,8 @@ use Rattle.meaning.specs.Run.{Run, stop, go, one, carry}
 use Rattle.meaning.specs.Model.{Has, Belongs, bare, Edge, fact, child, parent, individuals, Element, Typed, named, first, second, FactEdge, ahead, behind, canonical, Contradiction, at-element, at_pair}
 use Rattle.meaning.proofs.ModelLaws.{born, edge-back, edge-above, edge-has, has-neighbour, concept-fact-holds, role-fact-holds, concept-rule-kept}
 use Rattle.meaning.specs.Question.{Going, along-role, at_name, Yes}
-use Rattle.meaning.proofs.Clash.{Alive, sprouts, grows, Clash, individual-clash, unnamed-clash, fact-clash, down-clash, up-clash, contradiction↔clash}
+use Rattle.meaning.proofs.Clash.{Alive, sprouts, grows, Clash, individual-clash, unnamed-clash, fact-clash, down-clash, up-clash}
+use Rattle.meaning.proofs.ClashShown.{contradiction↔clash}
 use Rattle.meaning.specs.Worlds.{World, In, Keeps, Respects, YesIn, Forced, NoWorld}
 
 -- a thing of a world stands for an element: it is the individual, or a neighbour, by the element's last role, of one that stands for its parent

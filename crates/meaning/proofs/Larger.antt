@@ -14,7 +14,8 @@ use Rattle.meaning.specs.Model.{Has, Belongs, bare, grown, Edge, fact, child, pa
 use Rattle.meaning.specs.Question.{Yes}
 use Rattle.meaning.proofs.Growth.{Grows, walk-grows}
 use Rattle.meaning.specs.Lite.{lite}
-use Rattle.meaning.proofs.ModelWalk.{Near, IndividualsWalk, path↔individuals-walk}
+use Rattle.meaning.proofs.ModelMoves.{Near}
+use Rattle.meaning.proofs.ModelWalk.{IndividualsWalk, path↔individuals-walk}
 use Rattle.meaning.proofs.Clash.{typed-declared}
 
 -- a shared start state, and the records of the first among those of the second; nothing is asked of the other counts

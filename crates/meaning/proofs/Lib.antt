@@ -1,10 +1,14 @@
 -- Theorems about the definitions.
 pub mod SheetLaws
 pub mod Growth
+pub mod RoleTurned
 pub mod ModelLaws
+pub mod ModelMoves
+pub mod ModelPaths
 pub mod ModelWalk
 pub mod QuestionLaws
 pub mod Clash
+pub mod ClashShown
 pub mod StraightBack
 pub mod Forced
 pub mod Larger
@@ -20,6 +24,7 @@ pub mod LayoutLaws
 pub mod Calculate
 pub mod CalculateLaws
 -- What follows from both: one outcome for every input, the demands, the worked cases.
+pub mod OutcomeExists
 pub mod OutcomeLaws
 pub mod Demands
 pub mod WorldsSay

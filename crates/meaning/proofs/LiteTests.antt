@@ -17,6 +17,7 @@ use Rattle.meaning.specs.Collection.{Collection, Letter, role, test, Step, step,
 use Rattle.meaning.specs.Orders.{RoleLe, ConceptLe, same, then, rule, turned, wider}
 use Rattle.meaning.specs.Lite.{signedRoles, validConcepts, lite}
 use Rattle.meaning.proofs.Declared.{signed-in, signed-out, concept-in, concept-out, role-declared, concept-declared}
+use Rattle.meaning.proofs.RoleTurned.{inverses-follow}
 use Rattle.meaning.proofs.Tests.{Tests, Decides}
 
 -- equality of each kind
@@ -173,9 +174,7 @@ module _ (𝓒 : Collection) where
   role-mean : (R S : SignedRole) → RoleFrom R S → RoleLe 𝓒 R S
   role-mean R S (equal e) = rw e same
   role-mean R S (typed m) = rule m
-  role-mean R S (mirrored m) =
-      let l : RoleLe 𝓒 (inverse (inverse R)) (inverse (inverse S)) = turned (rule m) in
-      rw (inverse-inverse R, inverse-inverse S) at l
+  role-mean R S (mirrored m) = (inverses-follow 𝓒).1 (rule m)
 
   links-role : {R S : SignedRole} → RoleLinks R S → RoleLe 𝓒 R S
   links-role (link {x = R} {y = S} h) = role-mean R S (role-base-out R S h)

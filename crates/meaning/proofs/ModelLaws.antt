@@ -11,18 +11,13 @@ use Rattle.meaning.specs.Collection.{Collection}
 use Rattle.meaning.specs.Orders.{RoleLe, ConceptLe, same, then, rule, turned, wider}
 use Rattle.meaning.specs.Tree.{Elem, root, ◌▹◌}
 use Rattle.meaning.specs.Model.{Roots, Has, Belongs, grown, Edge, fact, child, parent, individuals, Element, named, first, second, IndividualHas, FactEdge, ahead, behind}
+use Rattle.meaning.proofs.RoleTurned.{turn}
 
 -- a child's parent belongs, and has what the child was promised by
 pub born : (𝓒 : Collection) (𝓡 : Roots) {x : Elem 𝓡.Root SignedRole} {R : SignedRole} → Belongs 𝓒 𝓡 (x ▹ R) → Belongs 𝓒 𝓡 x × Has 𝓒 𝓡 x (Exists R)
 born 𝓒 𝓡 (grown b h) = (b, h)
 
 module _ (𝓒 : Collection) where
-  -- inverses are put on the other side
-  pub turn : {R S : SignedRole} → RoleLe 𝓒 (inverse R) S → RoleLe 𝓒 R (inverse S)
-  turn {R} {S} l =
-      let k : RoleLe 𝓒 (inverse (inverse R)) (inverse S) = turned l in
-      rw (inverse-inverse R) at k
-
   fact-back : {a b : Individual} {S : SignedRole} → FactEdge 𝓒 a S b → FactEdge 𝓒 b (inverse S) a
   fact-back (ahead m l) = behind m l
   fact-back (behind {S = S} m l) = rw (inverse-inverse S) (ahead m l)
@@ -30,7 +25,7 @@ module _ (𝓒 : Collection) where
   fact-above : {a b : Individual} {R S : SignedRole} → FactEdge 𝓒 a R b → RoleLe 𝓒 R S → FactEdge 𝓒 a S b
   fact-above (ahead m l) k = ahead m (then l k)
   fact-above {S = S} (behind {a = b} {b = a} m l) k =
-      let f : FactEdge 𝓒 a (inverse (inverse S)) b = behind m (then l (turn k)) in
+      let f : FactEdge 𝓒 a (inverse (inverse S)) b = behind m (then l (turn 𝓒 k)) in
       rw (inverse-inverse S) at f
 
   fact-has : {a b : Individual} {S : SignedRole} → FactEdge 𝓒 a S b → IndividualHas 𝓒 a (Exists S)
@@ -50,7 +45,7 @@ module _ (𝓒 : Collection) where
   edge-above (fact f) k = fact (fact-above f k)
   edge-above (child b l) k = child b (then l k)
   edge-above {S = S} (parent {x = x} {R = R} b l) k =
-      let f : Edge 𝓒 (individuals 𝓒) (x ▹ R) (inverse (inverse S)) x = parent b (then l (turn k)) in
+      let f : Edge 𝓒 (individuals 𝓒) (x ▹ R) (inverse (inverse S)) x = parent b (then l (turn 𝓒 k)) in
       rw (inverse-inverse S) at f
 
   -- THEOREM: an element has every concept that follows from its own

@@ -1,62 +1,19 @@
 -- Paths between roots, in the canonical model and in a tree grown from one element, are walks of the loop sheet's rules.
-use Rattle.std.specs.Prelude.{refl, ◌↔◌}
+use Rattle.std.specs.Prelude.{◌↔◌}
 use Rattle.kinds.specs.declared.Individual.{Individual}
 use Rattle.kinds.specs.declared.State.{State}
 use Rattle.kinds.specs.declared.SignedRole.{SignedRole}
 use Rattle.kinds.specs.declared.Concept.{Concept}
-use Rattle.kinds.specs.declared.Concept.TheVariants.{Name, Exists}
-use Rattle.kinds.specs.Kinds.{inverse, IndividualDeclared}
-use Rattle.meaning.specs.Collection.{Collection, RoleStep, WellFormed}
+use Rattle.kinds.specs.Kinds.{IndividualDeclared}
+use Rattle.meaning.specs.Collection.{Collection, WellFormed}
 use Rattle.meaning.specs.Orders.{ConceptLe, same, then}
-use Rattle.meaning.specs.Run.{Run, stop, go, one, carry}
-use Rattle.meaning.specs.Tree.{Elem, root, ◌▹◌, Loop, here, tested, twice, below, Holds, Move, tests, downs, ups, hops, Stride, along, by, path↔walk}
-use Rattle.meaning.specs.Model.{Roots, Has, Belongs, bare, grown, fact, child, parent, grownFrom, individuals, canonical, only, tree_of, FactEdge, ahead, behind}
-use Rattle.meaning.proofs.ModelLaws.{born}
-use Rattle.meaning.specs.Question.{Going, along-role, at_name, PathIn}
+use Rattle.meaning.specs.Run.{Run, stop, go, one}
+use Rattle.meaning.specs.Tree.{root, Loop, here, tested, twice, below, Stride, along, by}
+use Rattle.meaning.specs.Model.{individuals, canonical, only, tree_of, FactEdge, ahead, behind}
+use Rattle.meaning.specs.Question.{PathIn}
 use Rattle.meaning.specs.Lite.{lite}
-
--- a role step along an edge between roots
-abbrev pub Near : (𝓒 : Collection) (𝓡 : Roots) → 𝓡.Root → State → 𝓡.Root → State → Type 0
-Near 𝓒 𝓡 a s b t = (S : SignedRole) × RoleStep 𝓒 s S t × 𝓡.edge a S b
-
--- what roots must keep: their concepts are closed under ≤, and edges lead to roots that belong
-pub record RootsKeep (𝓒 : Collection) (𝓡 : Roots) : Type 0 where
-  pub upward : (a : 𝓡.Root) (C D : Concept) → 𝓡.has a C → ConceptLe 𝓒 C D → 𝓡.has a D
-  pub within : (a b : 𝓡.Root) (S : SignedRole) → 𝓡.edge a S b → 𝓡.belongs b
-
-module _ (𝓒 : Collection) (𝓡 : Roots) (keep : RootsKeep 𝓒 𝓡) where
-  abbrev Walk : 𝓡.Root → State → 𝓡.Root → State → Type 0
-  Walk = Run (Stride (lite 𝓒) 𝓡.has (Near 𝓒 𝓡))
-
-  has→holds : (x : Elem 𝓡.Root SignedRole) {D : Concept} → Has 𝓒 𝓡 x D → (B : Concept) × Holds (lite 𝓒) 𝓡.has (Near 𝓒 𝓡) x B × ConceptLe 𝓒 B D
-  has→holds (root a) {D} h = (D, h, same)
-  has→holds (x ▹ R) h = (Exists (inverse R), refl, h)
-
-  holds→has : (x : Elem 𝓡.Root SignedRole) (B D : Concept) → Holds (lite 𝓒) 𝓡.has (Near 𝓒 𝓡) x B → ConceptLe 𝓒 B D → Has 𝓒 𝓡 x D
-  holds→has (root a) B D h k = keep.upward a B D h k
-  holds→has (x ▹ R) B D h k = rw h k
-
-  to-move : {x y : Elem 𝓡.Root SignedRole} {s t : State} → Going 𝓒 (grownFrom 𝓒 𝓡) x s y t → Move (lite 𝓒) 𝓡.has (Near 𝓒 𝓡) x s y t
-  to-move (along-role S e (fact f)) = hops (S, e, f)
-  to-move (along-role S e (child {x = x} {R = R} b l)) = let w = has→holds x (born 𝓒 𝓡 b).1 in downs w.0 R w.1 w.2 (S, e, l)
-  to-move (along-role S e (parent b l)) = ups (_, e, l)
-  to-move (at_name {x = x} A e h) = let w = has→holds x h in tests w.0 w.1 (A, e, w.2)
-
-  from-moves : {x y : Elem 𝓡.Root SignedRole} {s t : State} → Run (Move (lite 𝓒) 𝓡.has (Near 𝓒 𝓡)) x s y t → Belongs 𝓒 𝓡 x
-      → PathIn 𝓒 (grownFrom 𝓒 𝓡) x s y t
-  from-moves stop b = stop
-  from-moves (go (tests {x = x} B h e) p) b = go (at_name e.0 e.1 (holds→has x B (Name e.0) h e.2)) (from-moves p b)
-  from-moves (go (downs {x = x} B R h k d) p) b =
-      let c : Belongs 𝓒 𝓡 (x ▹ R) = grown b (holds→has x B (Exists R) h k) in
-      go (along-role d.0 d.1 (child c d.2)) (from-moves p c)
-  from-moves (go (ups u) p) b = go (along-role (inverse u.0) u.1 (parent b u.2)) (from-moves p (born 𝓒 𝓡 b).0)
-  from-moves (go (hops {a = a} {b = d} f) p) b = go (along-role f.0 f.1 (fact f.2)) (from-moves p (bare (keep.within a d f.0 f.2)))
-
-  pub path↔steps : (a b : 𝓡.Root) (s t : State) → 𝓡.belongs a → PathIn 𝓒 (grownFrom 𝓒 𝓡) (root a) s (root b) t ↔ Walk a s b t
-  path↔steps a b s t h = (
-    λ p. (path↔walk (lite 𝓒) 𝓡.has (Near 𝓒 𝓡)).0 (carry (λ x. x) (λ x y s t m. one (to-move m)) p),
-    λ w. from-moves ((path↔walk (lite 𝓒) 𝓡.has (Near 𝓒 𝓡)).1 w) (bare h),
-  )
+use Rattle.meaning.proofs.ModelMoves.{Near}
+use Rattle.meaning.proofs.ModelPaths.{RootsKeep, path↔steps}
 
 module _ (𝓒 : Collection) (ok : WellFormed 𝓒) where
   -- both ends of an edge between individuals are declared

@@ -15,7 +15,7 @@ use Rattle.laws.specs.Member.{◌∈◌}
 use Rattle.laws.specs.Search.{any, any-in, any_out, or, or_left, or_right, or_case, and, and_left, and_right, and_both}
 use Rattle.laws.specs.Same.{both, both-same}
 use Rattle.laws.specs.Pairs.{pairs, pairs-in, pairs-out}
-use Rattle.laws.specs.Numbers.{numbered-in}
+use Rattle.laws.specs.Numbers.{numbered-in, numbered-out}
 use Rattle.laws.specs.Chain.{Chain, link, chain, closed_in, closed-out}
 use Rattle.meaning.specs.Collection.{Collection, WellFormed}
 use Rattle.meaning.specs.Run.{stop, go, one, join}
@@ -31,6 +31,10 @@ use Rattle.meaning.proofs.Reply.{declaredIndividuals, factTypes, endTypes, isTyp
 pub individual-in : (c : Counts) (a : Individual) → IndividualDeclared c a → a ∈ declaredIndividuals c
 unfolding declaredIndividuals
 individual-in c a h = numbered-in individual c.individuals a.0 h
+
+pub individual-out : (c : Counts) (a : Individual) → a ∈ declaredIndividuals c → IndividualDeclared c a
+unfolding declaredIndividuals
+individual-out c a m = let w = numbered-out individual c.individuals m in rw w.2 w.1
 
 module _ (𝓒 : Collection) (ok : WellFormed 𝓒) where
   typed-out : (a : Individual) (C : Concept) → T (isTyped 𝓒 a C) → Typed 𝓒 a C

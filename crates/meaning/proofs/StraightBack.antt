@@ -14,7 +14,8 @@ use Rattle.meaning.specs.Orders.{RoleLe, ConceptLe}
 use Rattle.meaning.specs.Run.{stop, go, one, carry}
 use Rattle.meaning.specs.Tree.{root, ◌▹◌}
 use Rattle.meaning.specs.Model.{Structure, Has, Belongs, Edge, individuals, Element, FactEdge, canonical, Contradiction}
-use Rattle.meaning.proofs.ModelLaws.{born, turn, has_above}
+use Rattle.meaning.proofs.ModelLaws.{born, has_above}
+use Rattle.meaning.proofs.RoleTurned.{turn}
 use Rattle.meaning.proofs.ModelWalk.{edge-declared}
 use Rattle.meaning.specs.Question.{Going, along-role, at_name, PathIn, Yes}
 use Rattle.meaning.proofs.LiteTests.{sameRole, role_same}

@@ -7,7 +7,7 @@ use Rattle.meaning.specs.Lent.{Call, collectionOf, Sound}
 use Rattle.meaning.specs.Worlds.{Forced, NoWorld}
 use Rattle.meaning.proofs.Forced.{contradiction-no-world, no-world-contradiction, yes-forced, forced-yes}
 use Rattle.meaning.specs.Outcome.{Outcome, bad-count, bad-table, bad-number, equal-ends, bad-ask, contradiction, spent, says-yes, says-no, Breaks}
-use Rattle.meaning.proofs.OutcomeLaws.{sound-well-formed}
+use Rattle.meaning.proofs.OutcomeExists.{sound-well-formed}
 
 -- the facts and rules of a call force a path from its first individual to its second
 abbrev pub Forces : Call → Type 1

@@ -1,4 +1,4 @@
--- Worked on paper: the cases of document 01 marked P, in one table, and what a row says of its outcome.
+-- Worked on paper: the cases of docs/PAPER.md, in one table, and what a row says of its outcome.
 use Rattle.std.specs.Prelude.{◌≡◌, List, [], ◌∷◌, ℕ}
 use Rattle.kinds.specs.declared.Counts.{Counts}
 use Rattle.kinds.specs.declared.Answer.{Answer}
@@ -23,7 +23,7 @@ pub record Case : Type 0 where
 abbrev pub declares : ℕ → ℕ → ℕ → ℕ → ℕ → Counts
 declares names roles individuals states start = record { names = names; roles = roles; individuals = individuals; states = states; start = state start }
 
--- rules, exclusions, role rules, role exclusions, concept facts, role facts, steps and finals, in the order of document 01
+-- rules, exclusions, role rules, role exclusions, concept facts, role facts, steps and finals, in the order of docs/RULES.md (section 3)
 abbrev pub holding : List ℕ → List ℕ → List ℕ → List ℕ → List ℕ → List ℕ → List ℕ → List ℕ → Tables
 holding cr ce rr re cf rf st fi = record {
   concept-rules = cr;

@@ -1,4 +1,4 @@
--- Definitions: document 01, in its order.
+-- Definitions: docs/RULES.md, in its order.
 pub mod Collection
 pub mod Orders
 pub mod Model

@@ -1,4 +1,4 @@
--- DL-Lite as a rules' kind: an edge is a signed role. The loop sheet's three rules are those of document 01 here.
+-- DL-Lite as a rules' kind: an edge is a signed role. The loop sheet's three rules are those of docs/RULES.md (section 6) here.
 use Rattle.std.specs.Prelude.{List, ◌++◌, map, ◌*◌}
 use Rattle.kinds.specs.declared.ConceptName.{ConceptName}
 use Rattle.kinds.specs.declared.State.{State}

@@ -1,4 +1,4 @@
--- What follows from the rules: R ≤ S and C ≤ D, the smallest relations that document 01 names. Exclusions derive nothing.
+-- What follows from the rules: R ≤ S and C ≤ D, the smallest relations that docs/RULES.md names (section 4). Exclusions derive nothing.
 use Rattle.std.specs.Prelude.{List}
 use Rattle.kinds.specs.declared.SignedRole.{SignedRole}
 use Rattle.kinds.specs.declared.Concept.{Concept}

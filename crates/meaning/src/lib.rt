@@ -1,2 +1,2 @@
-// What document 01 means stands in specs/, and its theorems in proofs/. No code.
+// What the rules of docs/RULES.md mean stands in specs/, and the theorems about it in proofs/. No code.
 #![tactic(auto)]

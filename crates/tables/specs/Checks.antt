@@ -1,4 +1,4 @@
--- What the tests on lent tables find: document 01's conditions 4 to 8, by the definitions of `meaning`.
+-- What the tests on lent tables find: the conditions 4 to 8 of docs/RULES.md (section 7), by the definitions of `meaning`.
 use Rattle.std.specs.Prelude.{List, ℕ, ◌≤◌}
 use Rattle.kinds.specs.declared.Individual.{Individual}
 use Rattle.kinds.specs.declared.Counts.{Counts}

@@ -1,5 +1,5 @@
 -- A walk over the records of a table, each tested up to the first that fails; and a step as it is lent.
-use Rattle.std.specs.Prelude.{refl, Bool, true, false, List, ℕ, ◌/◌, ◌<◌, ◌≤◌, length}
+use Rattle.std.specs.Prelude.{◌≡◌, refl, Bool, true, false, List, ℕ, ◌/◌, ◌<◌, ◌≤◌, length}
 use Rattle.std.specs.Bool.{MatchBool}
 use Rattle.std.specs.List.{AllWithin, HoldsAt, range_with_len}
 use Rattle.std.proofs.Common.{zero-add, arith}
@@ -8,10 +8,11 @@ use Rattle.laws.specs.Exactly.{Exactly, exactly-holds, exactly-same, exactly-nev
 use Rattle.laws.specs.Decide.{exactly-not}
 use Rattle.laws.specs.Numbers.{numbered-in, numbered-out}
 use Rattle.kinds.specs.declared.Counts.{Counts}
-use Rattle.kinds.specs.Kinds.{state, StateDeclared}
+use Rattle.kinds.specs.Kinds.{individual, state, StateDeclared}
 use Rattle.meaning.specs.Collection.{Each, StepDeclared}
-use Rattle.meaning.specs.Lent.{records, field, stepWidth, stepAt}
+use Rattle.meaning.specs.Lent.{records, field, stepWidth, stepAt, roleFactWidth, roleFact, EndsDiffer}
 use Rattle.tables.specs.declared.LentStep.{LentStep}
+use Rattle.tables.specs.declared.LentEnds.{LentEnds}
 use Rattle.tables.specs.Checks.{LetterFits, StepsFit}
 
 module _ {A : Type 0} (w : ℕ) (read : List ℕ → ℕ → A) (P : A → Type 0) (t : List ℕ) where
@@ -76,3 +77,16 @@ steps_fit {b} {c} {t} h = exactly-same h apart together
         let low = each-out stepWidth kind_at Low t fit.step-kinds k l in
         let s = each-out stepWidth stepAt (StepDeclared c) t fit.declared k l in
         record { from = s.0; letter = record { low = low; letter = s.1 }; to = s.2 })
+
+-- the ends of a role fact, and that they differ
+abbrev pub ends_at : List ℕ → ℕ → LentEnds
+ends_at t k = record { from = individual (field roleFactWidth t 1 k); to = individual (field roleFactWidth t 2 k) }
+
+abbrev pub Apart : Counts → LentEnds → Type 0
+Apart c e = e.from ≡ e.to → ⊥
+
+pub ends_apart : (b : Bool) (c : Counts) (t : List ℕ) → Exactly b (Each (records roleFactWidth ends_at t) (Apart c))
+    → Exactly b (Each (records roleFactWidth roleFact t) EndsDiffer)
+ends_apart b c t h =
+    exactly-same h (λ every. each_in roleFactWidth roleFact EndsDiffer t (each-out roleFactWidth ends_at (Apart c) t every))
+    (λ every. each_in roleFactWidth ends_at (Apart c) t (each-out roleFactWidth roleFact EndsDiffer t every))

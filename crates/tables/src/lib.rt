@@ -8,7 +8,7 @@ ghost use Rattle.meaning.specs.Collection.{Each, ConceptsDeclared, RolesDeclared
 ghost use Rattle.meaning.specs.Lent.{records, ruleWidth, conceptFactWidth, roleFactWidth, stepWidth, finalWidth, conceptPair, rolePair, conceptFact, roleFact, finalAt, Whole, ShapesOk, NumbersFit, EndsDiffer};
 ghost use Rattle.kinds.specs.Kinds.{StateDeclared};
 ghost use Rattle.tables.specs.Checks.{lists, Checks, LetterFits, StepsFit, AskFits};
-ghost use Rattle.tables.specs.Records.{lent_step, StepFits};
+ghost use Rattle.tables.specs.Records.{lent_step, StepFits, ends_at, Apart};
 
 use kinds::{Concept, ConceptName, Counts, Individual, RoleName, SignedRole, State};
 
@@ -297,19 +297,41 @@ fn numbers(counts: Counts, tables: &Tables) -> bool
     all_declared::<State>(tables.finals, counts)
 }
 
-// The two ends of a role fact differ.
-fn differ(fact: RoleFact) -> bool
-    ensures { Exactly result (EndsDiffer fact) }
-{
-    let (_, from, to) = fact;
-    from.0 != to.0
+// A role fact as test 7 reads it: its two ends.
+#[derive(Drop)]
+struct LentEnds {
+    from: Individual,
+    to: Individual,
+}
+
+impl Record for LentEnds {
+    ghost WIDTH = { roleFactWidth };
+
+    ghost read = { ends_at };
+
+    ghost Declared = { Apart };
+
+    const WIDTH: usize = 3;
+
+    fn read(t: &[u16], k: usize) -> LentEnds {
+        let at = 3 * k;
+        LentEnds {
+            from: Individual(t[at + 1]),
+            to: Individual(t[at + 2]),
+        }
+    }
+
+    // The two differ.
+    fn declared(self, _counts: Counts) -> bool {
+        self.from.0 != self.to.0
+    }
 }
 
 // Those of every role fact do.
-fn ends(t: &[u16]) -> bool
+fn ends(t: &[u16], counts: Counts) -> bool
     ensures { Exactly result (Each (records roleFactWidth roleFact t.now) EndsDiffer) }
 {
-    (0..t.len() / RoleFact::WIDTH).all(|k| differ(RoleFact::read(t, k)))
+    all_declared::<LentEnds>(t, counts)
 }
 
 // The tests 4 to 7, in the library's order. The lengths are those of the two areas.
@@ -331,7 +353,7 @@ pub fn check(counts: Counts, tables: &Tables, area: usize, spare: usize) -> Chec
     if !numbers(counts, tables) {
         return Checked::BadNumber;
     }
-    if !ends(tables.role_facts) {
+    if !ends(tables.role_facts, counts) {
         return Checked::EqualEnds;
     }
     Checked::Sound

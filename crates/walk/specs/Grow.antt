@@ -58,20 +58,13 @@ raised-then {a} {b} {c} {x} {y} v w =
       grows = λ e. ⊎_elim (λ p. omega (arith, v.grows p, raised-most w)) (λ p. omega (arith, raised-most v, w.grows p)) (or_cases x y e);
     }
 
--- nothing is added where P has no pair
-pub grows_none : {P : ℕ → ℕ → Type 0} (l : List ℕ) → ((b t : ℕ) → P b t → ⊥) → Grows P l l false
-grows_none l never = record { raised = raised-none l; comes = λ b t p. inl p; has = λ b t p. absurd (never b t p) }
-
 -- the same pairs under another name
 pub grows_same : {P Q : ℕ → ℕ → Type 0} {old new : List ℕ} {grew : Bool} → ((b t : ℕ) → P b t → Q b t) → ((b t : ℕ) → Q b t → P b t)
     → Grows P old new grew → Grows Q old new grew
 grows_same to from w =
     record { raised = w.raised; comes = λ b t p. ⊎_elim (λ q. inl q) (λ q. inr (to b t q)) (w.comes b t p); has = λ b t q. w.has b t (from b t q) }
 
--- a loop's start, one more turn, and its end
-pub going_start : {All : ℕ → ℕ → Type 0} (l : List ℕ) → Going All All l l false
-going_start l = record { raised = raised-none l; comes = λ b t p. inl p; ahead = λ b t p. p; has = λ b t p. inr p }
-
+-- one more turn of a loop, and its end
 pub going_more : {All Rest P Left : ℕ → ℕ → Type 0} {old now new : List ℕ} {x y : Bool} → Going All Rest old now x → Grows P now new y
     → ((b t : ℕ) → P b t → Rest b t) → ((b t : ℕ) → Left b t → Rest b t) → ((b t : ℕ) → Rest b t → P b t ⊎ Left b t) → Going All Left old new (x || y)
 going_more v w in_rest left-rest parts =

@@ -13,7 +13,8 @@ use Rattle.meaning.specs.Run.{Run, stop, go}
 use Rattle.meaning.specs.Lite.{lite}
 use Rattle.meaning.specs.Tree as tree
 use Rattle.meaning.proofs.Clash.{typed-valid}
-use Rattle.meaning.proofs.ModelWalk.{Near, IndividualsWalk}
+use Rattle.meaning.proofs.ModelMoves.{Near}
+use Rattle.meaning.proofs.ModelWalk.{IndividualsWalk}
 use Rattle.meaning.proofs.Declared.{state-in, state-out, concept-in, concept-declared, lite-sane}
 use Rattle.meaning.specs.Sheet.{Needed}
 use Rattle.meaning.proofs.SheetLaws.{mark-markable, mark→loop, loop→mark}

@@ -15,8 +15,5 @@ returns-in-BadNumber c = rw c.blank-in-BadNumber.ensures (sorted-as _ _ c.check-
 pub returns-in-EqualEnds : goal.returns-in-EqualEnds
 returns-in-EqualEnds c = rw c.blank-in-EqualEnds.ensures (sorted-as _ _ c.check-checked.ensures c.in-EqualEnds.is)
 
-pub ready-requires : goal.ready-requires
-ready-requires c = sorted-as _ _ c.check-checked.ensures c.in-Sound.is
-
 pub returns-in-Sound : goal.returns-in-Sound
-returns-in-Sound c = settled (sorted-as _ _ c.check-checked.ensures c.in-Sound.is) c.ready.ensures
+returns-in-Sound c = let fit = sorted-as _ _ c.check-checked.ensures c.in-Sound.is in settled fit (c.ready.ensures.settles fit)

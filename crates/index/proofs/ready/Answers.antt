@@ -4,12 +4,16 @@ use Rattle.index.proofs.ready.Goals as goal
 
 -- a clash was found
 pub returns-then-clash : goal.returns-then-clash
-returns-then-clash c =
-    ready-broken _ c.requires _ _ _ c.role_order-roles.ensures c.concept_order-order.ensures c.individual_concepts-concepts.ensures _ c.living_roles-living.ensures _
-    c.clash.ensures _ c.if-clash.true c.blank.ensures
+returns-then-clash c = record {
+  settles = λ fit.
+      ready-broken _ fit _ _ _ c.role_order-roles.ensures c.concept_order-order.ensures c.individual_concepts-concepts.ensures _ c.living_roles-living.ensures _
+      c.clash.ensures _ c.if-clash.true c.blank.ensures;
+}
 
 -- none was, and the rounds were run
 pub returns : goal.returns
-returns c =
-    ready-run _ c.requires _ _ _ c.role_order-roles.ensures c.concept_order-order.ensures c.individual_concepts-concepts.ensures _ c.living_roles-living.ensures _
-    c.clash.ensures _ c.if-clash.false _ c.ways-leads.ensures _ _ _ c.run-ran.ensures c.finish.ensures
+returns c = record {
+  settles = λ fit.
+      ready-run _ fit _ _ _ c.role_order-roles.ensures c.concept_order-order.ensures c.individual_concepts-concepts.ensures _ c.living_roles-living.ensures _
+      c.clash.ensures _ c.if-clash.false _ c.ways-leads.ensures _ _ _ c.run-ran.ensures c.finish.ensures;
+}

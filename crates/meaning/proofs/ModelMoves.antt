@@ -1,0 +1,30 @@
+-- Each step of a path, in a structure grown from roots, is a move of the loop sheet's rules.
+use Rattle.std.specs.Prelude.{refl}
+use Rattle.kinds.specs.declared.State.{State}
+use Rattle.kinds.specs.declared.SignedRole.{SignedRole}
+use Rattle.kinds.specs.declared.Concept.{Concept}
+use Rattle.kinds.specs.declared.Concept.TheVariants.{Exists}
+use Rattle.kinds.specs.Kinds.{inverse}
+use Rattle.meaning.specs.Collection.{Collection, RoleStep}
+use Rattle.meaning.specs.Orders.{ConceptLe, same}
+use Rattle.meaning.specs.Tree.{Elem, root, ◌▹◌, Holds, Move, tests, downs, ups, hops}
+use Rattle.meaning.specs.Model.{Roots, Has, fact, child, parent, grownFrom}
+use Rattle.meaning.proofs.ModelLaws.{born}
+use Rattle.meaning.specs.Question.{Going, along-role, at_name}
+use Rattle.meaning.specs.Lite.{lite}
+
+-- a role step along an edge between roots
+abbrev pub Near : (𝓒 : Collection) (𝓡 : Roots) → 𝓡.Root → State → 𝓡.Root → State → Type 0
+Near 𝓒 𝓡 a s b t = (S : SignedRole) × RoleStep 𝓒 s S t × 𝓡.edge a S b
+
+module _ (𝓒 : Collection) (𝓡 : Roots) where
+  has→holds : (x : Elem 𝓡.Root SignedRole) {D : Concept} → Has 𝓒 𝓡 x D → (B : Concept) × Holds (lite 𝓒) 𝓡.has (Near 𝓒 𝓡) x B × ConceptLe 𝓒 B D
+  has→holds (root a) {D} h = (D, h, same)
+  has→holds (x ▹ R) h = (Exists (inverse R), refl, h)
+
+  -- THEOREM: a step of a path is a move
+  pub to-move : {x y : Elem 𝓡.Root SignedRole} {s t : State} → Going 𝓒 (grownFrom 𝓒 𝓡) x s y t → Move (lite 𝓒) 𝓡.has (Near 𝓒 𝓡) x s y t
+  to-move (along-role S e (fact f)) = hops (S, e, f)
+  to-move (along-role S e (child {x = x} {R = R} b l)) = let w = has→holds x (born 𝓒 𝓡 b).1 in downs w.0 R w.1 w.2 (S, e, l)
+  to-move (along-role S e (parent b l)) = ups (_, e, l)
+  to-move (at_name {x = x} A e h) = let w = has→holds x h in tests w.0 w.1 (A, e, w.2)
