@@ -6,7 +6,7 @@ use std::process::ExitCode;
 
 fn main(rt: HostRuntime) -> ExitCode {
     let mut output = rt.stdout();
-    match serve(rt.alloc(), rt.stdin(), &mut output) {
+    match serve(rt.stdin(), &mut output) {
         Ok(()) => ExitCode::SUCCESS,
         Err(e) => {
             let _ = eprintln!(rt; "desk: {e}");

@@ -1,8 +1,11 @@
--- Theorems: an input writes one text, what the desk writes is listed, and no text is longer than its room.
+-- Theorems: an input writes one text, what the desk writes is listed, no text is longer than its room, the desk makes no error of its own.
 pub mod WritesLaws
 pub mod Listed
+pub mod NeverFails
 -- Laws that the functions' proofs cite.
-pub mod TextLaws
-pub mod ReadLaws
-pub mod ReplyingLaws
-pub mod Wrote
+pub mod Spelling
+pub mod Asks
+pub mod Turns
+pub mod Copying
+pub mod Answering
+pub mod Served

@@ -6,10 +6,10 @@ use Rattle.kinds.specs.Answer.{answerNumber}
 use Rattle.meaning.specs.Lent.{Call, Sound}
 use Rattle.meaning.specs.Outcome.{Outcome, bad-count, bad-table, bad-number, equal-ends, bad-ask, contradiction, spent, says-yes, says-no}
 use Rattle.frames.specs.declared.Frame.{Frame}
-use Rattle.reading.specs.Lines.{lines}
-use Rattle.reading.specs.Tables.{entries, asked}
+use Rattle.streams.specs.Lines.{lines}
+use Rattle.reading.specs.Tables.{asks, entries, asked}
 use Rattle.reading.specs.Reading.{sound, Reading}
-use Rattle.reading.specs.Accepted.{accepted}
+use Rattle.reading.proofs.Accepted.{whole-accepted}
 use Rattle.file.specs.Writes.{Answers}
 
 -- a sound call is not refused
@@ -25,5 +25,6 @@ sound-listed c s (says-yes w sane need h lays reached) = omega arith
 sound-listed c s (says-no w sane need h lays missed) = omega arith
 
 -- THEOREM: where a file is read whole, each of its asks is answered with 0, 1, 2 or 3
-pub answers-listed : (input : List ℕ) (fs : List Frame) → Reading [] (lines input) (sound fs) → (k : ℕ) → k < entries 11 fs → {line : List ℕ} (w : Answers fs k line) → answerNumber w.answer ≤ 3
-answers-listed input fs r k h w = sound-listed (asked fs k) (accepted input fs r k h) w.outcome
+pub answers-listed : (input : List ℕ) (fs : List Frame) → Reading [] (lines input) (sound fs) → (k : ℕ) → k < entries asks fs → {line : List ℕ} (w : Answers fs k line)
+    → answerNumber w.answer ≤ 3
+answers-listed input fs r k h w = sound-listed (asked fs k) (whole-accepted input fs r k h) w.outcome

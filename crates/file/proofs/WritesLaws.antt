@@ -1,62 +1,99 @@
--- An input writes one text, its first 467,155 bytes decide it, and no line number is above 7,187.
-use Prim.Native.Nat.{ℕ, zero, suc, ◌+◌, ◌≤◌}
-use Rattle.std.specs.Prelude.{◌≡◌, take}
-use Rattle.std.proofs.Math.Path.{refl, sym, ap, ap₂}
-use Rattle.std.proofs.Common.{◌∙◌, arith}
-use mathlib.Core.List.{List, [], ◌++◌}
+-- An input writes one text; its start decides it; no text is longer than the answers to the most asks; two outcomes of a call are one.
+use Rattle.std.specs.Prelude.{ℕ, zero, suc, ◌+◌, ◌*◌, ◌≤◌, ◌≡◌, refl, List, [], ◌++◌, Some, length, take, drop}
+use Rattle.std.proofs.Math.Path.{ap₂}
+use Rattle.std.proofs.Common.{sym, ap, ◌∙◌, subst, take-append-drop, length-take, length-append, arith}
 use Rattle.meaning.proofs.OutcomeLaws.{outcome-unique}
 use Rattle.frames.specs.declared.Frame.{Frame}
-use Rattle.reading.specs.Lines.{lines}
-use Rattle.reading.specs.Tables.{entries, asked, askedFirst, askedSecond}
-use Rattle.reading.specs.TableLaws.{mostLines, within-lines}
-use Rattle.reading.specs.Reading.{Result, faulty, sound, framesOf, refusalOf, lineAfter, Reading}
-use Rattle.reading.specs.ReadingLaws.{reading-once}
-use Rattle.reading.specs.Prefix.{mostBytes, reading-start, reading-whole}
-use Rattle.reading.specs.Kept.{sound_none, reading-sound}
-use Rattle.file.specs.Text.{answerLine}
+use Rattle.streams.specs.Lines.{lines}
+use Rattle.reading.specs.Refusal.{refusal_number}
+use Rattle.reading.specs.Tables.{asks, entries, asked, first_asked, second_asked}
+use Rattle.reading.specs.Reading.{Verdict, faulty, sound, Reading}
+use Rattle.reading.specs.Reading as read
+use Rattle.reading.proofs.Once.{reading-once}
+use Rattle.reading.proofs.Bounds.{few}
+use Rattle.reading.proofs.Accepted.{reading-taken}
+use Rattle.reading.proofs.Prefix.{most_bytes, reading-start, reading-whole}
+use Rattle.file.specs.declared.TheConstants.{MOST_TEXT}
+use Rattle.file.specs.declared.text.TheConstants.{ANSWER_LINE}
+use Rattle.file.specs.Text.{text, fault_line, answer_line}
 use Rattle.file.specs.Writes.{Answers, Answered, Writes, fault, answers}
-
--- a fault is no sound file
-isSound : Result → ℕ
-isSound (faulty before n) = 0
-isSound (sound fs) = 1
+use Rattle.file.specs.Serves.{Serves}
 
 module _ (fs : List Frame) where
   answers-once : (k : ℕ) (x y : List ℕ) → Answers fs k x → Answers fs k y → x ≡ y
   answers-once k x y a b =
       let e = (outcome-unique (asked fs k) a.outcome b.outcome).0 in
-      a.written ∙ ap (answerLine (askedFirst fs k) (askedSecond fs k)) e ∙ sym b.written
+      a.written ∙ ap (answer_line (first_asked fs k) (second_asked fs k)) e ∙ sym b.written
 
   answered-once : (k : ℕ) (x y : List ℕ) → Answered fs k x → Answered fs k y → x ≡ y
   unfolding Answered
   answered-once zero x y a b = a ∙ sym b
-  answered-once (suc k) x y (p, q, a, b, e) (u, v, c, d, i) = e ∙ ap₂ (λ (l m : List ℕ). l ++ m) (answered-once k p u a c) (answers-once k q v b d) ∙ sym i
+  answered-once (suc k) x y (p, q, a, b, e) (u, v, c, d, i) =
+      e ∙ ap₂ (λ (l m : List ℕ). l ++ m) (answered-once k p u a c) (answers-once k q v b d) ∙ sym i
 
-module _ {input : List ℕ} where
-  -- THEOREM: an input writes one text
-  pub writes-once : {x y : List ℕ} → Writes input x → Writes input y → x ≡ y
-  unfolding isSound
-  writes-once (fault f n h) (fault g m k) =
-      let e = reading-once (lines input) [] (faulty f n) (faulty g m) h k in
-      let d : f ≡ g = ap framesOf e in
-      let i : n ≡ m = ap refusalOf e in
-      rw (d, i) refl
-  writes-once (fault f n h) (answers g y k b) = absurd (omega (arith, ap isSound (reading-once (lines input) [] (faulty f n) (sound g) h k)))
-  writes-once (answers f x h a) (fault g m k) = absurd (omega (arith, ap isSound (reading-once (lines input) [] (sound f) (faulty g m) h k)))
-  writes-once (answers f x h a) (answers g y k b) =
-      let d : f ≡ g = ap framesOf (reading-once (lines input) [] (sound f) (sound g) h k) in
-      answered-once g (entries 11 g) x y (rw d at a) b
+-- what the text of a verdict is
+abbrev TextIs : Verdict → List ℕ → Type 0
+TextIs (faulty before r) x = x ≡ fault_line (length before + 1) (refusal_number r)
+TextIs (sound fs) x = Answered fs (entries asks fs) x
+
+text-once : (v : Verdict) (x y : List ℕ) → TextIs v x → TextIs v y → x ≡ y
+text-once (faulty before r) x y a b = a ∙ sym b
+text-once (sound fs) x y a b = answered-once fs (entries asks fs) x y a b
+
+record Found (input : List ℕ) (x : List ℕ) : Type 0 where
+  verdict : Verdict
+  reading : Reading [] (lines input) verdict
+  text-is : TextIs verdict x
+
+found : {input x : List ℕ} → Writes input x → Found input x
+found (fault before r h) = record { verdict = faulty before r; reading = h; text-is = refl }
+found (answers fs out h a) = record { verdict = sound fs; reading = h; text-is = a }
+
+-- THEOREM: an input writes one text
+pub writes-once : {input x y : List ℕ} → Writes input x → Writes input y → x ≡ y
+writes-once {x = x} {y = y} a b =
+    let f = found a in
+    let g = found b in
+    let e = reading-once g.reading f.reading in
+    text-once f.verdict x y f.text-is (subst (λ (v : Verdict). TextIs v y) e g.text-is)
+
+-- THEOREM: two outcomes of answering an input in memory are equal: how much is told, and every byte of the text
+pub wrote-once : (old : List ℕ) {input x y : List ℕ} {n m : ℕ} → n ≤ length x → m ≤ length y → Writes input (take n x) → Writes input (take m y)
+    → drop n x ≡ drop n old → drop m y ≡ drop m old → (n ≡ m) × (x ≡ y)
+wrote-once old {x = x} {y = y} {n = n} {m = m} h k a b r s =
+    let e = writes-once a b in
+    let d : n ≡ m = omega (arith, ap (λ (l : List ℕ). length l) e, length-take n x, length-take m y) in
+    let t : drop n x ≡ drop m y = r ∙ ap (λ i. drop i old) d ∙ sym s in
+    (d, sym (take-append-drop n x) ∙ ap₂ (λ (l i : List ℕ). l ++ i) e t ∙ take-append-drop m y)
+
+-- THEOREM: a sink whose bytes are known holds one thing afterwards
+pub serves-once : {input old x y : List ℕ} → Serves input (Some old) (Some x) → Serves input (Some old) (Some y) → x ≡ y
+serves-once {old = old} a b = a.put ∙ ap (λ (text : List ℕ). old ++ text) (writes-once a.writes b.writes) ∙ sym b.put
 
 -- THEOREM: any input writes what its first 467,155 bytes write, and they write what it writes
-module _ (input : List ℕ) (n : ℕ) (h : mostBytes ≤ n) where
+module _ (input : List ℕ) (n : ℕ) (h : most_bytes ≤ n) where
   pub writes-whole : {x : List ℕ} → Writes (take n input) x → Writes input x
-  writes-whole (fault f m k) = fault f m (reading-whole input n h (faulty f m) k)
+  writes-whole (fault f r k) = fault f r (reading-whole input n h (faulty f r) k)
   writes-whole (answers f x k a) = answers f x (reading-whole input n h (sound f) k) a
 
   pub writes_start : {x : List ℕ} → Writes input x → Writes (take n input) x
-  writes_start (fault f m k) = fault f m (reading-start input n h (faulty f m) k)
+  writes_start (fault f r k) = fault f r (reading-start input n h (faulty f r) k)
   writes_start (answers f x k a) = answers f x (reading-start input n h (sound f) k) a
 
--- THEOREM: the first faulty line of any input has a number of at most 7,187
-pub fault-line : (input : List ℕ) (before : List Frame) (n : ℕ) → Reading [] (lines input) (faulty before n) → lineAfter before ≤ mostLines + 1
-fault-line input before n h = omega (arith, within-lines before (reading-sound (lines input) [] (faulty before n) sound_none h).within)
+answer-length : {fs : List Frame} {k : ℕ} {line : List ℕ} → Answers fs k line → length line ≡ ANSWER_LINE
+unfolding answer_line text
+answer-length w = rw w.written refl
+
+answered-length : (fs : List Frame) (k : ℕ) (out : List ℕ) → Answered fs k out → length out ≡ ANSWER_LINE * k
+unfolding Answered
+answered-length fs zero out e = rw e refl
+answered-length fs (suc k) out (x, y, a, b, e) =
+    let l = answered-length fs k x a in
+    let m = answer-length b in
+    rw e (omega (arith, length-append x y))
+
+-- THEOREM: no text is longer than its room
+pub writes-length : {input out : List ℕ} → Writes input out → length out ≤ MOST_TEXT
+unfolding fault_line text
+writes-length (fault before n k) = omega arith
+writes-length {input} (answers fs out k a) = omega (arith, answered-length fs (entries asks fs) out a, few asks fs (reading-taken k read.none))

@@ -1,19 +1,34 @@
--- What the desk does between a reader and a writer, of which a type may say what bytes it has left and what bytes it holds.
-use Rattle.std.specs.Prelude.{ℕ, List, ⊤}
-use Rattle.std.specs.Io.KnownBytes.{Appends, Keeps}
-use Rattle.std.specs.declared.option.Option.{Option}
+-- What the desk does between a source and a sink, of which it may be known what bytes are left and what bytes are held.
+use Rattle.std.specs.Prelude.{ℕ, List, Option, ⊤, codes}
+use Rattle.std.specs.Io.KnownBytes.{Appends}
+use Rattle.std.specs.declared.io.Error.{Error}
+use Rattle.streams.specs.Takes.{TakesStart}
 use Rattle.file.specs.declared.ServeError.{ServeError}
-use Rattle.file.specs.declared.ServeError.TheVariants.{Unread, NoMemory, Unwritten}
+use Rattle.file.specs.declared.ServeError.TheVariants.{Unread, Unwritten}
 use Rattle.file.specs.Writes.{Writes}
 
--- what the input writes is put after what the writer held
+-- what the input writes is put after what the sink held
 pub record Serves (input : List ℕ) (old new : Option (List ℕ)) : Type 0 where
   pub text : List ℕ
   pub writes : Writes input text
   pub put : Appends old new text
 
--- where the input was not read, or memory ran out, nothing is written; a writer that fails may have taken a part
-abbrev pub Untouched : ServeError → Option (List ℕ) → Option (List ℕ) → Type 0
-Untouched (Unread e) old new = Keeps old new
-Untouched NoMemory old new = Keeps old new
-Untouched (Unwritten e) old new = ⊤
+-- a start of what the input writes is put there
+pub record Starts (input : List ℕ) (old new : Option (List ℕ)) : Type 0 where
+  pub text : List ℕ
+  pub writes : Writes input text
+  pub takes : TakesStart old new text
+
+-- a fact where reading failed, or where writing did
+abbrev pub IfUnread : ServeError → (Error → Type 0) → Type 0
+IfUnread (Unread e) P = P e
+IfUnread (Unwritten e) P = ⊤
+
+abbrev pub IfUnwritten : ServeError → (Error → Type 0) → Type 0
+IfUnwritten (Unread e) P = ⊤
+IfUnwritten (Unwritten e) P = P e
+
+-- what is said of each
+abbrev pub message_of : ServeError → List ℕ
+message_of (Unread e) = codes "standard input could not be read, so nothing is answered"
+message_of (Unwritten e) = codes "standard output could not be written whole"

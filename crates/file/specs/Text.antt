@@ -1,24 +1,35 @@
--- What the desk writes: bytes as two characters each, capital letters, each line ended by 0A.
-use Rattle.std.specs.Prelude.{ℕ, ◌+◌, ◌/◌, ◌%◌, List, [], ◌∷◌, ltb}
+-- What is written: bytes as two characters each, capital letters, each line ended by 0A.
+use Rattle.std.specs.Prelude.{ℕ, ◌+◌, ◌/◌, ◌%◌, ◌^◌, List, [], ◌∷◌, ◌++◌, nat_lt, if◌then◌else◌}
+use Rattle.std.specs.List.{flat_map}
 use Rattle.kinds.specs.declared.Individual.{Individual}
 use Rattle.kinds.specs.declared.Answer.{Answer}
 use Rattle.kinds.specs.Answer.{answerNumber, answerCount}
-use Rattle.laws.specs.Search.{pick}
-use Rattle.reading.specs.Lines.{newline}
+use Rattle.streams.specs.Lines.{newline}
+
+-- a digit is below it
+abbrev pub base : ℕ
+base = 16
 
 -- the character of a digit: 0–9, then A–F
-unfoldable pub character : ℕ → ℕ
-character d = pick (ltb d 10) (48 + d) (55 + d)
+abbrev pub character : ℕ → ℕ
+character digit = if nat_lt digit 10 then 48 + digit else 55 + digit
+
+-- a byte, high digit first
+abbrev pub characters : ℕ → List ℕ
+characters byte = character (byte / base) ∷ character (byte % base) ∷ []
 
 -- a line of bytes
 unfoldable pub text : List ℕ → List ℕ
-text [] = newline ∷ []
-text (b ∷ bs) = character (b / 16) ∷ character (b % 16) ∷ text bs
+text bytes = flat_map characters bytes ++ newline ∷ []
 
--- 8F, line number (two bytes, high byte first), number
-abbrev pub faultLine : ℕ → ℕ → List ℕ
-faultLine line number = text (0x8F ∷ line / 256 ∷ line % 256 ∷ number ∷ [])
+-- a number in two bytes, high byte first
+abbrev pub two_bytes : ℕ → List ℕ
+two_bytes number = number / 2 ^ 8 ∷ number % 2 ^ 8 ∷ []
+
+-- 8F, line number (two bytes), number
+unfoldable pub fault_line : ℕ → ℕ → List ℕ
+fault_line line number = text (0x8F ∷ two_bytes line ++ number ∷ [])
 
 -- 8B, first, second, answer, count (two bytes)
-abbrev pub answerLine : Individual → Individual → Answer → List ℕ
-answerLine a b r = text (0x8B ∷ a.0 ∷ b.0 ∷ answerNumber r ∷ answerCount r / 256 ∷ answerCount r % 256 ∷ [])
+unfoldable pub answer_line : Individual → Individual → Answer → List ℕ
+answer_line first second answer = text (0x8B ∷ first.0 ∷ second.0 ∷ answerNumber answer ∷ two_bytes (answerCount answer))

@@ -1,12 +1,14 @@
 -- What a whole input writes, for any bytes: the line of its first fault, or an answer for each ask.
-use Rattle.std.specs.Prelude.{ℕ, zero, suc, ◌≡◌, List, [], ◌++◌}
+use Rattle.std.specs.Prelude.{ℕ, zero, suc, ◌+◌, ◌≡◌, List, [], ◌++◌, length}
 use Rattle.kinds.specs.declared.Answer.{Answer}
 use Rattle.meaning.specs.Outcome.{Outcome}
 use Rattle.frames.specs.declared.Frame.{Frame}
-use Rattle.reading.specs.Lines.{lines}
-use Rattle.reading.specs.Tables.{entries, asked, askedFirst, askedSecond}
-use Rattle.reading.specs.Reading.{Reading, faulty, sound, lineAfter}
-use Rattle.file.specs.Text.{faultLine, answerLine}
+use Rattle.streams.specs.Lines.{lines}
+use Rattle.reading.specs.declared.Refusal.{Refusal}
+use Rattle.reading.specs.Refusal.{refusal_number}
+use Rattle.reading.specs.Tables.{asks, entries, asked, first_asked, second_asked}
+use Rattle.reading.specs.Reading.{Reading, faulty, sound}
+use Rattle.file.specs.Text.{fault_line, answer_line}
 
 module _ (fs : List Frame) where
   -- the line for ask k: the library's outcome over the whole file
@@ -15,7 +17,7 @@ module _ (fs : List Frame) where
     pub area : List ℕ
     pub spare : List ℕ
     pub outcome : Outcome (asked fs k) answer area spare
-    pub written : line ≡ answerLine (askedFirst fs k) (askedSecond fs k) answer
+    pub written : line ≡ answer_line (first_asked fs k) (second_asked fs k) answer
 
   -- the lines for the first k asks, in their order
   unfoldable pub Answered : ℕ → List ℕ → Type 0
@@ -23,5 +25,6 @@ module _ (fs : List Frame) where
   Answered (suc k) out = (x y : List ℕ) × Answered k x × Answers k y × (out ≡ x ++ y)
 
 pub data Writes (input : List ℕ) : List ℕ → Type 0 where
-  fault : (before : List Frame) (number : ℕ) → Reading [] (lines input) (faulty before number) → Writes input (faultLine (lineAfter before) number)
-  answers : (fs : List Frame) (out : List ℕ) → Reading [] (lines input) (sound fs) → Answered fs (entries 11 fs) out → Writes input out
+  fault : (before : List Frame) (r : Refusal) → Reading [] (lines input) (faulty before r)
+      → Writes input (fault_line (length before + 1) (refusal_number r))
+  answers : (fs : List Frame) (out : List ℕ) → Reading [] (lines input) (sound fs) → Answered fs (entries asks fs) out → Writes input out

@@ -1,2 +1,3 @@
 pub mod Digits
 pub mod Frames
+pub mod Reader

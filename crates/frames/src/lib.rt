@@ -1,18 +1,18 @@
 // A line of the desk's input becomes a frame: one named kind with its own numbers, each of its kind from here on.
 #![tactic(auto)]
 
-ghost use Rattle.std.specs.Prelude.{◌+◌, ◌<◌, ◌≡◌};
-ghost use Rattle.laws.specs.Exactly.{Exactly};
-ghost use Rattle.frames.specs.Digits.{digitOf, byteOf, LineOk, lineLength};
-ghost use Rattle.frames.specs.Frames.{frameLength, frameBy, FrameOf};
+ghost use Rattle.std.specs.Prelude.{ℕ, ◌+◌, ◌*◌, ◌<◌, ◌↔◌, ◌≡◌, IsTrue};
+ghost use Rattle.kinds.specs.Kinds.{conceptName, roleName, individual, state, signed, conceptOf};
+ghost use Rattle.frames.specs.Digits.{digit_of, byte_of, LineOk, line_length};
+ghost use Rattle.frames.specs.Frames.{frame_length, frame_by, FrameOf};
+ghost use Rattle.frames.specs.Reader.{Advanced};
 
 use kinds::{Concept, ConceptName, Counts, Individual, RoleName, Rounds, SignedRole, State};
+use streams::LINE;
 
-// What a line is read as. The first two are no frames: refused with the numbers 9 and 10.
+// What a line says.
 #[derive(Clone, Copy)]
 pub enum Frame {
-    BadLine,
-    BadFrame,
     Declared(Counts),
     ConceptRule(Concept, Concept),
     ConceptExclusion(Concept, Concept),
@@ -27,8 +27,12 @@ pub enum Frame {
     Allowance(Rounds),
 }
 
-// The characters of the longest line.
-pub const LINE: usize = 64;
+// Why a line is no frame: its characters, or the frame's kind or length.
+#[derive(Clone, Copy)]
+pub enum Misread {
+    BadLine,
+    BadFrame,
+}
 
 // What each character is worth as a digit; 255 is no digit.
 const DIGITS: [u8; 256] = [
@@ -52,47 +56,27 @@ const DIGITS: [u8; 256] = [
 const LENGTHS: [usize; 13] = [0, 6, 3, 3, 3, 3, 3, 4, 4, 4, 2, 3, 3];
 
 fn digit(x: u8) -> u8
-    ensures { result ≡ digitOf x }
+    ensures { result ≡ digit_of x }
 {
     DIGITS[x as usize]
 }
 
 // A line of some characters, not too many, an even number, and each a digit.
 fn line_ok(line: &[u8]) -> bool
-    ensures { Exactly result (LineOk line.now) }
+    ensures { IsTrue result ↔ LineOk line.now }
 {
     let n = line.len();
-    if n == 0 {
-        return false;
-    }
-    if LINE < n {
-        return false;
-    }
-    if n % 2 != 0 {
-        return false;
-    }
-    for k in 0..n {
-        if digit(line[k]) >= 16 {
-            return false;
-        }
-    }
-    true
-}
-
-fn wide(x: u8) -> u16
-    ensures { (result ≡ x) × (result < 256) }
-{
-    x as u16
+    0 < n && n <= LINE && n % 2 == 0 && line.iter().all(|c| digit(*c) < 16)
 }
 
 // Byte k of a line, and 0 past its end.
-#[tactic(auto, unfolding(crate::specs::Digits::byteOf))]
+#[tactic(auto, unfolding(crate::specs::Digits::byte_of))]
 fn byte_at(line: &[u8], k: usize) -> u16
-    ensures { result ≡ byteOf line.now k }
+    ensures { result ≡ byte_of line.now k }
 {
     if k < line.len() / 2 {
         let at = 2 * k;
-        16 * wide(digit(line[at])) + wide(digit(line[at + 1]))
+        16 * u16::from(digit(line[at])) + u16::from(digit(line[at + 1]))
     } else {
         0
     }
@@ -108,93 +92,143 @@ struct Reader<'a> {
 impl<'a> Reader<'a> {
     // At a line's first byte.
     fn opened(line: &'a [u8]) -> Reader<'a>
-        ensures { (result.line ≡ line.entry) × (result.at ≡ 0) }
+        ensures line { result.line ≡ line.entry }
+        ensures at { result.at ≡ 0 }
     {
         Reader { line, at: 0 }
     }
 
-    // At another place of the same line.
-    fn moved(&mut self, at: usize)
-        ensures { (self.new.line ≡ self.old.line) × (self.new.at ≡ at) }
-    {
-        self.at = at;
-    }
-
-    // The byte at the reader's place, and 0 past the line's end.
-    fn byte(&self) -> u16
-        ensures { result ≡ byteOf self.now.line.now self.now.at }
-    {
-        byte_at(self.line, self.at)
-    }
-
     // The byte at the reader's place, after which the reader is at the next.
-    fn next_byte(&mut self) -> u16
-        requires { self.old.at < lineLength }
-        ensures value { result ≡ byteOf self.old.line.now self.old.at }
-        ensures next { (self.new.line ≡ self.old.line) × (self.new.at ≡ self.old.at + 1) }
+    fn byte(&mut self) -> u16
+        requires { self.old.at < line_length }
+        ensures value { result ≡ byte_of self.old.line.now self.old.at }
+        ensures next { Advanced self.old self.new }
     {
-        let byte = self.byte();
-        self.moved(self.at + 1);
+        let byte = byte_at(self.line, self.at);
+        self.at += 1;
         byte
     }
+
+    // A field of one byte, as what it stands for.
+    fn field<F: Field>(&mut self) -> F
+        requires { self.old.at < line_length }
+        ensures value { result ≡ F.of (byte_of self.old.line.now self.old.at) }
+        ensures next { Advanced self.old self.new }
+    {
+        F::of(self.byte())
+    }
 }
 
-#[tactic(auto, using(crate::specs::Frames::no_length), unfolding(crate::specs::Frames::frameLength))]
+// What stands in one byte of a frame.
+trait Field {
+    ghost of: { ℕ → Self };
+
+    fn of(byte: u16) -> Self
+        ensures { result ≡ of byte };
+}
+
+impl Field for Concept {
+    ghost of = { conceptOf };
+
+    fn of(byte: u16) -> Concept {
+        Concept::read(byte)
+    }
+}
+
+impl Field for ConceptName {
+    ghost of = { conceptName };
+
+    fn of(byte: u16) -> ConceptName {
+        ConceptName(byte)
+    }
+}
+
+impl Field for SignedRole {
+    ghost of = { signed };
+
+    fn of(byte: u16) -> SignedRole {
+        SignedRole(byte)
+    }
+}
+
+impl Field for RoleName {
+    ghost of = { roleName };
+
+    fn of(byte: u16) -> RoleName {
+        RoleName(byte)
+    }
+}
+
+impl Field for Individual {
+    ghost of = { individual };
+
+    fn of(byte: u16) -> Individual {
+        Individual(byte)
+    }
+}
+
+impl Field for State {
+    ghost of = { state };
+
+    fn of(byte: u16) -> State {
+        State(byte)
+    }
+}
+
+#[tactic(auto, using(crate::proofs::Lengths::no_length), unfolding(crate::specs::Frames::frame_length))]
 fn frame_length(kind: u16) -> usize
-    ensures { result ≡ frameLength kind }
+    ensures { result ≡ frame_length kind }
 {
-    let k = kind as usize;
-    if k < 13 {
-        return LENGTHS[k];
+    let kind = kind as usize;
+    if kind < LENGTHS.len() {
+        LENGTHS[kind]
+    } else {
+        0
     }
-    0
 }
 
-// The frame of a kind and the bytes after it.
-#[tactic(auto, unfolding(crate::specs::Frames::frameBy))]
-fn frame_of(kind: u16, a: u16, b: u16, c: u16, d: u16, e: u16) -> Frame
-    requires { (a < 256) × (b < 256) }
-    ensures { result ≡ frameBy kind a b c d e }
+// The frame of a kind, with the reader at its first field.
+#[tactic(auto, using(crate::proofs::Bytes::byte_small), unfolding(crate::specs::Frames::frame_by))]
+fn frame_of(kind: u16, reader: &mut Reader) -> Result<Frame, Misread>
+    requires sound { LineOk reader.old.line.now }
+    requires first { reader.old.at ≡ 1 }
+    ensures { result ≡ frame_by kind (byte_of reader.old.line.now) }
 {
-    match kind {
+    let frame = match kind {
         1 => Frame::Declared(Counts {
-            names: a,
-            roles: b,
-            individuals: c,
-            states: d,
-            start: State(e),
+            names: reader.byte(),
+            roles: reader.byte(),
+            individuals: reader.byte(),
+            states: reader.byte(),
+            start: reader.field(),
         }),
-        2 => Frame::ConceptRule(Concept::read(a), Concept::read(b)),
-        3 => Frame::ConceptExclusion(Concept::read(a), Concept::read(b)),
-        4 => Frame::RoleRule(SignedRole(a), SignedRole(b)),
-        5 => Frame::RoleExclusion(SignedRole(a), SignedRole(b)),
-        6 => Frame::ConceptFact(ConceptName(a), Individual(b)),
-        7 => Frame::RoleFact(RoleName(a), Individual(b), Individual(c)),
-        8 => Frame::RoleStep(State(a), SignedRole(b), State(c)),
-        9 => Frame::TestStep(State(a), ConceptName(b), State(c)),
-        10 => Frame::Final(State(a)),
-        11 => Frame::Ask(Individual(a), Individual(b)),
-        12 => Frame::Allowance(256 * a + b),
-        _ => Frame::BadFrame,
-    }
+        2 => Frame::ConceptRule(reader.field(), reader.field()),
+        3 => Frame::ConceptExclusion(reader.field(), reader.field()),
+        4 => Frame::RoleRule(reader.field(), reader.field()),
+        5 => Frame::RoleExclusion(reader.field(), reader.field()),
+        6 => Frame::ConceptFact(reader.field(), reader.field()),
+        7 => Frame::RoleFact(reader.field(), reader.field(), reader.field()),
+        8 => Frame::RoleStep(reader.field(), reader.field(), reader.field()),
+        9 => Frame::TestStep(reader.field(), reader.field(), reader.field()),
+        10 => Frame::Final(reader.field()),
+        11 => Frame::Ask(reader.field(), reader.field()),
+        12 => Frame::Allowance(256 * reader.byte() + reader.byte()),
+        _ => return Err(Misread::BadFrame),
+    };
+    Ok(frame)
 }
 
-// The frame of a line.
-pub fn read(line: &[u8]) -> Frame
+// The frame of a line, whose length is tested before its fields are read.
+pub fn read(line: &[u8]) -> Result<Frame, Misread>
     ensures { FrameOf line.now result }
 {
     if !line_ok(line) {
-        return Frame::BadLine;
+        return Err(Misread::BadLine);
     }
     let mut reader = Reader::opened(line);
-    let kind = reader.next_byte();
+    let kind = reader.byte();
     if line.len() / 2 != frame_length(kind) {
-        return Frame::BadFrame;
+        return Err(Misread::BadFrame);
     }
-    let a = reader.next_byte();
-    let b = reader.next_byte();
-    let c = reader.next_byte();
-    let d = reader.next_byte();
-    let e = reader.next_byte();
-    frame_of(kind, a, b, c, d, e)
+    frame_of(kind, &mut reader)
 }

@@ -1,14 +1,7 @@
 pub mod Refusal
-pub mod Lines
 pub mod Tables
+pub mod File
+pub mod Judged
 pub mod Reading
-pub mod Store
-pub mod TableLaws
-pub mod StoreLaws
-pub mod ReadingLaws
-pub mod Prefix
-pub mod Judging
-pub mod Keeping
-pub mod Kept
 pub mod Reads
-pub mod Accepted
+pub mod Turns

@@ -1,124 +1,126 @@
--- The tables of a file: each frame adds a record to the table of its kind. Both kinds of step stand in one table.
-use Rattle.std.specs.Prelude.{ℕ, ◌+◌, List, [], ◌∷◌, ◌++◌, eqb, get_or}
+-- What a list of frames says: what line 1 declares, the allowance, and the tables, each with the records of its kind.
+use Rattle.std.specs.Prelude.{ℕ, List, [], ◌∷◌, Option, None, Some, unwrap_or, is_some, count_by}
+use Rattle.std.specs.List.{flat_map}
 use Rattle.kinds.specs.declared.Counts.{Counts}
 use Rattle.kinds.specs.declared.Individual.{Individual}
 use Rattle.kinds.specs.Kinds.{individual, state, number_of}
-use Rattle.laws.specs.Search.{pick}
 use Rattle.meaning.specs.Lent.{Tables, Call, field, ruleWidth, conceptFactWidth, roleFactWidth, stepWidth, finalWidth, mostConceptRules, mostConceptExclusions, mostRoleRules, mostRoleExclusions, mostConceptFacts, mostRoleFacts, mostSteps, mostFinals}
 use Rattle.meaning.specs.Layout.{zeros}
 use Rattle.frames.specs.declared.Frame.{Frame}
-use Rattle.frames.specs.declared.Frame.TheVariants.{BadLine, BadFrame, Declared, ConceptRule, ConceptExclusion, RoleRule, RoleExclusion, ConceptFact, RoleFact, RoleStep, TestStep, Final, Ask, Allowance}
+use Rattle.frames.specs.declared.Frame.TheVariants.{Declared, ConceptRule, ConceptExclusion, RoleRule, RoleExclusion, ConceptFact, RoleFact, RoleStep, TestStep, Final, Ask, Allowance}
 
--- the table of a frame: the number of its kind, and for a test step that of a role step; what is no frame has none
-abbrev pub table_of : Frame → ℕ
-table_of BadLine = 0
-table_of BadFrame = 0
-table_of (Declared c) = 1
-table_of (ConceptRule C D) = 2
-table_of (ConceptExclusion C D) = 3
-table_of (RoleRule R S) = 4
-table_of (RoleExclusion R S) = 5
-table_of (ConceptFact A a) = 6
-table_of (RoleFact r a b) = 7
-table_of (RoleStep s R t) = 8
-table_of (TestStep s A t) = 8
-table_of (Final s) = 10
-table_of (Ask a b) = 11
-table_of (Allowance n) = 12
+-- the kinds of table; both kinds of step stand in one
+pub data Kind : Type 0 where
+  concept_rules : Kind
+  concept_exclusions : Kind
+  role_rules : Kind
+  role_exclusions : Kind
+  concept_facts : Kind
+  role_facts : Kind
+  steps : Kind
+  finals : Kind
+  asks : Kind
 
--- the record that a frame adds to its table
-abbrev pub recordOf : Frame → List ℕ
-recordOf BadLine = []
-recordOf BadFrame = []
-recordOf (Declared c) = c.names ∷ c.roles ∷ c.individuals ∷ c.states ∷ c.start.0 ∷ []
-recordOf (ConceptRule C D) = number_of C ∷ number_of D ∷ []
-recordOf (ConceptExclusion C D) = number_of C ∷ number_of D ∷ []
-recordOf (RoleRule R S) = R.0 ∷ S.0 ∷ []
-recordOf (RoleExclusion R S) = R.0 ∷ S.0 ∷ []
-recordOf (ConceptFact A a) = A.0 ∷ a.0 ∷ []
-recordOf (RoleFact r a b) = r.0 ∷ a.0 ∷ b.0 ∷ []
-recordOf (RoleStep s R t) = 0 ∷ s.0 ∷ R.0 ∷ t.0 ∷ []
-recordOf (TestStep s A t) = 1 ∷ s.0 ∷ A.0 ∷ t.0 ∷ []
-recordOf (Final s) = s.0 ∷ []
-recordOf (Ask a b) = a.0 ∷ b.0 ∷ []
-recordOf (Allowance n) = n ∷ []
+-- the record that a frame adds to a table, if it adds one
+abbrev pub record_in : Kind → Frame → Option (List ℕ)
+record_in concept_rules (ConceptRule C D) = Some (number_of C ∷ number_of D ∷ [])
+record_in concept_exclusions (ConceptExclusion C D) = Some (number_of C ∷ number_of D ∷ [])
+record_in role_rules (RoleRule R S) = Some (R.0 ∷ S.0 ∷ [])
+record_in role_exclusions (RoleExclusion R S) = Some (R.0 ∷ S.0 ∷ [])
+record_in concept_facts (ConceptFact A a) = Some (A.0 ∷ a.0 ∷ [])
+record_in role_facts (RoleFact r a b) = Some (r.0 ∷ a.0 ∷ b.0 ∷ [])
+record_in steps (RoleStep s R t) = Some (0 ∷ s.0 ∷ R.0 ∷ t.0 ∷ [])
+record_in steps (TestStep s A t) = Some (1 ∷ s.0 ∷ A.0 ∷ t.0 ∷ [])
+record_in finals (Final s) = Some (s.0 ∷ [])
+record_in asks (Ask a b) = Some (a.0 ∷ b.0 ∷ [])
+record_in kind f = None
 
--- line 1's counts, an ask, and the allowance
-abbrev pub countsWidth : ℕ
-countsWidth = 5
+-- the numbers in a record of each kind
+abbrev pub ask_width : ℕ
+ask_width = 2
 
-abbrev pub askWidth : ℕ
-askWidth = 2
-
-abbrev pub mostAsks : ℕ
-mostAsks = 256
-
--- the numbers in a record of each table, from table 0 on; there is no table 0, and none 9
-abbrev pub widths : List ℕ
-widths = 0 ∷ countsWidth ∷ ruleWidth ∷ ruleWidth ∷ ruleWidth ∷ ruleWidth ∷ conceptFactWidth ∷ roleFactWidth ∷ stepWidth ∷ 0 ∷ finalWidth ∷ askWidth ∷ 1 ∷ []
-
-unfoldable pub width : ℕ → ℕ
-width t = get_or widths t 0
+abbrev pub width : Kind → ℕ
+width concept_rules = ruleWidth
+width concept_exclusions = ruleWidth
+width role_rules = ruleWidth
+width role_exclusions = ruleWidth
+width concept_facts = conceptFactWidth
+width role_facts = roleFactWidth
+width steps = stepWidth
+width finals = finalWidth
+width asks = ask_width
 
 -- the most records of each table
-abbrev pub mosts : List ℕ
-mosts = 0 ∷ 1 ∷ mostConceptRules ∷ mostConceptExclusions ∷ mostRoleRules ∷ mostRoleExclusions ∷ mostConceptFacts ∷ mostRoleFacts ∷ mostSteps ∷ 0 ∷ mostFinals ∷ mostAsks ∷ 1 ∷ []
+abbrev pub most_asks : ℕ
+most_asks = 256
 
-unfoldable pub most : ℕ → ℕ
-most t = get_or mosts t 0
+abbrev pub most : Kind → ℕ
+most concept_rules = mostConceptRules
+most concept_exclusions = mostConceptExclusions
+most role_rules = mostRoleRules
+most role_exclusions = mostRoleExclusions
+most concept_facts = mostConceptFacts
+most role_facts = mostRoleFacts
+most steps = mostSteps
+most finals = mostFinals
+most asks = most_asks
 
--- how many frames of a file go into a table
-unfoldable pub entries : ℕ → List Frame → ℕ
-entries t [] = 0
-entries t (f ∷ fs) = pick (eqb (table_of f) t) 1 0 + entries t fs
+-- how many records the frames add to a table
+unfoldable pub entries : Kind → List Frame → ℕ
+entries kind fs = count_by (λ f. is_some (record_in kind f)) fs
 
--- a table of a file, record after record
-unfoldable pub table : ℕ → List Frame → List ℕ
-table t [] = []
-table t (f ∷ fs) = pick (eqb (table_of f) t) (recordOf f) [] ++ table t fs
+-- a table, record after record, in the order of the frames
+unfoldable pub table : Kind → List Frame → List ℕ
+table kind fs = flat_map (λ f. unwrap_or (record_in kind f) []) fs
 
 -- what line 1 declares
-abbrev pub countsAt : List ℕ → Counts
-countsAt t = record { names = get_or t 0 0; roles = get_or t 1 0; individuals = get_or t 2 0; states = get_or t 3 0; start = state (get_or t 4 0) }
+abbrev pub nothing_declared : Counts
+nothing_declared = record { names = 0; roles = 0; individuals = 0; states = 0; start = state 0 }
 
 abbrev pub declared_by : List Frame → Counts
-declared_by fs = countsAt (table 1 fs)
+declared_by (Declared c ∷ fs) = c
+declared_by fs = nothing_declared
 
--- the allowance where none is given
-abbrev pub usualAllowance : ℕ
-usualAllowance = 64
+-- the allowance, if one is given, and where none is the usual one
+abbrev pub allowance_given : List Frame → Option ℕ
+allowance_given [] = None
+allowance_given (Allowance n ∷ fs) = Some n
+allowance_given (f ∷ fs) = allowance_given fs
 
-abbrev pub allowanceOf : List Frame → ℕ
-allowanceOf fs = get_or (table 12 fs) 0 usualAllowance
+abbrev pub usual_allowance : ℕ
+usual_allowance = 64
+
+abbrev pub allowance_of : List Frame → ℕ
+allowance_of fs = unwrap_or (allowance_given fs) usual_allowance
 
 -- the library's tables
 abbrev pub tables_of : List Frame → Tables
 tables_of fs = record {
-  concept-rules = table 2 fs;
-  concept-exclusions = table 3 fs;
-  role-rules = table 4 fs;
-  role-exclusions = table 5 fs;
-  concept-facts = table 6 fs;
-  role-facts = table 7 fs;
-  steps = table 8 fs;
-  finals = table 10 fs;
+  concept-rules = table concept_rules fs;
+  concept-exclusions = table concept_exclusions fs;
+  role-rules = table role_rules fs;
+  role-exclusions = table role_exclusions fs;
+  concept-facts = table concept_facts fs;
+  role-facts = table role_facts fs;
+  steps = table steps fs;
+  finals = table finals fs;
 }
 
 -- ask k: its two individuals, and its call of the library over the whole file
 module _ (fs : List Frame) (k : ℕ) where
-  abbrev pub askedFirst : Individual
-  askedFirst = individual (field askWidth (table 11 fs) 0 k)
+  abbrev pub first_asked : Individual
+  first_asked = individual (field ask_width (table asks fs) 0 k)
 
-  abbrev pub askedSecond : Individual
-  askedSecond = individual (field askWidth (table 11 fs) 1 k)
+  abbrev pub second_asked : Individual
+  second_asked = individual (field ask_width (table asks fs) 1 k)
 
   abbrev pub asked : Call
   asked = record {
     counts = declared_by fs;
     tables = tables_of fs;
-    first = askedFirst;
-    second = askedSecond;
-    allowance = allowanceOf fs;
+    first = first_asked;
+    second = second_asked;
+    allowance = allowance_of fs;
     area = zeros;
     spare = zeros;
   }

@@ -1,82 +1,42 @@
 // A file read line by line: each line's frame is refused with its number, or its record is kept in the table of its kind.
 #![tactic(auto)]
 
-ghost use Rattle.std.specs.Prelude.{◌+◌, ◌-◌, ◌<◌, ◌≤◌, ◌≡◌, length, take, drop, []};
-ghost use Rattle.std.proofs.Math.Seq.{paste};
-ghost use Rattle.laws.specs.Exactly.{Exactly};
+ghost use Rattle.std.specs.Prelude.{◌≡◌, ◌+◌, ◌^◌, ◌<◌, [], Err, IfOk, IfErr, IfSome, OnErr, unwrap_or};
 ghost use Rattle.kinds.specs.Kinds.{number_of};
-ghost use Rattle.frames.specs.Frames.{FrameOf};
-ghost use Rattle.reading.specs.Tables.{width, most};
-ghost use Rattle.reading.specs.Store.{place, held_of};
-ghost use Rattle.reading.specs.Refusal.{refusalNumber, numberOf};
-ghost use Rattle.reading.specs.Judging.{judgement, HasRoom, Judges};
-ghost use Rattle.reading.specs.Keeping.{keptCounts, keptAllowance, Small, RowOf, Keepable, Keeps};
-ghost use Rattle.reading.specs.Reads.{LineEnd, Reads, TableIn};
+ghost use Rattle.tables.specs.Checks.{lists};
+ghost use Rattle.streams.specs.Lines.{lines};
+ghost use Rattle.reading.specs.Refusal.{refusal_number, refusal_of};
+ghost use Rattle.reading.specs.Tables.{usual_allowance};
+ghost use Rattle.reading.specs.File.{file_of, file_with, lent_tables, HasShelfRoom, IsSmall};
+ghost use Rattle.reading.specs.Reads.{IsRead, Reads, told_at_end};
+ghost use Rattle.reading.specs.Turns.{TakesLine};
 
-use frames::{Frame, LINE, read};
+use frames::{Frame, Misread};
 use kinds::{Concept, Counts, Rounds, State};
-use tables::{
-    CONCEPT_EXCLUSIONS, CONCEPT_FACTS, CONCEPT_RULES, FINALS, ROLE_EXCLUSIONS, ROLE_FACTS,
-    ROLE_RULES, STEPS,
-};
+use shelf::Shelf;
+use std::io;
+use streams::Source;
+use streams::lines::{Lines, Next};
+use tables::Tables;
+
+mod judge;
+pub mod shelf;
+mod sizes;
 
 // The most asks of a file.
 pub const ASKS: usize = 256;
 
-// The number of each table: that of its frames' kind. Test steps stand with the role steps.
-pub mod kind {
-    pub const COUNTS: usize = 1;
-
-    pub const CONCEPT_RULE: usize = 2;
-
-    pub const CONCEPT_EXCLUSION: usize = 3;
-
-    pub const ROLE_RULE: usize = 4;
-
-    pub const ROLE_EXCLUSION: usize = 5;
-
-    pub const CONCEPT_FACT: usize = 6;
-
-    pub const ROLE_FACT: usize = 7;
-
-    pub const STEP: usize = 8;
-
-    pub const FINAL: usize = 10;
-
-    pub const ASK: usize = 11;
-
-    pub const ALLOWANCE: usize = 12;
-}
-
-// The numbers in the store: up to the end of the last table.
-pub const STORE: usize = PLACES[12] + WIDTHS[12] * MOSTS[12];
-
 // The allowance of a file that gives none.
 pub const ALLOWANCE: Rounds = 64;
 
-// The most lines of a sound file: line 1, the allowance, and as many as the tables have records.
-pub const LINES: usize = 2
-    + CONCEPT_RULES
-    + CONCEPT_EXCLUSIONS
-    + ROLE_RULES
-    + ROLE_EXCLUSIONS
-    + CONCEPT_FACTS
-    + ROLE_FACTS
-    + STEPS
-    + FINALS
-    + ASKS;
-
-// The bytes that decide what an input is read as: one line more, each of the most characters and its end.
-pub const MOST_BYTES: usize = (LINES + 1) * (LINE + 1);
-
-// What is held of a file beside its store: line 1's counts, the allowance, the records of each table, and the lines read.
-#[derive(Drop)]
-pub struct Held {
-    pub counts: Counts,
-    pub allowance: Rounds,
-    pub used: [usize; 13],
-    pub lines: usize,
-}
+// What is declared before line 1 is read.
+const NOTHING: Counts = Counts {
+    names: 0,
+    roles: 0,
+    individuals: 0,
+    states: 0,
+    start: State(0),
+};
 
 // Why a line, and with it the file, is refused.
 #[derive(Clone, Copy)]
@@ -91,16 +51,33 @@ pub enum Refusal {
     OutOfPlace,
 }
 
-// What is held of the lines before the first faulty one, and why that one is refused.
-#[derive(Drop)]
+// A file's first faulty line, counted from 1, and why it is refused.
+#[derive(Clone, Copy)]
 pub struct Fault {
-    pub held: Held,
+    pub line: usize,
     pub refusal: Refusal,
+}
+
+// What is read of a file: what line 1 declares, the allowance where one is given, the tables, and how many lines were read.
+#[derive(Drop)]
+pub struct File {
+    pub counts: Counts,
+    pub allowance: Option<Rounds>,
+    pub concept_rules: Shelf<{ sizes::CONCEPT_RULES }>,
+    pub concept_exclusions: Shelf<{ sizes::CONCEPT_EXCLUSIONS }>,
+    pub role_rules: Shelf<{ sizes::ROLE_RULES }>,
+    pub role_exclusions: Shelf<{ sizes::ROLE_EXCLUSIONS }>,
+    pub concept_facts: Shelf<{ sizes::CONCEPT_FACTS }>,
+    pub role_facts: Shelf<{ sizes::ROLE_FACTS }>,
+    pub steps: Shelf<{ sizes::STEPS }>,
+    pub finals: Shelf<{ sizes::FINALS }>,
+    pub asks: Shelf<{ sizes::ASKS }>,
+    pub lines: usize,
 }
 
 impl Refusal {
     pub fn number(self) -> u8
-        ensures { result ≡ refusalNumber self }
+        ensures { result ≡ refusal_number self }
     {
         match self {
             Refusal::BadCount => 4,
@@ -115,201 +92,13 @@ impl Refusal {
     }
 }
 
-// A frame's table, and the numbers of its record first in the values.
-#[derive(Drop)]
-struct Row {
-    table: usize,
-    values: [u16; 5],
-}
+impl From<Misread> for Refusal {
+    ghost from_gives = { λ m r. r ≡ refusal_of m };
 
-// The numbers in a record of each table, the most records, and where in the store the table begins: after those before it.
-const WIDTHS: [usize; 13] = [0, 5, 2, 2, 2, 2, 2, 3, 4, 0, 1, 2, 1];
-
-const MOSTS: [usize; 13] = [
-    0,
-    1,
-    CONCEPT_RULES,
-    CONCEPT_EXCLUSIONS,
-    ROLE_RULES,
-    ROLE_EXCLUSIONS,
-    CONCEPT_FACTS,
-    ROLE_FACTS,
-    STEPS,
-    0,
-    FINALS,
-    ASKS,
-    1,
-];
-
-// What some tables take in the store together.
-macro_rules! room {
-    ($($t:literal)*) => { 0 $(+ WIDTHS[$t] * MOSTS[$t])* };
-}
-
-const PLACES: [usize; 13] = [
-    room!(),
-    room!(0),
-    room!(0 1),
-    room!(0 1 2),
-    room!(0 1 2 3),
-    room!(0 1 2 3 4),
-    room!(0 1 2 3 4 5),
-    room!(0 1 2 3 4 5 6),
-    room!(0 1 2 3 4 5 6 7),
-    room!(0 1 2 3 4 5 6 7 8),
-    room!(0 1 2 3 4 5 6 7 8 9),
-    room!(0 1 2 3 4 5 6 7 8 9 10),
-    room!(0 1 2 3 4 5 6 7 8 9 10 11),
-];
-
-#[tactic(auto, unfolding(crate::specs::Tables::width))]
-fn width(t: usize) -> usize
-    requires { t < 13 }
-    ensures { result ≡ width t }
-{
-    WIDTHS[t]
-}
-
-#[tactic(auto, unfolding(crate::specs::Tables::most))]
-fn most(t: usize) -> usize
-    requires { t < 13 }
-    ensures { result ≡ most t }
-{
-    MOSTS[t]
-}
-
-fn place(t: usize) -> usize
-    requires { t < 13 }
-    ensures { result ≡ place t }
-{
-    PLACES[t]
-}
-
-// The first test that fails refuses.
-fn judge(begun: bool, room: bool, numbers: bool, ends: bool, asked: bool) -> Option<Refusal>
-    ensures { numberOf result ≡ judgement begun room numbers ends asked }
-{
-    if !begun {
-        return Some(Refusal::OutOfPlace);
-    }
-    if !room {
-        return Some(Refusal::BadTable);
-    }
-    if !numbers {
-        return Some(Refusal::BadNumber);
-    }
-    if !ends {
-        return Some(Refusal::EqualEnds);
-    }
-    if !asked {
-        return Some(Refusal::BadAsk);
-    }
-    None
-}
-
-fn has_room(used: [usize; 13], t: usize) -> bool
-    requires { t < 13 }
-    ensures { Exactly result (HasRoom used t) }
-{
-    used[t] < most(t)
-}
-
-// What refuses a frame after those held, if anything does.
-fn refused_by(frame: Frame, held: &Held) -> Option<Refusal>
-    ensures { Judges held.now frame (numberOf result) }
-{
-    let counts = held.counts;
-    let used = held.used;
-    let begun = 0 < held.lines;
-    match frame {
-        Frame::BadLine => Some(Refusal::BadLine),
-        Frame::BadFrame => Some(Refusal::BadFrame),
-        Frame::Declared(c) => {
-            if begun {
-                return Some(Refusal::OutOfPlace);
-            }
-            if c.fit() {
-                None
-            } else {
-                Some(Refusal::BadCount)
-            }
-        }
-        Frame::ConceptRule(c, d) => judge(
-            begun,
-            has_room(used, kind::CONCEPT_RULE),
-            c.declared(counts) & d.declared(counts),
-            true,
-            true,
-        ),
-        Frame::ConceptExclusion(c, d) => judge(
-            begun,
-            has_room(used, kind::CONCEPT_EXCLUSION),
-            c.declared(counts) & d.declared(counts),
-            true,
-            true,
-        ),
-        Frame::RoleRule(r, s) => judge(
-            begun,
-            has_room(used, kind::ROLE_RULE),
-            r.declared(counts) & s.declared(counts),
-            true,
-            true,
-        ),
-        Frame::RoleExclusion(r, s) => judge(
-            begun,
-            has_room(used, kind::ROLE_EXCLUSION),
-            r.declared(counts) & s.declared(counts),
-            true,
-            true,
-        ),
-        Frame::ConceptFact(a, i) => judge(
-            begun,
-            has_room(used, kind::CONCEPT_FACT),
-            a.declared(counts) & i.declared(counts),
-            true,
-            true,
-        ),
-        Frame::RoleFact(r, i, j) => judge(
-            begun,
-            has_room(used, kind::ROLE_FACT),
-            r.declared(counts) & i.declared(counts) & j.declared(counts),
-            i.0 != j.0,
-            true,
-        ),
-        Frame::RoleStep(s, r, t) => judge(
-            begun,
-            has_room(used, kind::STEP),
-            s.declared(counts) & r.declared(counts) & t.declared(counts),
-            true,
-            true,
-        ),
-        Frame::TestStep(s, a, t) => judge(
-            begun,
-            has_room(used, kind::STEP),
-            s.declared(counts) & a.declared(counts) & t.declared(counts),
-            true,
-            true,
-        ),
-        Frame::Final(s) => judge(
-            begun,
-            has_room(used, kind::FINAL),
-            s.declared(counts),
-            true,
-            true,
-        ),
-        Frame::Ask(i, j) => judge(
-            begun,
-            has_room(used, kind::ASK),
-            true,
-            true,
-            i.declared(counts) & j.declared(counts),
-        ),
-        Frame::Allowance(_) => {
-            if begun & (used[kind::ALLOWANCE] == 0) {
-                None
-            } else {
-                Some(Refusal::OutOfPlace)
-            }
+    fn from(misread: Misread) -> Refusal {
+        match misread {
+            Misread::BadLine => Refusal::BadLine,
+            Misread::BadFrame => Refusal::BadFrame,
         }
     }
 }
@@ -321,216 +110,177 @@ fn number(c: Concept) -> u16
     c.number() as u16
 }
 
-// The row of a frame that is taken.
-#[tactic(auto, unfolding(crate::specs::Tables::width))]
-fn row_of(frame: Frame) -> Row
-    requires { Small frame }
-    ensures { RowOf frame result }
+impl File {
+    // Nothing read yet.
+    #[tactic(auto, unfolding(crate::specs::Tables::table))]
+    pub fn new() -> File
+        ensures { result ≡ file_of [] }
+    {
+        File {
+            counts: NOTHING,
+            allowance: None,
+            concept_rules: Shelf::new(),
+            concept_exclusions: Shelf::new(),
+            role_rules: Shelf::new(),
+            role_exclusions: Shelf::new(),
+            concept_facts: Shelf::new(),
+            role_facts: Shelf::new(),
+            steps: Shelf::new(),
+            finals: Shelf::new(),
+            asks: Shelf::new(),
+            lines: 0,
+        }
+    }
+
+    #[tactic(auto, unfolding(crate::specs::Tables::table))]
+    fn clear(&mut self)
+        ensures { self.new ≡ file_of [] }
+    {
+        self.counts = NOTHING;
+        self.allowance = None;
+        self.concept_rules.clear();
+        self.concept_exclusions.clear();
+        self.role_rules.clear();
+        self.role_exclusions.clear();
+        self.concept_facts.clear();
+        self.role_facts.clear();
+        self.steps.clear();
+        self.finals.clear();
+        self.asks.clear();
+        self.lines = 0;
+    }
+
+    pub fn counts(&self) -> Counts
+        ensures { result ≡ self.now.counts }
+    {
+        self.counts
+    }
+
+    // The allowance of rounds, where none is given the usual one.
+    pub fn allowance(&self) -> Rounds
+        ensures { result ≡ unwrap_or self.now.allowance usual_allowance }
+    {
+        self.allowance.unwrap_or(ALLOWANCE)
+    }
+
+    // The tables that a call of the library is lent.
+    pub fn tables(&self) -> Tables<'_>
+        ensures { lists result ≡ lent_tables self.now }
+    {
+        Tables {
+            concept_rules: self.concept_rules.as_slice(),
+            concept_exclusions: self.concept_exclusions.as_slice(),
+            role_rules: self.role_rules.as_slice(),
+            role_exclusions: self.role_exclusions.as_slice(),
+            concept_facts: self.concept_facts.as_slice(),
+            role_facts: self.role_facts.as_slice(),
+            steps: self.steps.as_slice(),
+            finals: self.finals.as_slice(),
+        }
+    }
+
+    // Two individuals for each ask, in the order of the asks.
+    pub fn asks(&self) -> &[u16]
+        ensures { result.now ≡ self.now.asks }
+    {
+        self.asks.as_slice()
+    }
+
+    // A frame kept: its record goes to the end of its table.
+    fn keep(&mut self, frame: Frame)
+        requires room { HasShelfRoom self.old frame }
+        requires small { IsSmall frame }
+        requires few { self.old.lines < 2 ^ 16 }
+        ensures { self.new ≡ file_with frame self.old }
+    {
+        match frame {
+            Frame::Declared(counts) => self.counts = counts,
+            Frame::ConceptRule(c, d) => self.concept_rules.push(&[number(c), number(d)]),
+            Frame::ConceptExclusion(c, d) => self.concept_exclusions.push(&[number(c), number(d)]),
+            Frame::RoleRule(r, s) => self.role_rules.push(&[r.0, s.0]),
+            Frame::RoleExclusion(r, s) => self.role_exclusions.push(&[r.0, s.0]),
+            Frame::ConceptFact(a, i) => self.concept_facts.push(&[a.0, i.0]),
+            Frame::RoleFact(r, i, j) => self.role_facts.push(&[r.0, i.0, j.0]),
+            Frame::RoleStep(s, r, t) => self.steps.push(&[0, s.0, r.0, t.0]),
+            Frame::TestStep(s, a, t) => self.steps.push(&[1, s.0, a.0, t.0]),
+            Frame::Final(s) => self.finals.push(&[s.0]),
+            Frame::Ask(i, j) => self.asks.push(&[i.0, j.0]),
+            Frame::Allowance(rounds) => self.allowance = Some(rounds),
+        }
+        self.lines += 1;
+    }
+
+    // A line read: its frame is kept, or the line is refused and nothing changes.
+    fn take_line(&mut self, line: &[u8]) -> Result<(), Refusal>
+        requires { IsRead self.old }
+        ensures { TakesLine self.old line.now result self.new }
+    {
+        let frame = frames::read(line)?;
+        self.judge(frame)?;
+        self.keep(frame);
+        Ok(())
+    }
+
+    // The line after those that are read, refused.
+    fn fault(&self, refusal: Refusal) -> Fault
+        requires { self.now.lines < 2 ^ 16 }
+        ensures { result ≡ record { line = self.now.lines + 1; refusal = refusal } }
+    {
+        Fault {
+            line: self.lines + 1,
+            refusal,
+        }
+    }
+
+    // What is found where no line is left. An empty file lacks its line 1.
+    fn ended(&self) -> Result<(), Fault>
+        ensures { result ≡ told_at_end self.now }
+    {
+        if self.lines == 0 {
+            return Err(self.fault(Refusal::OutOfPlace));
+        }
+        Ok(())
+    }
+}
+
+fn read_lines<S: Source + Drop>(source: S, file: &mut File) -> io::Result<Result<(), Fault>>
+    requires { file.old ≡ file_of [] }
+    ensures found { IfOk result (λ found.
+        IfSome (S.remaining source) (λ input. Reads (lines input) found file.new)) }
+    ensures taken { IfOk result (λ found. IsRead file.new) }
+    ensures line { IfOk result (λ found. IfErr found (λ fault. fault.line < 2 ^ 16)) }
+    ensures fails { IfErr result S.fails }
 {
-    match frame {
-        Frame::BadLine => Row {
-            table: 0,
-            values: [0; 5],
-        },
-        Frame::BadFrame => Row {
-            table: 0,
-            values: [0; 5],
-        },
-        Frame::Declared(c) => {
-            let start = c.start;
-            Row {
-                table: kind::COUNTS,
-                values: [c.names, c.roles, c.individuals, c.states, start.0],
+    let mut lines = Lines::new(source);
+    'lines: loop {
+        match lines.next()? {
+            Next::End => return Ok(file.ended()),
+            Next::TooLong => return Ok(Err(file.fault(Refusal::BadLine))),
+            Next::Line(line) => {
+                if let Err(refusal) = file.take_line(line.as_slice()) {
+                    return Ok(Err(file.fault(refusal)));
+                }
             }
         }
-        Frame::ConceptRule(c, d) => Row {
-            table: kind::CONCEPT_RULE,
-            values: [number(c), number(d), 0, 0, 0],
-        },
-        Frame::ConceptExclusion(c, d) => Row {
-            table: kind::CONCEPT_EXCLUSION,
-            values: [number(c), number(d), 0, 0, 0],
-        },
-        Frame::RoleRule(r, s) => Row {
-            table: kind::ROLE_RULE,
-            values: [r.0, s.0, 0, 0, 0],
-        },
-        Frame::RoleExclusion(r, s) => Row {
-            table: kind::ROLE_EXCLUSION,
-            values: [r.0, s.0, 0, 0, 0],
-        },
-        Frame::ConceptFact(a, i) => Row {
-            table: kind::CONCEPT_FACT,
-            values: [a.0, i.0, 0, 0, 0],
-        },
-        Frame::RoleFact(r, i, j) => Row {
-            table: kind::ROLE_FACT,
-            values: [r.0, i.0, j.0, 0, 0],
-        },
-        Frame::RoleStep(s, r, t) => Row {
-            table: kind::STEP,
-            values: [0, s.0, r.0, t.0, 0],
-        },
-        Frame::TestStep(s, a, t) => Row {
-            table: kind::STEP,
-            values: [1, s.0, a.0, t.0, 0],
-        },
-        Frame::Final(s) => Row {
-            table: kind::FINAL,
-            values: [s.0, 0, 0, 0, 0],
-        },
-        Frame::Ask(i, j) => Row {
-            table: kind::ASK,
-            values: [i.0, j.0, 0, 0, 0],
-        },
-        Frame::Allowance(n) => Row {
-            table: kind::ALLOWANCE,
-            values: [n, 0, 0, 0, 0],
-        },
     }
 }
 
-// The first n values, copied into the store.
-fn put(store: &mut [u16], at: usize, values: [u16; 5], n: usize)
-    requires n_in_bounds { at + n ≤ length store.old }
-    requires n_bound { n ≤ 5 }
-    ensures { store.new ≡ paste store.old at values n }
+// The lines of a source read into a file, up to the first faulty one. Whatever the file held is gone; after an `Err` it
+// holds nothing.
+pub fn read<S: Source + Drop>(source: S, file: &mut File) -> io::Result<Result<(), Fault>>
+    ensures found { IfOk result (λ found.
+        IfSome (S.remaining source) (λ input. Reads (lines input) found file.new)) }
+    ensures taken { IfOk result (λ found. IsRead file.new) }
+    ensures line { IfOk result (λ found. IfErr found (λ fault. fault.line < 2 ^ 16)) }
+    ensures err { OnErr result (file.new ≡ file_of []) }
+    ensures fails { IfErr result S.fails }
 {
-    for j in 0..n {
-        store[at + j] = values[j];
-    }
-}
-
-fn counts_after(t: usize, v: [u16; 5], counts: Counts) -> Counts
-    ensures { result ≡ keptCounts t v counts }
-{
-    if t == kind::COUNTS {
-        return Counts {
-            names: v[0],
-            roles: v[1],
-            individuals: v[2],
-            states: v[3],
-            start: State(v[4]),
-        };
-    }
-    counts
-}
-
-fn allowance_after(t: usize, v: [u16; 5], allowance: Rounds) -> Rounds
-    ensures { result ≡ keptAllowance t v allowance }
-{
-    if t == kind::ALLOWANCE {
-        return v[0];
-    }
-    allowance
-}
-
-// A row kept: its record after those of its table.
-fn keep(row: Row, held: Held, store: &mut [u16]) -> Held
-    requires { Keepable row held store.old }
-    ensures { Keeps row held store.old result store.new }
-{
-    let t = row.table;
-    let values = row.values;
-    let mut used = held.used;
-    let k = used[t];
-    put(store, place(t) + width(t) * k, values, width(t));
-    used[t] = k + 1;
-    Held {
-        counts: counts_after(t, values, held.counts),
-        allowance: allowance_after(t, values, held.allowance),
-        used,
-        lines: held.lines + 1,
-    }
-}
-
-// Nothing read yet.
-#[tactic(auto, unfolding(crate::specs::Tables::table, crate::specs::Tables::entries, laws::specs::Numbers::numbered, laws::specs::Numbers::upto))]
-fn nothing() -> Held
-    ensures { result ≡ held_of [] }
-{
-    Held {
-        counts: Counts {
-            names: 0,
-            roles: 0,
-            individuals: 0,
-            states: 0,
-            start: State(0),
-        },
-        allowance: ALLOWANCE,
-        used: [0; 13],
-        lines: 0,
-    }
-}
-
-// The end of the line that begins at a place: the next newline, or the end of the input.
-fn line_end(input: &[u8], from: usize) -> usize
-    requires { from ≤ length input.now }
-    ensures { LineEnd input.now from result }
-{
-    let n = input.len();
-    for at in from..n {
-        if input[at] == 10 {
-            return at;
+    file.clear();
+    match read_lines(source, file) {
+        Ok(found) => Ok(found),
+        Err(e) => {
+            file.clear();
+            Err(e)
         }
     }
-    n
-}
-
-// The frame of a line of the input.
-fn frame_at(input: &[u8], from: usize, to: usize) -> Frame
-    requires { (from ≤ to) × (to ≤ length input.now) }
-    ensures { FrameOf (take (to - from) (drop from input.now)) result }
-{
-    read(&input[from..to])
-}
-
-// A whole input read into the store, up to its first faulty line. A store of another length is refused as a bad table.
-pub fn read_file(input: &[u8], store: &mut [u16]) -> Result<Held, Fault>
-    ensures { Reads input.now store.old result store.new }
-{
-    let mut held = nothing();
-    if store.len() != STORE {
-        return Err(Fault {
-            held,
-            refusal: Refusal::BadTable,
-        });
-    }
-    let mut at = 0;
-    while at < input.len() {
-        let end = line_end(input, at);
-        let frame = frame_at(input, at, end);
-        if let Some(refusal) = refused_by(frame, &held) {
-            return Err(Fault { held, refusal });
-        }
-        let next = keep(row_of(frame), held, store);
-        held = next;
-        at = end + 1;
-    }
-    if held.lines == 0 {
-        return Err(Fault {
-            held,
-            refusal: Refusal::OutOfPlace,
-        });
-    }
-    Ok(held)
-}
-
-// The records of a table in the store, by their number; nothing where there is no such table, or no room for them.
-pub fn table(store: &[u16], used: [usize; 13], t: usize) -> &[u16]
-    ensures { TableIn store.now used t result.now }
-{
-    if 13 <= t {
-        return &store[0..0];
-    }
-    let n = used[t];
-    if most(t) < n {
-        return &store[0..0];
-    }
-    let from = place(t);
-    let to = from + width(t) * n;
-    if store.len() < to {
-        return &store[0..0];
-    }
-    &store[from..to]
 }

@@ -1,0 +1,113 @@
+-- Frames that are taken stay within the most of each table, so that there are at most 7,186 of them.
+use Rattle.std.specs.Prelude.{ℕ, ◌+◌, ◌≤◌, ◌≡◌, Bool, true, false, List, [], ◌∷◌, ◌++◌, Option, None, Some, cond, is_some, IsSome, length}
+use Rattle.std.proofs.Common.{refl, ap, ◌∙◌, arith, length-append}
+use Rattle.meaning.specs.Lent.{mostConceptRules, mostConceptExclusions, mostRoleRules, mostRoleExclusions, mostConceptFacts, mostRoleFacts, mostSteps, mostFinals}
+use Rattle.frames.specs.declared.Frame.{Frame}
+use Rattle.frames.specs.declared.Frame.TheVariants.{Declared, ConceptRule, ConceptExclusion, RoleRule, RoleExclusion, ConceptFact, RoleFact, RoleStep, TestStep, Final, Ask, Allowance}
+use Rattle.reading.specs.Tables.{Kind, concept_rules, concept_exclusions, role_rules, role_exclusions, concept_facts, role_facts, steps, finals, asks, record_in, most, most_asks, entries, allowance_given}
+use Rattle.reading.specs.Judged.{Room, HasRoom}
+use Rattle.reading.specs.Reading.{Taken}
+use Rattle.reading.proofs.TableLaws.{added, entries-more}
+use Rattle.reading.proofs.Passed.{Passed, taken-keeps}
+
+-- the table that a frame goes into is the one that was tested
+room-of : (before : List Frame) (kind : Kind) (f : Frame) → IsSome (record_in kind f) → HasRoom before f → Room before kind
+room-of before concept_rules (ConceptRule C D) s h = h
+room-of before concept_exclusions (ConceptExclusion C D) s h = h
+room-of before role_rules (RoleRule R S) s h = h
+room-of before role_exclusions (RoleExclusion R S) s h = h
+room-of before concept_facts (ConceptFact A a) s h = h
+room-of before role_facts (RoleFact r a b) s h = h
+room-of before steps (RoleStep p R q) s h = h
+room-of before steps (TestStep p A q) s h = h
+room-of before finals (Final p) s h = h
+room-of before asks (Ask a b) s h = h
+room-of before kind f s h = absurd cc
+
+no_entries : (kind : Kind) → entries kind [] ≤ most kind
+unfolding entries
+no_entries kind = omega arith
+
+pub few : (kind : Kind) (fs : List Frame) → Taken fs → entries kind fs ≤ most kind
+few kind = taken-keeps (λ fs. entries kind fs ≤ most kind) (no_entries kind) step
+  where
+    by : (before : List Frame) (f : Frame) → Passed before f → entries kind before ≤ most kind → (b : Bool) → is_some (record_in kind f) ≡ b → entries kind (before ++ f ∷ []) ≤ most kind
+    by before f p h true e = let r = room-of before kind f e p.room in rw (entries-more kind before f, e) (omega arith)
+    by before f p h false e = rw (entries-more kind before f, e) (omega arith)
+
+    step : (before : List Frame) (f : Frame) → Taken before → Passed before f → entries kind before ≤ most kind → entries kind (before ++ f ∷ []) ≤ most kind
+    step before f t p h = by before f p h (is_some (record_in kind f)) refl
+
+-- an allowance that is given, and another after it
+abbrev pub or_else : Option ℕ → Option ℕ → Option ℕ
+or_else None o = o
+or_else (Some n) o = Some n
+
+pub or_else-none : (o : Option ℕ) → or_else o None ≡ o
+or_else-none None = refl
+or_else-none (Some n) = refl
+
+pub allowance-more : (fs : List Frame) (f : Frame) → allowance_given (fs ++ f ∷ []) ≡ or_else (allowance_given fs) (allowance_given (f ∷ []))
+allowance-more [] f = refl
+allowance-more (Allowance n ∷ fs) f = refl
+allowance-more (g ∷ fs) f = allowance-more fs f
+
+-- the records of all tables
+abbrev records : List Frame → ℕ
+records fs =
+    entries concept_rules fs + entries concept_exclusions fs + entries role_rules fs + entries role_exclusions fs + entries concept_facts fs
+    + entries role_facts fs + entries steps fs + entries finals fs + entries asks fs
+
+abbrev given : List Frame → ℕ
+given fs = cond (is_some (allowance_given fs)) 1 0
+
+-- a frame is line 1, the allowance, or a record
+abbrev Counted : List Frame → Type 0
+Counted fs = length fs ≤ 1 + given fs + records fs
+
+given-still : (before : List Frame) (f : Frame) → allowance_given (f ∷ []) ≡ None → given (before ++ f ∷ []) ≡ given before
+given-still before f e = ap (λ o. cond (is_some o) 1 0) (allowance-more before f ∙ ap (or_else (allowance_given before)) e ∙ or_else-none (allowance_given before))
+
+module _ (before : List Frame) where
+  record-more : (f : Frame) → allowance_given (f ∷ []) ≡ None → length before ≤ 1 + given before + records before
+      → added concept_rules f + added concept_exclusions f + added role_rules f + added role_exclusions f + added concept_facts f
+      + added role_facts f + added steps f + added finals f + added asks f ≡ 1 → Counted (before ++ f ∷ [])
+  record-more f e h one =
+      omega (arith, given-still before f e, length-append before (f ∷ []), entries-more concept_rules before f, entries-more concept_exclusions before f, entries-more role_rules before f, entries-more role_exclusions before f, entries-more concept_facts before f, entries-more role_facts before f, entries-more steps before f, entries-more finals before f, entries-more asks before f)
+
+  counted-more : (f : Frame) → Taken before → Passed before f → Counted before → Counted (before ++ f ∷ [])
+  counted-more (Declared c) t p h = let e = ap length p.in_place in omega (arith, length-append before (Declared c ∷ []))
+  counted-more (Allowance n) t p h =
+      let a = p.in_place.1 in
+      let was : given before ≡ 0 = ap (λ o. cond (is_some o) 1 0) a in
+      let is : given (before ++ Allowance n ∷ []) ≡ 1 = ap (λ o. cond (is_some o) 1 0) (allowance-more before (Allowance n) ∙ ap (λ o. or_else o (Some n)) a) in
+      let f : Frame = Allowance n in
+      omega (arith, length-append before (Allowance n ∷ []), entries-more concept_rules before (Allowance n), entries-more concept_exclusions before (Allowance n), entries-more role_rules before (Allowance n), entries-more role_exclusions before (Allowance n), entries-more concept_facts before (Allowance n), entries-more role_facts before (Allowance n), entries-more steps before (Allowance n), entries-more finals before (Allowance n), entries-more asks before (Allowance n))
+  counted-more (ConceptRule C D) t p h = record-more (ConceptRule C D) refl h refl
+  counted-more (ConceptExclusion C D) t p h = record-more (ConceptExclusion C D) refl h refl
+  counted-more (RoleRule R S) t p h = record-more (RoleRule R S) refl h refl
+  counted-more (RoleExclusion R S) t p h = record-more (RoleExclusion R S) refl h refl
+  counted-more (ConceptFact A a) t p h = record-more (ConceptFact A a) refl h refl
+  counted-more (RoleFact r a b) t p h = record-more (RoleFact r a b) refl h refl
+  counted-more (RoleStep p1 R u) t p h = record-more (RoleStep p1 R u) refl h refl
+  counted-more (TestStep p1 A u) t p h = record-more (TestStep p1 A u) refl h refl
+  counted-more (Final p1) t p h = record-more (Final p1) refl h refl
+  counted-more (Ask a b) t p h = record-more (Ask a b) refl h refl
+
+-- the most lines of a sound file: line 1, the allowance, and as many as the tables have records; 7,186
+abbrev pub most_lines : ℕ
+most_lines = 2 + mostConceptRules + mostConceptExclusions + mostRoleRules + mostRoleExclusions + mostConceptFacts + mostRoleFacts + mostSteps + mostFinals + most_asks
+
+given-most : (o : Option ℕ) → cond (is_some o) 1 0 ≤ 1
+given-most None = omega arith
+given-most (Some n) = omega arith
+
+-- THEOREM: a file has at most that many lines before its first faulty one
+pub within-lines : (fs : List Frame) → Taken fs → length fs ≤ most_lines
+within-lines fs t =
+    let counted = taken-keeps Counted none-counted counted-more fs t in
+    let one = given-most (allowance_given fs) in
+    omega (arith, few concept_rules fs t, few concept_exclusions fs t, few role_rules fs t, few role_exclusions fs t, few concept_facts fs t, few role_facts fs t, few steps fs t, few finals fs t, few asks fs t)
+  where
+    none-counted : Counted []
+    none-counted = omega arith

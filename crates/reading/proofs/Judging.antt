@@ -1,0 +1,76 @@
+-- What a frame is judged by what is held is what it is judged after the frames.
+use Rattle.std.specs.Prelude.{◌<◌, ◌≡◌, ◌≢◌, ◌↔◌, List, [], ◌∷◌, Result, Ok, Err, length}
+use Rattle.std.proofs.Common.{refl, arith}
+use Rattle.laws.specs.First.{First, fails, holds, first-onward}
+use Rattle.frames.specs.declared.Frame.{Frame}
+use Rattle.frames.specs.declared.Frame.TheVariants.{Declared, ConceptRule, ConceptExclusion, RoleRule, RoleExclusion, ConceptFact, RoleFact, RoleStep, TestStep, Final, Ask, Allowance}
+use Rattle.reading.specs.declared.File.{File}
+use Rattle.reading.specs.declared.Refusal.{Refusal}
+use Rattle.reading.specs.declared.Refusal.TheVariants.{BadCount, BadTable, BadNumber, EqualEnds, BadAsk, OutOfPlace}
+use Rattle.reading.specs.Tables.{Kind, concept_rules, concept_exclusions, role_rules, role_exclusions, concept_facts, role_facts, steps, finals, asks, table}
+use Rattle.reading.specs.File.{file_of, IsInPlace, HasShelfRoom, RoomIn}
+use Rattle.reading.specs.Judged.{InPlace, CountsOk, Room, HasRoom, NumbersOk, EndsDiffer, AskOk, Judged}
+use Rattle.reading.specs.Turns.{JudgedBy}
+use Rattle.reading.proofs.TableLaws.{table-length}
+
+begun : (fs : List Frame) → (0 < length fs) ↔ (fs ≢ [])
+begun [] = (λ h. absurd (omega arith), λ n. absurd (n refl))
+begun (f ∷ fs) = (λ h e. cc, λ n. omega arith)
+
+none : (fs : List Frame) → (length fs ≡ 0) ↔ (fs ≡ [])
+none [] = (λ h. refl, λ h. refl)
+none (f ∷ fs) = (λ h. absurd (omega arith), λ e. absurd cc)
+
+module _ (before : List Frame) where
+  pub in_place : (f : Frame) → IsInPlace (file_of before) f ↔ InPlace before f
+  in_place (Declared c) = none before
+  in_place (Allowance n) = (λ h. ((begun before).0 h.0, h.1), λ h. ((begun before).1 h.0, h.1))
+  in_place f = begun before
+
+  room-in : (kind : Kind) → RoomIn kind (table kind before) ↔ Room before kind
+  room-in concept_rules = (λ h. omega (arith, table-length concept_rules before), λ h. omega (arith, table-length concept_rules before))
+  room-in concept_exclusions = (λ h. omega (arith, table-length concept_exclusions before), λ h. omega (arith, table-length concept_exclusions before))
+  room-in role_rules = (λ h. omega (arith, table-length role_rules before), λ h. omega (arith, table-length role_rules before))
+  room-in role_exclusions = (λ h. omega (arith, table-length role_exclusions before), λ h. omega (arith, table-length role_exclusions before))
+  room-in concept_facts = (λ h. omega (arith, table-length concept_facts before), λ h. omega (arith, table-length concept_facts before))
+  room-in role_facts = (λ h. omega (arith, table-length role_facts before), λ h. omega (arith, table-length role_facts before))
+  room-in steps = (λ h. omega (arith, table-length steps before), λ h. omega (arith, table-length steps before))
+  room-in finals = (λ h. omega (arith, table-length finals before), λ h. omega (arith, table-length finals before))
+  room-in asks = (λ h. omega (arith, table-length asks before), λ h. omega (arith, table-length asks before))
+
+  pub room : (f : Frame) → HasShelfRoom (file_of before) f ↔ HasRoom before f
+  room (ConceptRule C D) = room-in concept_rules
+  room (ConceptExclusion C D) = room-in concept_exclusions
+  room (RoleRule R S) = room-in role_rules
+  room (RoleExclusion R S) = room-in role_exclusions
+  room (ConceptFact A a) = room-in concept_facts
+  room (RoleFact r a b) = room-in role_facts
+  room (RoleStep s R t) = room-in steps
+  room (TestStep s A t) = room-in steps
+  room (Final s) = room-in finals
+  room (Ask a b) = room-in asks
+  room f = (λ h. h, λ h. h)
+
+-- a row of conditions of which one is put in other words
+first-same : {A : Type 0} {P Q : Type 0} {answer : A} {Rest Other : A → Type 0} {r : A} → P ↔ Q → (Rest r → Other r) → First P answer Rest r → First Q answer Other r
+first-same w go (fails n) = fails (λ q. n (w.1 q))
+first-same w go (holds p h) = holds (w.0 p) (go h)
+
+module _ (file : File) (f : Frame) where
+  -- the tests by what is held
+  abbrev pub Tests : Result (Unit {0}) Refusal → Type 0
+  Tests =
+      First (IsInPlace file f) (Err OutOfPlace)
+      (First (CountsOk f) (Err BadCount)
+      (First (HasShelfRoom file f) (Err BadTable)
+      (First (NumbersOk file.counts f) (Err BadNumber)
+      (First (EndsDiffer f) (Err EqualEnds)
+      (First (AskOk file.counts f) (Err BadAsk)
+      (λ r. r ≡ Ok tt))))))
+
+tests-judged : (before : List Frame) (f : Frame) (r : Result (Unit {0}) Refusal) → Tests (file_of before) f r → Judged before f r
+tests-judged before f r h =
+    first-same (in_place before f) (first-onward (λ c. first-same (room before f) (λ t. t))) h
+
+pub judged_by : {file : File} {f : Frame} {r : Result (Unit {0}) Refusal} → Tests file f r → JudgedBy file f r
+judged_by {file} {f} {r} h = record { by = λ before e. tests-judged before f r (rw e at h) }

@@ -1,0 +1,11 @@
+pub mod TableLaws
+pub mod Passed
+pub mod Bounds
+pub mod Kept
+pub mod Judging
+pub mod Turns
+pub mod GoingOn
+pub mod Once
+pub mod Accepted
+pub mod Asks
+pub mod Prefix

@@ -1,0 +1,168 @@
+-- The first 467,155 bytes of an input decide what reading finds: a sound file has at most 7,186 lines of at most 64 characters and their ends.
+use Rattle.std.specs.Prelude.{ℕ, zero, suc, ◌+◌, ◌-◌, ◌*◌, ◌<◌, ◌≤◌, ◌≡◌, ◌≢◌, ◌==◌, Bool, true, false, List, [], ◌∷◌, ◌++◌, Err, length, get_or, take}
+use Rattle.std.proofs.Common.{refl, sym, ap, subst, take_all, take-take, length-append, arith}
+use Rattle.std.proofs.Math.Seq.{take-append-add}
+use Rattle.std.proofs.lemmas.Bool.Decides.{nat_tests}
+use Rattle.streams.specs.Lines.{newline, longer, lines}
+use Rattle.frames.specs.Digits.{line_length}
+use Rattle.frames.specs.declared.Frame.{Frame}
+use Rattle.frames.specs.declared.Misread.TheVariants as misread
+use Rattle.reading.specs.declared.Refusal.TheVariants.{BadLine}
+use Rattle.reading.specs.Reading.{Finds, unread, Verdict, Reading, stopped, onward, Taken, none, more}
+use Rattle.reading.proofs.Passed.{judged_ok}
+use Rattle.reading.proofs.Bounds.{most_lines, within-lines}
+use Rattle.reading.proofs.GoingOn.{long_line}
+use Rattle.reading.proofs.Once.{finds-once}
+
+-- the bytes of a line of the most characters and its end
+abbrev pub line_bytes : ℕ
+line_bytes = line_length + 1
+
+-- one line more than a sound file can have
+abbrev pub most_bytes : ℕ
+most_bytes = (most_lines + 1) * line_bytes
+
+-- two rows of lines that read alike for r lines: the same lines, up to one that is too long in both
+pub data Alike : ℕ → List (List ℕ) → List (List ℕ) → Type 0 where
+  far : {ls ms : List (List ℕ)} → Alike 0 ls ms
+  ended : {r : ℕ} → Alike r [] []
+  same : {r : ℕ} {ls ms : List (List ℕ)} (l : List ℕ) → Alike r ls ms → Alike (suc r) (l ∷ ls) (l ∷ ms)
+  long : {r : ℕ} {ls ms : List (List ℕ)} (l m : List ℕ) → line_length < length l → line_length < length m → Alike r (l ∷ ls) (m ∷ ms)
+
+alike-back : {r : ℕ} {ls ms : List (List ℕ)} → Alike r ls ms → Alike r ms ls
+alike-back far = far
+alike-back ended = ended
+alike-back (same l a) = same l (alike-back a)
+alike-back (long l m h k) = long m l k h
+
+-- a line that is too long is no line
+finds_long : (before : List Frame) (l : List ℕ) → line_length < length l → Finds before l (Err BadLine)
+finds_long before l h = unread misread.BadLine (long_line l line_length (omega arith) h)
+
+pub reading-alike : {r : ℕ} {ls ms : List (List ℕ)} {before : List Frame} {v : Verdict} → Alike r ls ms → Taken before → most_lines < r + length before
+    → Reading before ls v → Reading before ms v
+reading-alike far t h x = absurd (omega (arith, within-lines _ t))
+reading-alike ended t h x = x
+reading-alike (same {ms = ms} l a) t h (stopped before _ ls r f) = stopped before l ms r f
+reading-alike (same {ms = ms} l a) t h (onward before _ ls f v g rest) =
+    onward before l ms f v g (reading-alike a (more before f t (judged_ok g)) (omega (arith, length-append before (f ∷ []))) rest)
+reading-alike (long {ms = ms} l m h k) t u (stopped before _ ls r f) =
+    let e = finds-once f (finds_long before l h) in
+    let d : r ≡ BadLine = cc in
+    rw d (stopped before m ms BadLine (finds_long before m k))
+reading-alike (long l m h k) t u (onward before _ ls f v g rest) =
+    let e = finds-once g (finds_long before l h) in
+    absurd cc
+
+-- characters without a line's end
+record Plain (l : List ℕ) : Type 0 where
+  none-here : (k : ℕ) → k < length l → get_or l k 0 ≢ newline
+
+plain-rest : (c : ℕ) (l : List ℕ) → Plain (c ∷ l) → Plain l
+plain-rest c l p = record { none-here = λ k h. p.none-here (suc k) (omega arith) }
+
+no_lines : lines [] ≡ []
+unfolding lines
+no_lines = refl
+
+lines-longer : (c : ℕ) (x : List ℕ) → c ≢ newline → lines (c ∷ x) ≡ longer c (lines x)
+unfolding lines
+lines-longer c x n = let e : (c == newline) ≡ false = grind (arith, nat_tests) in rw e refl
+
+lines-newline : (x : List ℕ) → lines (newline ∷ x) ≡ [] ∷ lines x
+unfolding lines
+lines-newline x = refl
+
+-- the first line, up to its end
+line_first : (l rest : List ℕ) → Plain l → lines (l ++ newline ∷ rest) ≡ l ∷ lines rest
+line_first [] rest p = lines-newline rest
+line_first (c ∷ l) rest p = rw (lines-longer c (l ++ newline ∷ rest) (p.none-here 0 (omega arith)), line_first l rest (plain-rest c l p)) refl
+
+-- a last line without its end
+line-last : (c : ℕ) (l : List ℕ) → Plain (c ∷ l) → lines (c ∷ l) ≡ (c ∷ l) ∷ []
+line-last c [] p = rw (lines-longer c [] (p.none-here 0 (omega arith)), no_lines) refl
+line-last c (d ∷ l) p = rw (lines-longer c (d ∷ l) (p.none-here 0 (omega arith)), line-last d l (plain-rest c (d ∷ l) p)) refl
+
+-- the start of an input, looked at for k characters: a line that ends, a last line, or a line that is longer
+data Scanned (k : ℕ) (x : List ℕ) : Type 0 where
+  at-end : (l rest : List ℕ) → Plain l → length l < k → x ≡ l ++ newline ∷ rest → Scanned k x
+  at_last : Plain x → length x < k → Scanned k x
+  beyond : k ≤ length x → Plain (take k x) → Scanned k x
+
+plain-none : Plain []
+plain-none = record { none-here = λ k h. absurd (omega arith) }
+
+plain_more : (c : ℕ) (l : List ℕ) → c ≢ newline → Plain l → Plain (c ∷ l)
+plain_more c l n p = record { none-here = by }
+  where
+    by : (k : ℕ) → k < suc (length l) → get_or (c ∷ l) k 0 ≢ newline
+    by zero h = n
+    by (suc k) h = p.none-here k (omega arith)
+
+scan : (k : ℕ) (x : List ℕ) → Scanned k x
+scan zero x = beyond (omega arith) plain-none
+scan (suc k) [] = at_last plain-none (omega arith)
+scan (suc k) (c ∷ x) = by (c == newline) refl (scan k x)
+  where
+    other : (c == newline) ≡ false → c ≢ newline
+    other e = grind (arith, nat_tests)
+
+    by : (b : Bool) → (c == newline) ≡ b → Scanned k x → Scanned (suc k) (c ∷ x)
+    by true e s = let i : c ≡ newline = grind (arith, nat_tests) in at-end [] x plain-none (omega arith) (ap (λ d. d ∷ x) i)
+    by false e (at-end l rest p h i) = at-end (c ∷ l) rest (plain_more c l (other e) p) (omega arith) (ap (λ y. c ∷ y) i)
+    by false e (at_last p h) = at_last (plain_more c x (other e) p) (omega arith)
+    by false e (beyond h p) = beyond (omega arith) (plain_more c (take k x) (other e) p)
+
+-- a first line of at least k characters
+record FirstLine (k : ℕ) (ls : List (List ℕ)) : Type 0 where
+  line : List ℕ
+  rest : List (List ℕ)
+  is : ls ≡ line ∷ rest
+  long-enough : k ≤ length line
+
+first-longer : (c : ℕ) (ls : List (List ℕ)) → FirstLine 1 (longer c ls)
+first-longer c [] = record { line = c ∷ []; rest = []; is = refl; long-enough = omega arith }
+first-longer c (l ∷ ls) = record { line = c ∷ l; rest = ls; is = refl; long-enough = omega arith }
+
+first-line : (k : ℕ) (x : List ℕ) → suc k ≤ length x → Plain (take (suc k) x) → FirstLine (suc k) (lines x)
+first-line k [] h p = absurd (omega arith)
+first-line zero (c ∷ x) h p = rw (lines-longer c x (p.none-here 0 (omega arith))) (first-longer c (lines x))
+first-line (suc k) (c ∷ x) h p =
+    let f = first-line k x (omega arith) (record { none-here = λ i g. p.none-here (suc i) (omega arith) }) in
+    rw (lines-longer c x (p.none-here 0 (omega arith)), f.is) (record { line = c ∷ f.line; rest = f.rest; is = refl; long-enough = omega (arith, f.long-enough) })
+
+take_long : (k n : ℕ) (x : List ℕ) → k ≤ n → k ≤ length x → k ≤ length (take n x)
+take_long zero n x h g = omega arith
+take_long (suc k) zero x h g = absurd (omega arith)
+take_long (suc k) (suc n) [] h g = absurd (omega arith)
+take_long (suc k) (suc n) (c ∷ x) h g = let i = take_long k n x (omega arith) (omega arith) in omega arith
+
+last-alike : (r : ℕ) (x : List ℕ) → Plain x → Alike (suc r) (lines x) (lines x)
+last-alike r [] p = rw no_lines ended
+last-alike r (c ∷ x) p = rw (line-last c x p) (same (c ∷ x) ended)
+
+-- an input and its first n bytes read alike for as many lines as surely stand within them
+pub lines-alike : (r : ℕ) (x : List ℕ) (n : ℕ) → r * line_bytes ≤ n → Alike r (lines x) (lines (take n x))
+lines-alike zero x n h = far
+lines-alike (suc r) x n h = by (scan line_bytes x) (λ y m. lines-alike r y m)
+  where
+    by : Scanned line_bytes x → ((y : List ℕ) (m : ℕ) → r * line_bytes ≤ m → Alike r (lines y) (lines (take m y))) → Alike (suc r) (lines x) (lines (take n x))
+    by (at-end l rest p g e) on =
+        let m = n - suc (length l) in
+        let d : n ≡ length l + suc m = omega arith in
+        rw (e, d, take-append-add l (newline ∷ rest) (suc m), line_first l rest p, line_first l (take m rest) p) (same l (on rest m (omega arith)))
+    by (at_last p g) on = rw (take_all n x (omega arith)) (last-alike r x p)
+    by (beyond g p) on =
+        let f = first-line line_length x g p in
+        let i = take_long line_bytes n x (omega arith) g in
+        let q = subst Plain (sym (take-take line_bytes n x (omega arith))) p in
+        let k = first-line line_length (take n x) i q in
+        rw (f.is, k.is) (long f.line k.line (omega (arith, f.long-enough)) (omega (arith, k.long-enough)))
+
+-- THEOREM: what reading finds of the first 467,155 bytes of an input, or of any more of them, it finds of the whole, and the other way
+module _ (x : List ℕ) (n : ℕ) (h : most_bytes ≤ n) (v : Verdict) where
+  pub reading-start : Reading [] (lines x) v → Reading [] (lines (take n x)) v
+  reading-start = reading-alike (lines-alike (most_lines + 1) x n h) none (omega arith)
+
+  pub reading-whole : Reading [] (lines (take n x)) v → Reading [] (lines x) v
+  reading-whole = reading-alike (alike-back (lines-alike (most_lines + 1) x n h)) none (omega arith)

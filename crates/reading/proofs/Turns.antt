@@ -1,0 +1,78 @@
+-- A line taken by what is held.
+use Rattle.std.specs.Prelude.{ℕ, ◌^◌, ◌<◌, ◌≤◌, ◌≡◌, ◌≢◌, List, [], ◌∷◌, ◌++◌, Result, Ok, Err, IsErrAnd}
+use Rattle.std.proofs.Common.{refl, ap, ◌∙◌, arith}
+use Rattle.kinds.specs.declared.Concept.{Concept}
+use Rattle.kinds.specs.declared.Concept.TheVariants.{Name, Exists}
+use Rattle.kinds.specs.declared.Counts.{Counts}
+use Rattle.kinds.specs.Kinds.{number_of, CountsFit, ConceptDeclared}
+use Rattle.frames.specs.Frames.{FrameOf}
+use Rattle.frames.specs.declared.Frame.{Frame}
+use Rattle.frames.specs.declared.Frame.TheVariants.{Declared, ConceptRule, ConceptExclusion, Allowance}
+use Rattle.frames.specs.declared.Misread.{Misread}
+use Rattle.reading.specs.declared.File.{File}
+use Rattle.reading.specs.declared.Refusal.{Refusal}
+use Rattle.reading.specs.Refusal.{refusal_of}
+use Rattle.reading.specs.Tables.{declared_by}
+use Rattle.reading.specs.File.{file_with, HasShelfRoom, IsSmall}
+use Rattle.reading.specs.Reading.{unread, refused, taken, Taken}
+use Rattle.reading.specs.Reads.{IsRead}
+use Rattle.reading.specs.Turns.{JudgedBy, refused as turned, taken as turned_on, TakesLine}
+use Rattle.reading.proofs.Passed.{Passed, passed, taken-keeps}
+use Rattle.reading.proofs.Bounds.{most_lines, within-lines}
+use Rattle.reading.proofs.Kept.{declared-later, declared-first, file_with-file_of}
+use Rattle.reading.proofs.Judging.{room}
+
+-- line 1's counts fit
+abbrev pub Fitting : List Frame → Type 0
+Fitting fs = fs ≢ [] → CountsFit (declared_by fs)
+
+fitting-more : (before : List Frame) (f : Frame) → Taken before → Passed before f → Fitting before → Fitting (before ++ f ∷ [])
+fitting-more before (Declared c) t p h n = rw (declared-first before c p.in_place) p.counts
+fitting-more before (Allowance m) t p h n = rw (declared-later before (Allowance m) p.in_place.0) (h p.in_place.0)
+fitting-more before f t p h n = rw (declared-later before f p.in_place) (h p.in_place)
+
+pub fitting : (fs : List Frame) → Taken fs → Fitting fs
+fitting = taken-keeps Fitting (λ n. absurd (n refl)) fitting-more
+
+-- the numbers of declared concepts go into 16 bits
+concept-small : (c : Counts) → CountsFit c → (C : Concept) → ConceptDeclared c C → number_of C < 2 ^ 16
+unfolding number_of
+concept-small c k (Name A) h = omega (arith, k.names)
+concept-small c k (Exists R) h = omega (arith, k.roles)
+
+small : (before : List Frame) (f : Frame) → Taken before → Passed before f → IsSmall f
+small before (ConceptRule C D) t p =
+    let k = fitting before t p.in_place in
+    (concept-small (declared_by before) k C p.numbers.0, concept-small (declared_by before) k D p.numbers.1)
+small before (ConceptExclusion C D) t p =
+    let k = fitting before t p.in_place in
+    (concept-small (declared_by before) k C p.numbers.0, concept-small (declared_by before) k D p.numbers.1)
+small before f t p = tt
+
+pub few_lines : {file : File} → IsRead file → file.lines ≤ most_lines
+few_lines w = let e = ap (λ (f : File). f.lines) w.kept in omega (arith, within-lines w.frames w.taken)
+
+module _ {file : File} {f : Frame} (j : JudgedBy file f (Ok tt)) (w : IsRead file) where
+  pub room_left : HasShelfRoom file f
+  room_left = rw w.kept ((room w.frames f).1 (passed w.frames f (j.by w.frames w.kept)).room)
+
+  pub small_numbers : IsSmall f
+  small_numbers = small w.frames f w.taken (passed w.frames f (j.by w.frames w.kept))
+
+module _ {file : File} {line : List ℕ} where
+  pub turn_unread : {m : Misread} {r : Result (Unit {0}) Refusal} → FrameOf line (Err m) → IsErrAnd r (λ e. e ≡ refusal_of m) → TakesLine file line r file
+  turn_unread {r = Ok u} h k = absurd k
+  turn_unread {m} {r = Err e} h k = record { by = λ before t d. rw (k, d) (turned (refusal_of m) (unread m h)) }
+
+  pub turn_refused : {f : Frame} {q : Refusal} {r : Result (Unit {0}) Refusal} → FrameOf line (Ok f) → JudgedBy file f (Err q) → IsErrAnd r (λ e. e ≡ q) → TakesLine file line r file
+  turn_refused {r = Ok u} h j k = absurd k
+  turn_refused {f} {q} {r = Err e} h j k = record { by = λ before t d. rw (k, d) (turned q (refused f q h (j.by before d))) }
+
+  pub turn_taken : {f : Frame} {new : File} → FrameOf line (Ok f) → JudgedBy file f (Ok tt) → new ≡ file_with f file → TakesLine file line (Ok tt) new
+  turn_taken {f} h j k =
+      record {
+        by = λ before t d.
+            let i = j.by before d in
+            let e = k ∙ ap (file_with f) d ∙ file_with-file_of before f (passed before f i) in
+            rw e (turned_on f (taken f h i));
+      }

@@ -1,0 +1,85 @@
+-- What is held of the frames that are read: each fact about them in its own field.
+use Rattle.std.specs.Prelude.{ℕ, ◌+◌, ◌*◌, ◌^◌, ◌<◌, ◌≤◌, ◌≡◌, List, [], ◌∷◌, ◌++◌, None, Some, ⊤, length}
+use Rattle.kinds.specs.Kinds.{number_of}
+use Rattle.meaning.specs.Lent.{Tables}
+use Rattle.frames.specs.declared.Frame.{Frame}
+use Rattle.frames.specs.declared.Frame.TheVariants.{Declared, ConceptRule, ConceptExclusion, RoleRule, RoleExclusion, ConceptFact, RoleFact, RoleStep, TestStep, Final, Ask, Allowance}
+use Rattle.reading.specs.declared.File.{File}
+use Rattle.reading.specs.Tables.{Kind, concept_rules, concept_exclusions, role_rules, role_exclusions, concept_facts, role_facts, steps, finals, asks, width, most, table, declared_by, allowance_given}
+
+abbrev pub file_of : List Frame → File
+file_of fs = record {
+  counts = declared_by fs;
+  allowance = allowance_given fs;
+  concept_rules = table concept_rules fs;
+  concept_exclusions = table concept_exclusions fs;
+  role_rules = table role_rules fs;
+  role_exclusions = table role_exclusions fs;
+  concept_facts = table concept_facts fs;
+  role_facts = table role_facts fs;
+  steps = table steps fs;
+  finals = table finals fs;
+  asks = table asks fs;
+  lines = length fs;
+}
+
+-- the tables that a call of the library is lent
+abbrev pub lent_tables : File → Tables
+lent_tables file = record {
+  concept-rules = file.concept_rules;
+  concept-exclusions = file.concept_exclusions;
+  role-rules = file.role_rules;
+  role-exclusions = file.role_exclusions;
+  concept-facts = file.concept_facts;
+  role-facts = file.role_facts;
+  steps = file.steps;
+  finals = file.finals;
+}
+
+-- a frame is in its place: line 1 declares, and no other line does; one allowance is given at most
+abbrev pub IsInPlace : File → Frame → Type 0
+IsInPlace file (Declared c) = file.lines ≡ 0
+IsInPlace file (Allowance n) = (0 < file.lines) × (file.allowance ≡ None)
+IsInPlace file other = 0 < file.lines
+
+-- a table of some numbers has room for one more record
+abbrev pub RoomIn : Kind → List ℕ → Type 0
+RoomIn kind numbers = length numbers + width kind ≤ width kind * most kind
+
+-- the table that a frame goes into has room for it
+abbrev pub HasShelfRoom : File → Frame → Type 0
+HasShelfRoom file (ConceptRule C D) = RoomIn concept_rules file.concept_rules
+HasShelfRoom file (ConceptExclusion C D) = RoomIn concept_exclusions file.concept_exclusions
+HasShelfRoom file (RoleRule R S) = RoomIn role_rules file.role_rules
+HasShelfRoom file (RoleExclusion R S) = RoomIn role_exclusions file.role_exclusions
+HasShelfRoom file (ConceptFact A a) = RoomIn concept_facts file.concept_facts
+HasShelfRoom file (RoleFact r a b) = RoomIn role_facts file.role_facts
+HasShelfRoom file (RoleStep s R t) = RoomIn steps file.steps
+HasShelfRoom file (TestStep s A t) = RoomIn steps file.steps
+HasShelfRoom file (Final s) = RoomIn finals file.finals
+HasShelfRoom file (Ask a b) = RoomIn asks file.asks
+HasShelfRoom file other = ⊤
+
+-- the numbers of a rule's concepts go into 16 bits
+abbrev pub IsSmall : Frame → Type 0
+IsSmall (ConceptRule C D) = (number_of C < 2 ^ 16) × (number_of D < 2 ^ 16)
+IsSmall (ConceptExclusion C D) = (number_of C < 2 ^ 16) × (number_of D < 2 ^ 16)
+IsSmall other = ⊤
+
+-- a frame more
+abbrev pub fields_with : Frame → File → File
+fields_with (Declared c) t = record t { counts = c }
+fields_with (ConceptRule C D) t = record t { concept_rules = t.concept_rules ++ (number_of C ∷ number_of D ∷ []) }
+fields_with (ConceptExclusion C D) t = record t { concept_exclusions = t.concept_exclusions ++ (number_of C ∷ number_of D ∷ []) }
+fields_with (RoleRule R S) t = record t { role_rules = t.role_rules ++ (R.0 ∷ S.0 ∷ []) }
+fields_with (RoleExclusion R S) t = record t { role_exclusions = t.role_exclusions ++ (R.0 ∷ S.0 ∷ []) }
+fields_with (ConceptFact A a) t = record t { concept_facts = t.concept_facts ++ (A.0 ∷ a.0 ∷ []) }
+fields_with (RoleFact r a b) t = record t { role_facts = t.role_facts ++ (r.0 ∷ a.0 ∷ b.0 ∷ []) }
+fields_with (RoleStep s R u) t = record t { steps = t.steps ++ (0 ∷ s.0 ∷ R.0 ∷ u.0 ∷ []) }
+fields_with (TestStep s A u) t = record t { steps = t.steps ++ (1 ∷ s.0 ∷ A.0 ∷ u.0 ∷ []) }
+fields_with (Final s) t = record t { finals = t.finals ++ s.0 ∷ [] }
+fields_with (Ask a b) t = record t { asks = t.asks ++ (a.0 ∷ b.0 ∷ []) }
+fields_with (Allowance n) t = record t { allowance = Some n }
+
+abbrev pub file_with : Frame → File → File
+file_with f t = record (fields_with f t) { lines = t.lines + 1 }

@@ -1,0 +1,3 @@
+pub mod Held
+pub mod FirstLine
+pub mod Parts

@@ -1,0 +1,3 @@
+pub mod Lines
+pub mod Gives
+pub mod Takes

@@ -1,0 +1,97 @@
+// What bytes come from and what takes them, each with the errors that it may give: whoever works with any of them can
+// pass such an error on, and cannot make one. Lines are read and bytes are written through buffers of a fixed size.
+#![tactic(auto)]
+
+ghost use Rattle.std.specs.Prelude.{◌≡◌, ◌<◌, ℕ, List, Option, IfOk, IfErr, ⊤, length};
+ghost use Rattle.std.specs.Io.{ReadsAtMost, WritesAtMost};
+ghost use Rattle.std.specs.Io.KnownBytes.{ReadConsumes, WriteAppends};
+ghost use Rattle.std.specs.declared.io.Error.{Error};
+
+use std::io;
+use std::io::{ErrorKind, Read, Write};
+
+pub mod lines;
+pub mod memory;
+pub mod output;
+mod window;
+
+// The characters of the longest line.
+pub const LINE: usize = 64;
+
+// The bytes of a buffer, between a source and its lines and before a sink.
+pub(crate) const BUFFER: usize = 4096;
+
+// How often a call that a signal cuts short is made again.
+const REPEATS: usize = 100;
+
+pub trait Source {
+    // The bytes that reads will give from here on, where they are known.
+    ghost remaining: { Self → Option (List ℕ) };
+
+    // The errors that its reads may give.
+    ghost fails: { Error → Type 0 };
+
+    fn read_some(&mut self, buffer: &mut [u8]) -> io::Result<usize>
+        ensures bound { ReadsAtMost result buffer.new }
+        ensures bytes { ReadConsumes (remaining self.old) (remaining self.new) result buffer.new }
+        ensures err { IfErr result fails };
+}
+
+pub trait Sink {
+    // The bytes that it holds, where they are known.
+    ghost contents: { Self → Option (List ℕ) };
+
+    // The errors that its writes may give.
+    ghost fails: { Error → Type 0 };
+
+    fn write_some(&mut self, bytes: &[u8]) -> io::Result<usize>
+        ensures bound { WritesAtMost result bytes.now }
+        ensures some { IfOk result (λ n. 0 < length bytes.now → 0 < n) }
+        ensures bytes { WriteAppends (contents self.old) (contents self.new) result bytes.now }
+        ensures err { IfErr result fails };
+}
+
+// Of std's readers and writers no more is known than that they may fail. A call that a signal cuts short has done
+// nothing, and is made again.
+impl<R: Read> Source for R {
+    ghost remaining = { R.remaining };
+
+    ghost fails = { λ _. ⊤ };
+
+    fn read_some(&mut self, buffer: &mut [u8]) -> io::Result<usize> {
+        for _ in 0..REPEATS {
+            match self.read(buffer) {
+                Err(e) if e.kind() == ErrorKind::Interrupted => {}
+                done => return done,
+            }
+        }
+        self.read(buffer)
+    }
+}
+
+fn write_once<W: Write>(writer: &mut W, bytes: &[u8]) -> io::Result<usize>
+    ensures bound { WritesAtMost result bytes.now }
+    ensures bytes { WriteAppends (W.contents writer.old) (W.contents writer.new) result bytes.now }
+{
+    for _ in 0..REPEATS {
+        match writer.write(bytes) {
+            Err(e) if e.kind() == ErrorKind::Interrupted => {}
+            done => return done,
+        }
+    }
+    writer.write(bytes)
+}
+
+impl<W: Write> Sink for W {
+    ghost contents = { W.contents };
+
+    ghost fails = { λ _. ⊤ };
+
+    fn write_some(&mut self, bytes: &[u8]) -> io::Result<usize> {
+        let n = write_once(self, bytes)?;
+        if n == 0 && !bytes.is_empty() {
+            return Err(io::Error::new(ErrorKind::WriteZero, "nothing more is taken"));
+        }
+        Ok(n)
+    }
+}

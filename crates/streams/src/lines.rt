@@ -1,0 +1,140 @@
+// The lines of an input, one after the other, through a fixed buffer: nothing is allocated, and no more of the
+// input is held than the buffer has room for.
+ghost use Rattle.std.specs.Prelude.{◌≡◌, ◌==◌, ◌+◌, ◌-◌, ◌<◌, ◌≤◌, ℕ, [], IfOk, IfErr, OnErr, IfSome, length, drop, take, position};
+ghost use Rattle.std.specs.Io.KnownBytes.{Keeps, prepend_known};
+ghost use Rattle.streams.specs.Lines.{newline};
+ghost use Rattle.streams.specs.Gives.{Gives};
+
+use crate::window::Window;
+use crate::{LINE, Source};
+use std::io;
+use std::marker::Model;
+
+// A line without its end.
+#[derive(Drop)]
+pub struct Line {
+    bytes: [u8; LINE],
+    length: usize,
+}
+
+impl Model for Line {
+    ghost use Rattle.std.specs.Prelude.{◌≤◌, ℕ, List, take};
+    ghost use Rattle.streams.specs.declared.TheConstants.{LINE};
+
+    ghost Value = { List ℕ };
+
+    ghost view = { λ l. take l.length l.bytes };
+
+    ghost invariant = { λ l. l.length ≤ LINE };
+}
+
+impl Line {
+    fn copied(bytes: &[u8]) -> Line
+        requires { length bytes.now ≤ LINE }
+        ensures { result ≡ bytes.now }
+    {
+        let n = bytes.len();
+        let mut line = [0; LINE];
+        line[..n].copy_from_slice(bytes);
+        Line {
+            bytes: line,
+            length: n,
+        }
+    }
+
+    pub fn as_slice(&self) -> &[u8]
+        ensures { result.now ≡ self.now }
+    {
+        &self.bytes[..self.length]
+    }
+}
+
+// What comes next of an input.
+#[derive(Drop)]
+pub enum Next {
+    Line(Line),
+    TooLong,
+    End,
+}
+
+// Where the first line ends of what is held, if that is within reach.
+#[tactic(auto, using(crate::proofs::FirstLine::reach))]
+fn line_end(held: &[u8]) -> Option<usize>
+    ensures first { result ≡ position (λ b. b == newline) (take (LINE + 1) held.now) }
+    ensures within { IfSome result (λ n. (n ≤ LINE) × (n < length held.now)) }
+{
+    held.iter().take(LINE + 1).position(|b| *b == b'\n')
+}
+
+fn taken(window: &mut Window, n: usize) -> Line
+    requires short { n ≤ LINE }
+    requires within { n ≤ length window.old }
+    ensures line { result ≡ take n window.old }
+    ensures rest { window.new ≡ drop n window.old }
+{
+    let line = Line::copied(&window.as_slice()[..n]);
+    window.consume(n);
+    line
+}
+
+fn next_line<S: Source>(window: &mut Window, source: &mut S) -> io::Result<Next>
+    ensures ok { IfOk result (Gives (prepend_known window.old (S.remaining source.old))
+        (prepend_known window.new (S.remaining source.new))) }
+    ensures err { OnErr result (Keeps (prepend_known window.old (S.remaining source.old))
+        (prepend_known window.new (S.remaining source.new))) }
+    ensures fails { IfErr result S.fails }
+{
+    'reads: loop {
+        if let Some(n) = line_end(window.as_slice()) {
+            let line = taken(window, n);
+            window.consume(1);
+            return Ok(Next::Line(line));
+        }
+        let held = window.as_slice().len();
+        if LINE < held {
+            return Ok(Next::TooLong);
+        }
+        if window.read_from(source)? == 0 {
+            if held == 0 {
+                return Ok(Next::End);
+            }
+            return Ok(Next::Line(taken(window, held)));
+        }
+    }
+}
+
+// An input, read line by line. Callers see the bytes that are left of it, where those are known.
+#[derive(Drop)]
+pub struct Lines<S: Source> {
+    window: Window,
+    source: S,
+}
+
+impl<S: Source> Model for Lines<S> {
+    ghost use Rattle.std.specs.Prelude.{ℕ, List, Option};
+    ghost use Rattle.std.specs.Io.KnownBytes.{prepend_known};
+
+    ghost Value = { Option (List ℕ) };
+
+    ghost view = { λ l. prepend_known l.window (S.remaining l.source) };
+}
+
+impl<S: Source> Lines<S> {
+    pub fn new(source: S) -> Lines<S>
+        ensures { result ≡ S.remaining source }
+    {
+        Lines {
+            window: Window::new(),
+            source,
+        }
+    }
+
+    // After an `Err` or a line that is too long, what is left is as it was.
+    pub fn next(&mut self) -> io::Result<Next>
+        ensures ok { IfOk result (Gives self.old self.new) }
+        ensures err { OnErr result (Keeps self.old self.new) }
+        ensures fails { IfErr result S.fails }
+    {
+        next_line(&mut self.window, &mut self.source)
+    }
+}
