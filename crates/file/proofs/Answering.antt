@@ -4,7 +4,7 @@ use Rattle.std.proofs.Common.{sym, ap, ◌∙◌, subst, append_assoc, append-ni
 use Rattle.kinds.specs.declared.Counts.{Counts}
 use Rattle.meaning.specs.Lent.{Tables}
 use Rattle.meaning.specs.Layout.{zeros}
-use Rattle.meaning.proofs.OutcomeLaws.{outcome-exists}
+use Rattle.meaning.proofs.OutcomeExists.{outcome-exists}
 use Rattle.frames.specs.declared.Frame.{Frame}
 use Rattle.reading.specs.declared.File.{File}
 use Rattle.reading.specs.Tables.{asks, entries, asked, first_asked, second_asked, declared_by, allowance_of, tables_of, usual_allowance}

@@ -18,6 +18,9 @@ module _ (file : File) (p : Prepared) where
   unfolding Replied
   replied_more k out line r w = rw (add-one k) (out, line, r, w, refl)
 
+  pub same_ask : (j k : ℕ) (line : List ℕ) → ReplyLine file p j line → j ≡ k → ReplyLine file p k line
+  same_ask j k line w e = subst (λ (i : ℕ). ReplyLine file p i line) e w
+
   -- the lines for the first k asks, of which a sink has taken all but what is pending
   pub record Pending (pending : List ℕ) (old new : Option (List ℕ)) (k : ℕ) : Type 0 where
     pub text : List ℕ

@@ -1,16 +1,17 @@
--- An input writes one text; its start decides it; no text is longer than the answers to the most asks; two outcomes of a call are one.
+-- An input writes one text; its first 467,155 bytes decide it; no text is longer than its room; two outcomes of a call are one.
 use Rattle.std.specs.Prelude.{ℕ, zero, suc, ◌+◌, ◌*◌, ◌≤◌, ◌≡◌, refl, List, [], ◌++◌, Some, length, take, drop}
 use Rattle.std.proofs.Math.Path.{ap₂}
 use Rattle.std.proofs.Common.{sym, ap, ◌∙◌, subst, take-append-drop, length-take, length-append, arith}
 use Rattle.meaning.proofs.OutcomeLaws.{outcome-unique}
 use Rattle.frames.specs.declared.Frame.{Frame}
 use Rattle.streams.specs.Lines.{lines}
+use Rattle.reading.specs.declared.Refusal.{Refusal}
 use Rattle.reading.specs.Refusal.{refusal_number}
 use Rattle.reading.specs.Tables.{asks, entries, asked, first_asked, second_asked}
 use Rattle.reading.specs.Reading.{Verdict, faulty, sound, Reading}
 use Rattle.reading.specs.Reading as read
 use Rattle.reading.proofs.Once.{reading-once}
-use Rattle.reading.proofs.Bounds.{few}
+use Rattle.reading.proofs.Bounds.{few, most_lines, within-lines}
 use Rattle.reading.proofs.Accepted.{reading-taken}
 use Rattle.reading.proofs.Prefix.{most_bytes, reading-start, reading-whole}
 use Rattle.file.specs.declared.TheConstants.{MOST_TEXT}
@@ -97,3 +98,7 @@ pub writes-length : {input out : List ℕ} → Writes input out → length out �
 unfolding fault_line text
 writes-length (fault before n k) = omega arith
 writes-length {input} (answers fs out k a) = omega (arith, answered-length fs (entries asks fs) out a, few asks fs (reading-taken k read.none))
+
+-- THEOREM: the first faulty line of any input has a number of at most 7,187
+pub fault-line : (input : List ℕ) (before : List Frame) (r : Refusal) → Reading [] (lines input) (faulty before r) → length before + 1 ≤ most_lines + 1
+fault-line input before r h = omega (arith, within-lines before (reading-taken h read.none))

@@ -8,7 +8,7 @@ use Rattle.streams.specs.Lines.{newline}
 
 -- a digit is below it
 abbrev pub base : ℕ
-base = 16
+base = 2 ^ 4
 
 -- the character of a digit: 0–9, then A–F
 abbrev pub character : ℕ → ℕ

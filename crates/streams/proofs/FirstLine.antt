@@ -1,14 +1,15 @@
 -- The first line of what is held and what comes after it.
-use Rattle.std.proofs.Common.{◌≡◌, ℕ, zero, suc, ◌+◌, ◌<◌, ◌≤◌, ◌≢◌, ◌==◌, Bool, true, false, List, [], ◌∷◌, ◌++◌, length, take, drop, get_or, slice_get, Option, Some, None, refl, sym, ap, ◌∙◌, arith, append-nil}
+use Rattle.std.proofs.Common.{◌≡◌, ℕ, zero, suc, ◌+◌, ◌<◌, ◌≤◌, ◌≢◌, ◌==◌, Bool, true, false, List, [], ◌∷◌, ◌++◌, length, take, drop, get_or, slice_get, Option, Some, None, refl, sym, ap, ◌∙◌, arith, inl, append-nil, append_assoc}
 use Rattle.std.specs.Prelude.{IsSomeAnd, IfSome, position}
 use Rattle.std.specs.List.{position_or_len}
 use Rattle.std.proofs.Common.{add-one}
-use Rattle.std.proofs.lemmas.List.{length-take, get_or-take, drop-drop, take_all, drop_all}
+use Rattle.std.proofs.lemmas.List.{length-take, get_or-take, drop-drop, take_all, drop_all, drop_more, take-append-drop}
 use Rattle.std.proofs.lemmas.List.Sums.{fails_before_first}
 use Rattle.std.proofs.lemmas.Bool.Decides.{nat_tests}
 use Rattle.std.proofs.lemmas.List.Quantifiers.{position-Some}
 use Rattle.std.specs.Io.KnownBytes.{Keeps, IsAtEnd, prepend_known}
 use Rattle.streams.specs.declared.TheConstants.{LINE}
+use Rattle.streams.specs.Gives.{ConsumesLine}
 use Rattle.streams.specs.Lines.{newline, lines, longer, TakesLine, BeginsLonger}
 
 -- no line ends before n
@@ -107,6 +108,28 @@ pub TakesLine-found : (a b : Option (List ℕ)) (held : List ℕ) (n : ℕ) → 
 TakesLine-found None b held n e k = tt
 TakesLine-found (Some x) None held n e k = absurd k
 TakesLine-found (Some x) (Some y) held n e k = ap lines (sym k) ∙ found_line held y n e
+
+found_end : (held : List ℕ) (n : ℕ) → end_of held ≡ Some n → get_or held n 0 ≡ newline
+found_end held n e =
+    let p = position-Some ends (take (LINE + 1) held) n 0 e in
+    let w = found_within held n e in
+    let near : n < LINE + 1 = w.0 in
+    let here : (get_or held n 0 == newline) ≡ true = rw (get_or-take (LINE + 1) held n 0 near) at p.1 in
+    grind (arith, nat_tests)
+
+found_parts : (held : List ℕ) (n : ℕ) → end_of held ≡ Some n → held ≡ (take n held ++ newline ∷ []) ++ drop 1 (drop n held)
+found_parts held n e =
+    let w = found_within held n e in
+    let here : drop n held ≡ newline ∷ drop (n + 1) held = drop_more held n 0 w.1 ∙ ap (λ (b : ℕ). b ∷ drop (n + 1) held) (found_end held n e) in
+    sym (take-append-drop n held) ∙ ap (λ (r : List ℕ). take n held ++ r) (here ∙ ap (λ (r : List ℕ). newline ∷ r) (sym (ap (drop 1) here)))
+    ∙ sym (append_assoc (take n held) (newline ∷ []) (drop 1 (drop n held)))
+
+pub ConsumesLine-found : (a b : Option (List ℕ)) (held : List ℕ) (n : ℕ) → end_of held ≡ Some n → Keeps a (prepend_known held b)
+    → ConsumesLine a (prepend_known (drop 1 (drop n held)) b) (take n held)
+ConsumesLine-found None b held n e k = inl tt
+ConsumesLine-found (Some x) None held n e k = absurd k
+ConsumesLine-found (Some x) (Some y) held n e k =
+    inl (sym k ∙ ap (λ (l : List ℕ). l ++ y) (found_parts held n e) ∙ append_assoc (take n held ++ newline ∷ []) (drop 1 (drop n held)) y)
 
 pub TakesLine-last : (a b : Option (List ℕ)) (held : List ℕ) (n : ℕ) → end_of held ≡ None → n ≡ length held → n ≤ LINE → n ≢ 0
     → IsAtEnd b → Keeps a (prepend_known held b) → TakesLine a (prepend_known (drop n held) b) (take n held)

@@ -19,7 +19,7 @@ mod window;
 pub const LINE: usize = 64;
 
 // The bytes of a buffer, between a source and its lines and before a sink.
-pub(crate) const BUFFER: usize = 4096;
+pub const BUFFER: usize = 4096;
 
 // How often a call that a signal cuts short is made again.
 const REPEATS: usize = 100;

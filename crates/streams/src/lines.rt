@@ -3,7 +3,7 @@
 ghost use Rattle.std.specs.Prelude.{◌≡◌, ◌==◌, ◌+◌, ◌-◌, ◌<◌, ◌≤◌, ℕ, [], IfOk, IfErr, OnErr, IfSome, length, drop, take, position};
 ghost use Rattle.std.specs.Io.KnownBytes.{Keeps, prepend_known};
 ghost use Rattle.streams.specs.Lines.{newline};
-ghost use Rattle.streams.specs.Gives.{Gives};
+ghost use Rattle.streams.specs.Gives.{Gives, ConsumesNext};
 
 use crate::window::Window;
 use crate::{LINE, Source};
@@ -80,6 +80,8 @@ fn taken(window: &mut Window, n: usize) -> Line
 fn next_line<S: Source>(window: &mut Window, source: &mut S) -> io::Result<Next>
     ensures ok { IfOk result (Gives (prepend_known window.old (S.remaining source.old))
         (prepend_known window.new (S.remaining source.new))) }
+    ensures bytes { IfOk result (ConsumesNext (prepend_known window.old (S.remaining source.old))
+        (prepend_known window.new (S.remaining source.new))) }
     ensures err { OnErr result (Keeps (prepend_known window.old (S.remaining source.old))
         (prepend_known window.new (S.remaining source.new))) }
     ensures fails { IfErr result S.fails }
@@ -132,6 +134,7 @@ impl<S: Source> Lines<S> {
     // After an `Err` or a line that is too long, what is left is as it was.
     pub fn next(&mut self) -> io::Result<Next>
         ensures ok { IfOk result (Gives self.old self.new) }
+        ensures bytes { IfOk result (ConsumesNext self.old self.new) }
         ensures err { OnErr result (Keeps self.old self.new) }
         ensures fails { IfErr result S.fails }
     {

@@ -1,7 +1,7 @@
 use Rattle.std.proofs.Common.{◌≡◌, length, Some, None, sym, ap, ◌∙◌, arith}
 use Rattle.std.proofs.lemmas.List.{length-take}
 use Rattle.std.proofs.KnownBytes.{Keeps-trans}
-use Rattle.streams.proofs.FirstLine.{end_of, TakesLine-found, TakesLine-last, BeginsLonger-none}
+use Rattle.streams.proofs.FirstLine.{end_of, TakesLine-found, ConsumesLine-found, TakesLine-last, BeginsLonger-none}
 use Rattle.streams.proofs.lines.next_line.Goals as goal
 
 pub returns-in-Some-clause-ok : goal.returns-in-Some-clause-ok
@@ -11,6 +11,13 @@ returns-in-Some-clause-ok g c =
     let end : end_of held ≡ Some n = ap end_of (sym c.as_slice.ensures) ∙ sym c.line_end.ensures.first ∙ c.in-Some.is in
     rw (c.taken-line.ensures.line, c.consume.ensures, c.taken-line.ensures.rest)
     (TakesLine-found _ _ held n end c.reads.invariant, omega (arith, length-take n held, c.in-Some.ensures.within))
+
+pub returns-in-Some-clause-bytes : goal.returns-in-Some-clause-bytes
+returns-in-Some-clause-bytes g c =
+    let held = c.reads.window in
+    let n = c.in-Some.n in
+    let end : end_of held ≡ Some n = ap end_of (sym c.as_slice.ensures) ∙ sym c.line_end.ensures.first ∙ c.in-Some.is in
+    rw (c.taken-line.ensures.line, c.consume.ensures, c.taken-line.ensures.rest) (ConsumesLine-found _ _ held n end c.reads.invariant)
 
 pub returns-then-held-gt-LINE-clause-ok : goal.returns-then-held-gt-LINE-clause-ok
 returns-then-held-gt-LINE-clause-ok g c =
