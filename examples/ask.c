@@ -1,4 +1,4 @@
-/* Document 01's worked collection B, asked from C. docs/LINKING.md says how to build it. */
+/* The worked base collection, asked from C. docs/LINKING.md says how to build it. */
 #include <stdio.h>
 #include "lampsaffron.h"
 

@@ -1,4 +1,4 @@
-// Document 01's worked collection B, asked from Rust. docs/LINKING.md says how to build it.
+// The worked base collection, asked from Rust. docs/LINKING.md says how to build it.
 #[link(name = "lampsaffron", kind = "static")]
 extern "C" {
     fn lampsaffron_ask(

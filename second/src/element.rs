@@ -1,4 +1,4 @@
-//! An element of the canonical model as document 01 writes it: an individual followed by a row of signed roles.
+//! An element of the canonical model (docs/RULES.md, section 5): an individual followed by a row of signed roles.
 
 use crate::numbers::{Individual, Role};
 

@@ -1,4 +1,4 @@
-//! The second program: document 01 worked once more, to be compared with the first.
+//! The second program: the rules (docs/RULES.md) worked once more, to be compared with the first.
 
 pub mod clash;
 pub mod collection;

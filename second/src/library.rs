@@ -1,11 +1,11 @@
-//! The library call over lent tables, with both areas: document 01, "Numbers returned".
+//! The library call over lent tables, with both areas (docs/RULES.md, sections 3 and 7).
 
 use crate::collection::{Collection, Counts, Step};
 use crate::numbers::{Concept, Individual, Role};
 use crate::prepared::Prepared;
 use crate::sheet::AREA;
 
-/// How many numbers a record has and how many records there may be, in document 01's order of the tables.
+/// How many numbers a record has and how many records there may be, in the order of docs/RULES.md, section 3.
 pub const SHAPES: [(usize, usize); 8] =
     [(2, 512), (2, 512), (2, 128), (2, 128), (2, 1_024), (3, 4_096), (4, 512), (1, 16)];
 

@@ -1,4 +1,4 @@
-//! The four kinds of number of document 01, each a type of its own, and their limits.
+//! The four kinds of number (docs/RULES.md, section 2), each a type of its own, and their limits.
 
 pub const MOST_NAMES: u16 = 64;
 pub const MOST_ROLES: u16 = 32;

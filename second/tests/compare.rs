@@ -27,6 +27,33 @@ fn another_program_fails() {
 }
 
 #[test]
+fn a_bad_exit_status_fails() {
+    // What `second` writes is right, and then it ends with 3: each desk run fails, and so does the end of the driver.
+    let folder = std::env::temp_dir().join(format!("second-status-{}", std::process::id()));
+    std::fs::create_dir_all(&folder).expect("a folder of our own");
+    let ending_badly = |verb: &str| {
+        let script = folder.join(verb);
+        std::fs::write(&script, format!("{} {verb}\nexit 3\n", env!("CARGO_BIN_EXE_second")))
+            .expect("a file of our own");
+        Some(format!("sh {}", script.display()))
+    };
+    let of = |desk, library| Options { cases: 40, seed: 616_161, jobs: 1, desk, library };
+    let (_, sound) = compare(&of(None, None));
+    let (_, desk) = compare(&of(ending_badly("desk"), None));
+    let (_, library) = compare(&of(None, ending_badly("answer")));
+    let (_, right) = compare(&of(None, Some(format!("{} answer", env!("CARGO_BIN_EXE_second")))));
+    // Of so few cases each number is met too seldom: 12 numbers of the desk, 9 of the library.
+    assert_eq!(desk, sound + 40 + 12);
+    assert_eq!(library, right + 1);
+    std::fs::remove_dir_all(&folder).expect("our own folder");
+    for case in 0..40 {
+        drop(std::fs::remove_file(
+            std::env::temp_dir().join(format!("second-part1-seed616161-case{case}.txt")),
+        ));
+    }
+}
+
+#[test]
 fn a_collection_that_needs_1954_rounds() {
     let output = String::from_utf8(desk(&sample("rounds", 1).expect("a kind"))).expect("text");
     assert!(output.lines().all(|line| line.ends_with("0107A2")) && output.lines().count() == 4);

@@ -1,4 +1,4 @@
-//! The slips of document 01's "Slips that look right", and the desk's order of refusals line by line.
+//! Slips that look right (docs/PROMISES.md lists them), and the desk's order of refusals line by line.
 
 use second::desk::desk;
 

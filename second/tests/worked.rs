@@ -1,4 +1,4 @@
-//! Cases 1 to 12 of document 01's "Worked on paper", asked of the desk, the library and the built-out model.
+//! Cases 1 to 12 (docs/PAPER.md and cases/README.md), asked of the desk, the library and the built-out model.
 
 use second::desk::{desk, read::read};
 use second::library::{ask, Call};

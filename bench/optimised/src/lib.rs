@@ -1,4 +1,4 @@
-//! The desk of document 01 written for speed, and the files and the plot of the benchmark.
+//! The desk written for speed, and the files and the plot of the benchmark.
 
 pub mod bits;
 pub mod clash;

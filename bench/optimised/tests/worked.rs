@@ -1,4 +1,4 @@
-//! Cases 1 to 12 of document 01's "Worked on paper", asked of the optimised desk.
+//! Cases 1 to 12 (cases/README.md), asked of the optimised desk.
 
 use optimised::desk::{desk, marks};
 

@@ -2,6 +2,7 @@
 
 use std::io::{BufRead, BufReader, Error, ErrorKind, Result, Write};
 use std::process::{Child, ChildStdin, ChildStdout, Command, Stdio};
+use std::sync::atomic::{AtomicU64, Ordering};
 
 /// The words of a command, parted by spaces.
 #[derive(Clone)]
@@ -30,26 +31,29 @@ pub fn run_desk(words: &Words, input: &[u8]) -> Result<Vec<u8>> {
         scope.spawn(move || drop(stdin.write_all(input)));
         child.wait_with_output()
     })?;
-    // Document 01 says nothing about the exit status; but a program that was killed has no outcome.
-    match output.status.code() {
-        Some(_) => Ok(output.stdout),
-        None => Err(Error::other(format!("the desk program ended by {}", output.status))),
+    // What can be read and written ends with exit status 0, a faulty file too (docs/RULES.md, section 8).
+    if output.status.success() {
+        Ok(output.stdout)
+    } else {
+        Err(Error::other(format!("the desk program ended by {}", output.status)))
     }
 }
 
 /// A library driver that answers line after line.
-pub struct Driver {
+pub struct Driver<'a> {
     child: Child,
     stdin: Option<ChildStdin>,
     stdout: BufReader<ChildStdout>,
+    ended_badly: &'a AtomicU64,
 }
 
-impl Driver {
-    pub fn start(words: &Words) -> Result<Driver> {
+impl Driver<'_> {
+    /// A driver that ends with another exit status than 0 is counted there.
+    pub fn start<'a>(words: &Words, ended_badly: &'a AtomicU64) -> Result<Driver<'a>> {
         let mut child = words.command().spawn()?;
         let stdin = child.stdin.take();
         let stdout = BufReader::new(child.stdout.take().expect("standard output was asked for"));
-        Ok(Driver { child, stdin, stdout })
+        Ok(Driver { child, stdin, stdout, ended_badly })
     }
 
     pub fn ask(&mut self, request: &str) -> Result<String> {
@@ -64,10 +68,12 @@ impl Driver {
     }
 }
 
-impl Drop for Driver {
+impl Drop for Driver<'_> {
     fn drop(&mut self) {
         // The end of its input ends the driver.
         drop(self.stdin.take());
-        drop(self.child.wait());
+        if !self.child.wait().is_ok_and(|status| status.success()) {
+            self.ended_badly.fetch_add(1, Ordering::Relaxed);
+        }
     }
 }

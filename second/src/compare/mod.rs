@@ -58,12 +58,18 @@ pub fn compare(options: &Options) -> (u64, u64) {
     match options.library.as_deref().and_then(Words::of) {
         None => println!("  skipped: no --library command was given"),
         Some(words) => {
+            let ended_badly = AtomicU64::new(0);
             let work = || {
                 let mut driver = None;
-                let words = &words;
-                move |dice, tally: &mut Tally| with_driver(words, &mut driver, dice, tally)
+                let start = || Driver::start(&words, &ended_badly);
+                move |dice, tally: &mut Tally| with_driver(start, &mut driver, dice, tally)
             };
             judge(&mut total, run(options, LIBRARY, work), &[0, 1, 2, 3, 4, 5, 6, 7, 8]);
+            let ended_badly = ended_badly.into_inner();
+            if ended_badly > 0 {
+                println!("  FAILED: {ended_badly} library drivers ended with another exit status than 0");
+            }
+            total.1 += ended_badly;
         }
     }
     println!("c. modules library and desk against the built-out model, on small collections");
@@ -73,8 +79,13 @@ pub fn compare(options: &Options) -> (u64, u64) {
 }
 
 /// A driver that failed is started again for the next case.
-fn with_driver(words: &Words, driver: &mut Option<Driver>, dice: Dice, tally: &mut Tally) -> Outcome {
-    let mut ready = match driver.take().map_or_else(|| Driver::start(words), Ok) {
+fn with_driver<'a>(
+    start: impl FnOnce() -> std::io::Result<Driver<'a>>,
+    driver: &mut Option<Driver<'a>>,
+    dice: Dice,
+    tally: &mut Tally,
+) -> Outcome {
+    let mut ready = match driver.take().map_or_else(start, Ok) {
         Ok(ready) => ready,
         Err(error) => {
             let (expected, found) = ("a driver that starts".to_string(), error.to_string());

@@ -1,4 +1,4 @@
-//! The desk: whole input to whole output, as document 01's "Frames of the desk program" says.
+//! The desk: whole input to whole output, as docs/RULES.md says in section 8.
 
 pub mod frame;
 pub mod read;

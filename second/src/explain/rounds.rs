@@ -93,7 +93,7 @@ struct Finder<'a> {
 }
 
 impl Finder<'_> {
-    /// The first rule that adds the mark, in document 01's order of the rules.
+    /// The first rule that adds the mark, in the order of docs/RULES.md, section 6.
     fn reason(&self, before: &Sheet, mark: Mark) -> Reason {
         self.test(mark)
             .or_else(|| self.composed(before, mark))

@@ -1,4 +1,4 @@
-//! The loop sheet to the letter: bytes in document 01's places and its three rules as nested loops, for small collections.
+//! The loop sheet to the letter: bytes in the places of docs/RULES.md, section 6, and its three rules as nested loops, for small collections.
 
 use super::known::Known;
 use crate::collection::Step;

@@ -21,7 +21,7 @@ const NOTATION: &str = "NOTATION
   q0 –r0→ q1      a role step               q0 –A0?→ q1     a test step
   line 5          the line of the file where the record stands
 Of several reasons for one thing only one is shown: the shortest chain of rules, and for a mark the first of
-document 01's three rules that adds it.
+the three rules of a round that adds it.
 ";
 
 /// A faulty file: its 8F line and the same in words.
