@@ -10,8 +10,9 @@ use std::process::ExitCode;
 const USAGE: &str = "second desk                  the desk: standard input to standard output
 second explain FILE          what stands behind the desk's answers to a file, as readable text
 second paper BLOCK FILE [WORDS]
-                             a block about a file, for a page: records, numbers, orders, people, model, form, sheets, rounds,
-                             walks, behind or answers; or figures, for a script
+                             a block about a file, for a page: records, numbers, orders, people, model, ends, pairs, exclusions,
+                             ways, sheets, rounds, walks, behind or answers; empty-records and so on for the empty form; forms
+                             for all the empty forms; or figures, for a script
 second changes FILE OTHER [WORDS]
                              the lines in which a file differs from another, in words
 second picture TITLE FILE [WORDS]

@@ -1,4 +1,4 @@
-//! Cases 1 to 12 (docs/PAPER.md and cases/README.md), asked of the desk, the library and the built-out model.
+//! Cases 1 to 12 and the collection with facts (docs/PAPER.md and cases/README.md), asked of the desk, the library and the built-out model.
 
 use second::desk::{desk, read::read};
 use second::library::{ask, Call};
@@ -10,11 +10,15 @@ const AREA: usize = 32_768;
 /// Base collection B without its asks.
 const B: &str = "010202020400 020040 024101 060000 08000001 09010102 08020103 0A03";
 
+/// The collection with facts without its asks: each rule of the rounds adds a mark.
+const FACTS: &str = "010202030600 020040 024101 020143 030001 050002 060000 07000001 07000201 \
+                     08000001 09010102 08020303 08030204 08040105 0A05";
+
 /// Case 10 without its asks.
-const TEN: &str = "010102020300 020040 020042 060000 08000001 08010302 0A02";
+const TEN: &str = "010202020300 020040 020042 060000 08000001 08010302 0A02";
 
 /// Case 11: case 10 plus a third role.
-const ELEVEN: &str = "010103020300 020040 020042 060000 08000001 08010302 0A02 020044 040400 040402";
+const ELEVEN: &str = "010203020300 020040 020042 060000 08000001 08010302 0A02 020044 040400 040402";
 
 fn lines(words: &str) -> Vec<u8> {
     words.split(' ').map(|line| format!("{line}\n")).collect::<String>().into_bytes()
@@ -111,18 +115,19 @@ fn case_6_roles_excluded_below_an_owner() {
 
 #[test]
 fn case_7_holds_both_ways() {
-    agree("010202020400 07010001 07010100 050203", 0, 0, 2, 0);
+    let steps = "08000001 09010102 08020103 0A03";
+    agree(&format!("010202020400 050203 07010001 07010100 {steps}"), 0, 0, 2, 0);
 }
 
 #[test]
 fn case_8_start_state_final() {
-    agree("010202020400 0A00", 0, 0, 1, 0);
-    agree("010202020400 0A00", 0, 1, 0, 0);
+    agree("010202020100 0A00", 0, 0, 1, 0);
+    agree("010202020100 0A00", 0, 1, 0, 0);
 }
 
 #[test]
 fn case_9_signs_twice_and_back() {
-    let nine = "010102020500 020040 024140 060000 08000001 08010002 08020103 08030104 0A04";
+    let nine = "010202020500 020040 024140 060000 08000001 08010002 08020103 08030104 0A04";
     agree(nine, 0, 0, 1, 2);
 }
 
@@ -134,6 +139,16 @@ fn case_10_two_promises_are_two_neighbours() {
 #[test]
 fn case_11_one_neighbour_by_a_third_role() {
     agree(ELEVEN, 0, 0, 1, 1);
+}
+
+#[test]
+fn facts_walked_along_and_backward() {
+    let sheet = agree(FACTS, 0, 2, 1, 3);
+    assert_eq!(sheet.iter().map(|byte| u32::from(*byte)).sum::<u32>(), 45);
+    agree(FACTS, 2, 0, 1, 3);
+    agree(FACTS, 0, 0, 1, 3);
+    agree(FACTS, 0, 1, 0, 3);
+    agree(FACTS, 1, 1, 0, 3);
 }
 
 #[test]
@@ -167,8 +182,8 @@ fn case_12_in_the_library() {
 }
 
 #[test]
-fn marks_mean_what_document_01_says() {
-    for words in [B, TEN, ELEVEN] {
+fn marks_mean_what_the_rules_say() {
+    for words in [B, FACTS, TEN, ELEVEN] {
         let file = read(&lines(words)).expect("a sound file");
         let known = Known::of(&file.collection);
         let closed = letter::all_rounds(&known).pop().expect("at least round 0");

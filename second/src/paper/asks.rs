@@ -10,27 +10,49 @@ use crate::explain::{Asked, Behind, Explanation};
 use crate::numbers::{Individual, State};
 use std::collections::BTreeSet;
 
-/// Each ask's line of output, and the same in words.
+const ANSWERS: [&str; 5] = ["Ask", "Answer", "Number", "Count", "The desk writes"];
+const WALK: [&str; 5] = ["Individual", "State", "Final", "Comes from", "By"];
+const PATH: [&str; 4] = ["Step", "Element", "State", "By"];
+
+/// Each ask's answer in words, its number and count, and the line of output.
 pub fn answers(explained: &Explanation) -> String {
-    let line = |asked: &Asked| {
-        let (Asked { first, second, number, count, .. }, words) = (asked, in_words(explained, asked));
-        let typed = format!("8B{:02X}{:02X}{number:02X}{count:04X}", first.0, second.0);
-        format!("- {}: {words}; the desk writes `{typed}`\n", pair(*first, *second))
-    };
-    explained.asks.iter().map(line).collect()
+    let mut table = Table::new(&ANSWERS);
+    for asked in &explained.asks {
+        let Asked { first, second, number, count, .. } = asked;
+        let typed = format!("`8B{:02X}{:02X}{number:02X}{count:04X}`", first.0, second.0);
+        let words = in_words(asked);
+        table.row([pair(*first, *second), words, number.to_string(), count.to_string(), typed]);
+    }
+    table.text()
+}
+
+pub fn answers_form(explained: &Explanation) -> String {
+    let asks = explained.asks.iter();
+    Table::form(&ANSWERS, asks.map(|asked| vec![pair(asked.first, asked.second)])).text()
+}
+
+/// A walk begins at the first individual of an ask, in the start state.
+pub fn walks_form(explained: &Explanation) -> String {
+    let start = explained.file.collection.counts.start.0.to_string();
+    let firsts: BTreeSet<Individual> = explained.asks.iter().map(|asked| asked.first).collect();
+    let begin = |first: Individual| [vec![first.0.to_string(), start.clone()], Vec::new()];
+    let forms: Vec<String> =
+        firsts.into_iter().map(|first| Table::form(&WALK, begin(first)).text()).collect();
+    forms.join("\n")
+}
+
+pub fn path_form() -> String {
+    Table::form(&PATH, [vec!["0".to_string()], Vec::new()]).text()
 }
 
 /// `yes, 2 rounds`.
-pub fn in_words(explained: &Explanation, asked: &Asked) -> String {
+pub fn in_words(asked: &Asked) -> String {
     let count = usize::from(asked.count);
     match asked.number {
         0 => format!("no, {}", counted(count, "round")),
         1 => format!("yes, {}", counted(count, "round")),
         2 => "contradiction".to_string(),
-        _ => {
-            let needed = counted(explained.rounds.needed(), "round");
-            format!("number 3, the allowance of {count} is below the {needed} needed")
-        }
+        _ => format!("the allowance of {count} is below the rounds needed"),
     }
 }
 
@@ -55,7 +77,7 @@ fn behind_one(explained: &Explanation, asked: &Asked, words: &Words) -> String {
         }
         Behind::Path(found) => format!("{asked_pair}: the path.\n\n{}", path(found, words)),
         Behind::Reached(places) => format!("{asked_pair}: {}\n", reached(explained, asked, places)),
-        Behind::Nothing => format!("{asked_pair}: {}. The walk isn't worked.\n", in_words(explained, asked)),
+        Behind::Nothing => format!("{asked_pair}: {}. The walk isn't worked.\n", in_words(asked)),
     }
 }
 
@@ -74,7 +96,7 @@ fn reached(explained: &Explanation, asked: &Asked, places: &[Place]) -> String {
 }
 
 fn path(path: &Path, words: &Words) -> String {
-    let mut table = Table::new(&["Step", "Element", "State", "By"]);
+    let mut table = Table::new(&PATH);
     for (number, stand) in path.stands.iter().enumerate() {
         let by = match &stand.by {
             None => "the start".to_string(),
@@ -98,7 +120,7 @@ pub fn walks(explained: &Explanation, words: &Words) -> String {
     let mut text = String::new();
     for first in firsts {
         let walk = ground.walk(first);
-        let mut table = Table::new(&["Individual", "State", "Final", "Comes from", "By"]);
+        let mut table = Table::new(&WALK);
         for place in &walk.reached {
             let final_state = if explained.file.collection.finals.contains(&place.1) { "yes" } else { "no" };
             let (from, by) = match walk.legs.get(place) {

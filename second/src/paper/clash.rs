@@ -63,11 +63,14 @@ fn concept_side(side: &ConceptSide, words: &Words) -> String {
     match side {
         ConceptSide::Named(has) => format!("- {concept}: {}\n", why(has, words)),
         ConceptSide::Unnamed { from, chain, .. } if chain.is_empty() => {
-            format!("- {concept}: the last role of its row gives it {}\n", words.concept(*from))
+            format!("- {concept}: the last signed role of its row gives it {}\n", words.concept(*from))
         }
         ConceptSide::Unnamed { from, chain, .. } => {
             let rules = words.chain(*from, chain, Words::concept);
-            format!("- {concept}: the last role of its row gives it {}; {rules}\n", words.concept(*from))
+            format!(
+                "- {concept}: the last signed role of its row gives it {}; {rules}\n",
+                words.concept(*from)
+            )
         }
     }
 }

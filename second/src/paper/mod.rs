@@ -2,12 +2,15 @@
 
 pub mod asks;
 pub mod clash;
+mod exclusions;
 mod figures;
+mod forms;
 mod orders;
 mod records;
 mod rounds;
 mod table;
 pub mod tree;
+mod ways;
 pub mod words;
 
 use crate::explain::Explanation;
@@ -15,18 +18,25 @@ use words::Words;
 
 /// One block of the page about a sound file; None where there is no such block.
 pub fn block(name: &str, input: &[u8], explained: &Explanation, words: &Words) -> Option<String> {
+    if let Some(empty) = name.strip_prefix("empty-") {
+        return forms::form(empty, input, explained, words);
+    }
     Some(match name {
         "records" => records::records(input, words),
         "numbers" => orders::numbers(explained, words),
         "orders" => orders::orders(explained, words),
         "people" => orders::people(explained, words),
         "model" => tree::model(explained, words),
-        "form" => rounds::form(explained, words),
+        "ends" => exclusions::ends(explained, words),
+        "pairs" => exclusions::pairs(explained, words),
+        "exclusions" => exclusions::exclusions(explained, words),
+        "ways" => ways::ways(explained, words),
         "sheets" => rounds::sheets(explained, words),
         "rounds" => rounds::rounds(explained, words),
         "walks" => asks::walks(explained, words),
         "behind" => asks::behind(explained, words),
         "answers" => asks::answers(explained),
+        "forms" => forms::all(input, explained, words),
         "figures" => figures::figures(explained),
         _ => return None,
     })
@@ -41,13 +51,17 @@ mod tests {
 
     const B: &str = "010202020400 020040 024101 060000 08000001 09010102 08020103 0A03 0B0000 0B0001";
 
-    #[track_caller]
-    fn says(name: &str, file: &str, parts: &[&str]) {
+    fn text(name: &str, file: &str) -> String {
         let input: String = file.split(' ').map(|line| format!("{line}\n")).collect();
         let explained =
             Explanation::of(input.as_bytes(), MOST_STEPS).unwrap_or_else(|_| panic!("a sound file"));
         let words = Words::read("Owner,Deed/signs,holds");
-        let text = block(name, input.as_bytes(), &explained, &words).expect("a block");
+        block(name, input.as_bytes(), &explained, &words).expect("a block")
+    }
+
+    #[track_caller]
+    fn says(name: &str, file: &str, parts: &[&str]) {
+        let text = text(name, file);
         for part in parts {
             assert!(text.contains(part), "{part:?} is not in\n{text}");
         }
@@ -58,13 +72,44 @@ mod tests {
         says("records", B, &["| 3 | `024101` | rule ∃(signs backward) ≤ Deed |"]);
         says("people", B, &["| 0 | ∃signs | typed on line 4; Owner ≤ ∃signs (line 2) |", "| 1 | none |"]);
         says("model", B, &["| 0·signs | 0 has ∃signs | Deed, ∃(signs backward) | signs |"]);
-        says("form", B, &["| 3 |  |  |  |  |  |  |"]);
+        says("orders", B, &["| signs | none |  |", "| Owner | ∃signs | Owner ≤ ∃signs (line 2) |"]);
+        says("ends", B, &["| signs | 0 has ∃signs | Deed, ∃(signs backward) | signs | signs backward |"]);
+        says("ends", B, &["| signs backward | …·signs has ∃(signs backward) |", "| holds | no row does |"]);
+        says("exclusions", B, &["No exclusion is typed"]);
+        says("ways", B, &["| Deed (line 6) | 1 | 2 | Deed, ∃(signs backward) |"]);
+        let ways = "| signs | Owner, ∃signs | 0 to 1 by signs (line 5) | ∃(signs backward) | 2 to 3 by signs backward (line 7) |";
+        says("ways", B, &[ways]);
         says("sheets", B, &["After round 1: 26 marks.", "| 1 | 1 | 1 **2** | 1 | 1 **2** | 1 | 1 |"]);
         says("sheets", B, &["After round 2: 28 marks.", "| 0 | 0 **3** | 0 | 0 **3** | 0 | 0 | 0 |"]);
         says("rounds", B, &["| 2 | (0, 3, Owner) | 3 | R is signs, Owner ≤ ∃signs;", "rounds needed 2"]);
         says("walks", B, &["| 0 | 3 | yes | 0 in state 0 | the mark (0, 3, Owner) |"]);
         says("behind", B, &["| 2 | 0·signs | 2 | test Deed (line 6) |", "the walk never comes to 1."]);
-        says("answers", B, &["- (0, 1): no, 2 rounds; the desk writes `8B0001000002`"]);
+        says("answers", B, &["| (0, 1) | no, 2 rounds | 0 | 2 | `8B0001000002` |"]);
+    }
+
+    #[test]
+    fn every_form() {
+        says("empty-records", B, &["| 3 | `024101` |  |"]);
+        says("empty-numbers", B, &["| ∃signs |  |  |"]);
+        says("empty-orders", B, &["| signs backward |  |  |", "| Deed |  |  |"]);
+        says("empty-sheets", B, &["| 3 |  |  |  |  |  |  |"]);
+        says("empty-walks", B, &["| 0 | 0 |  |  |  |"]);
+        says("forms", B, &["## Step 1: the file", "## Step 8: the answers"]);
+        for (block, _) in forms::FORMS {
+            let heads = |name| text(name, B).lines().find(|line| line.starts_with('|')).map(String::from);
+            let filled = heads(block);
+            assert!(filled.is_none() || filled == heads(&format!("empty-{block}")), "{block}");
+        }
+    }
+
+    const FACTS: &str = "010202030200 040002 030001 050103 060000 07000001 07010100 08000001 0A01 0B0001";
+
+    #[test]
+    fn pairs_and_exclusions() {
+        says("pairs", FACTS, &["| (0, 1) | holds | line 6 joins them by signs; signs ≤ holds (line 2) |"]);
+        says("pairs", FACTS, &["| (1, 0) | holds | line 7 joins them by holds |"]);
+        says("exclusions", FACTS, &["| 3 | Owner excludes Deed | 0 | none | none |"]);
+        says("exclusions", FACTS, &["| 4 | signs backward excludes holds backward | (1, 0), (…·signs, …), (…, …·(signs backward)) |"]);
     }
 
     #[test]
@@ -79,7 +124,7 @@ mod tests {
         says(
             "rounds",
             &format!("{B} 0C0001"),
-            &["Round 2 would add more: rounds needed 2, allowance 1 (given)"],
+            &["Round 2 would add more, so the allowance of 1 (given) is below the rounds needed."],
         );
     }
 }

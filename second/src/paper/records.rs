@@ -6,13 +6,20 @@ use crate::desk::frame::{frame, Frame};
 use crate::desk::read::lines;
 use crate::numbers::{Concept, Individual, Role};
 
+const RECORDS: [&str; 3] = ["Line", "As typed", "In words"];
+
 /// Every line of a sound file: as typed, and in words.
 pub fn records(input: &[u8], words: &Words) -> String {
-    let mut table = Table::new(&["Line", "As typed", "In words"]);
+    let mut table = Table::new(&RECORDS);
     for (before, line) in lines(input).enumerate() {
         table.row([(before + 1).to_string(), typed(line), in_words(line, words)]);
     }
     table.text()
+}
+
+pub fn records_form(input: &[u8]) -> String {
+    let rows = lines(input).enumerate().map(|(before, line)| vec![(before + 1).to_string(), typed(line)]);
+    Table::form(&RECORDS, rows).text()
 }
 
 /// The lines that this file has and the other hasn't, and the other way round.

@@ -7,8 +7,10 @@ use crate::explain::rounds::{Carried, Mark, Reason};
 use crate::explain::Explanation;
 use crate::numbers::{Concept, State};
 
+const ROUNDS: [&str; 5] = ["Round", "Added", "Rule", "Because", "Marks after the round"];
+
 /// A square for each state and concept, with nothing in it.
-pub fn form(explained: &Explanation, words: &Words) -> String {
+pub fn sheets_form(explained: &Explanation, words: &Words) -> String {
     squares(explained, words, |_, _| String::new())
 }
 
@@ -73,7 +75,7 @@ pub fn rounds(explained: &Explanation, words: &Words) -> String {
     if explained.clash.is_some() {
         return "The collection is a contradiction, so no round is worked.\n".to_string();
     }
-    let mut table = Table::new(&["Round", "Added", "Rule", "Because", "Marks after the round"]);
+    let mut table = Table::new(&ROUNDS);
     let counts = &explained.file.collection.counts;
     let every = format!(
         "(s, s, B), {} times {}",
@@ -93,15 +95,21 @@ pub fn rounds(explained: &Explanation, words: &Words) -> String {
     table.text() + "\n" + &ending(explained)
 }
 
+pub fn rounds_form() -> String {
+    Table::form(&ROUNDS, ["0", "1"].map(|round| vec![round.to_string()])).text()
+}
+
 /// Why no further round is worked.
 fn ending(explained: &Explanation) -> String {
     let (needed, worked) = (explained.rounds.needed(), worked(explained));
     let given = if explained.file.allowance.is_some() { "given" } else { "none is given" };
-    let allowance = format!("allowance {} ({given})", explained.file.allowance());
+    let allowance = explained.file.allowance();
     if worked < needed {
-        return format!("Round {} would add more: rounds needed {needed}, {allowance}.\n", worked + 1);
+        let next = worked + 1;
+        return format!("Round {next} would add more, so the allowance of {allowance} ({given}) is below the rounds needed.\n");
     }
-    format!("Round {} adds nothing and isn't counted: rounds needed {needed}, {allowance}.\n", needed + 1)
+    let next = needed + 1;
+    format!("Round {next} adds nothing and isn't counted: rounds needed {needed}, allowance {allowance} ({given}).\n")
 }
 
 fn rule(mark: Mark, reason: &Reason, words: &Words) -> (u8, String) {

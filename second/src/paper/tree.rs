@@ -85,12 +85,21 @@ fn deepest(path: &Path) -> usize {
     path.stands.iter().map(|stand| stand.element.row.len()).max().unwrap_or(0)
 }
 
+const MODEL: [&str; 4] = ["Element", "Why it belongs", "Its concepts", "Signed roles from its parent"];
+
+/// A row for each individual, and one for the elements that the pencil adds.
+pub fn model_form(explained: &Explanation) -> String {
+    let people = explained.file.collection.counts.all_individuals();
+    let rows = people.map(|who| vec![who.0.to_string()]).chain([Vec::new()]);
+    Table::form(&MODEL, rows).text()
+}
+
 /// The elements shown, each with the reason that it belongs, its concepts and its edge.
 pub fn model(explained: &Explanation, words: &Words) -> String {
     let Ok(trees) = trees(explained) else {
         return format!("The model has more than {MOST_ELEMENTS} elements down to the depth that matters.\n");
     };
-    let mut table = Table::new(&["Element", "Why it belongs", "Its concepts", "Roles from its parent"]);
+    let mut table = Table::new(&MODEL);
     let mut waiting: Vec<&Node> = trees.iter().rev().collect();
     let mut further = String::new();
     while let Some(node) = waiting.pop() {

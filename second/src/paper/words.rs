@@ -32,7 +32,7 @@ impl Words {
     }
 
     /// `signs`, `(signs backward)`.
-    fn bracketed(&self, role: Role) -> String {
+    pub fn bracketed(&self, role: Role) -> String {
         let word = self.role(role);
         if word.contains(' ') {
             format!("({word})")

@@ -96,7 +96,7 @@ fn beside(lanes: &[Lane], stands: &[Stand], at: usize, block: &Block) -> i32 {
 
 /// `(0, 0): yes, 2 rounds`, for each ask.
 fn answers(explained: &Explanation) -> Vec<String> {
-    let one = |asked: &Asked| format!("{}: {}", pair(asked.first, asked.second), in_words(explained, asked));
+    let one = |asked: &Asked| format!("{}: {}", pair(asked.first, asked.second), in_words(asked));
     explained.asks.iter().map(one).collect()
 }
 
@@ -108,8 +108,8 @@ fn caption(scene: &Scene, trees: &[Node]) -> Vec<String> {
     let no = explained.asks.iter().any(|asked| matches!(asked.behind, Behind::Reached(_)));
     let parts = [
         (true, "Square boxes: individuals, with their concepts."),
-        (unnamed, "Rounded boxes: unnamed elements, an individual followed by a row of roles."),
-        (edges, "Arrows: the pair has these roles along it, and each backward against it."),
+        (unnamed, "Rounded boxes: unnamed elements, an individual followed by a row of signed roles."),
+        (edges, "Arrows: the pair has these signed roles along it, and their inverses against it."),
         (trees.iter().any(goes_on), "Dotted lines: the model goes on, without end."),
         (!scene.travels.is_empty(), "Thick dashed arrows: the path, step by step, each with its states."),
         (no, "Paths from: the states in which some path comes to the element."),
@@ -167,9 +167,9 @@ mod tests {
         let mut files: Vec<String> =
             ["0C0001", "030141", "040002 050002", "030000", "050000"].map(and).to_vec();
         let others = [
-            "010002020100 050203 07010001 07010100 0A00 0B0000",
-            "010101010500 020040 024140 060000 08000001 08010002 08020103 08030104 0A04 0B0000",
-            "010103010300 020040 020042 020044 040400 040402 060000 08000001 08010302 0A02 0B0000",
+            "010202020400 050203 07010001 07010100 08000001 09010102 08020103 0A03 0B0000",
+            "010202020500 020040 024140 060000 08000001 08010002 08020103 08030104 0A04 0B0000",
+            "010203020300 020040 020042 020044 040400 040402 060000 08000001 08010302 0A02 0B0000",
             "010202030600 020040 07010001 060001 07010102 08000201 08010002 08020103 08030204 09040005 0A04 0B0002",
             "010201010500 060000 060100 09000001 09010102 09020003 0A03 0B0000",
             "010002030100 050000 07010001 07000002 07010201 0A00 0B0000",
