@@ -1,98 +1,112 @@
--- What each loop of the test looks for, and that its parts come to the definition.
-use Rattle.std.specs.Prelude.{ℕ, ◌+◌, ◌<◌, ◌≡◌, ◌⊎◌, ◌↔◌, Bool, true, false, List, [], get_or}
-use Rattle.std.proofs.Common.{inl, inr, ⊎_elim}
-use Rattle.kinds.specs.declared.Individual.{Individual}
-use Rattle.kinds.specs.Kinds.{flip, flip-below, individual}
-use Rattle.laws.specs.Exactly.{Exactly, exactly-same}
-use Rattle.laws.specs.Found.{Some}
-use Rattle.laws.specs.Masks.{Bit}
-use Rattle.clash.specs.Clashes.{Marked, Breaks, FactRole, ahead, behind, Clashes, named, unnamed, joined, down, up}
-use Rattle.clash.specs.Conflicts.{Conflicts, self-conflict}
-use Rattle.clash.specs.Hops.{Joined, Meets, meets-break, breaks-meet}
+-- What each search looks for, and what is worked out for it.
+use Rattle.std.specs.Prelude.{ℕ, ◌+◌, ◌/◌, ◌<◌, ◌≡◌, ◌⊎◌, ◌↔◌, IsTrue, Bool, List, length, slice_index_or}
+use Rattle.kinds.specs.Kinds.{base, flip, most_individuals}
+use Rattle.laws.specs.Gains.{Either, OneOf}
+use Rattle.meaning.specs.Lent.{rule_width}
+use Rattle.sets.specs.Bits.{concept_width, role_width, Has, Meets}
+use Rattle.sets.specs.Rows.{no_concepts}
+use Rattle.sets.specs.declared.concepts.ConceptSet.{ConceptSet}
+use Rattle.tables.specs.declared.records.RolePair.{RolePair}
+use Rattle.tables.specs.Records.{read_role_pair}
+use Rattle.orders.specs.Marks.{Pair, Listed}
+use Rattle.hops.specs.declared.Hop.{Hop}
+use Rattle.clash.specs.Clashes.{Breaks, Marked, FactRole}
 
--- the individual a has both sides of an exclusion
-pub record NamedBreaks (cx : List ℕ) (concepts : List (List Bool)) (a : ℕ) : Type 0 where
-  pub breaks : Breaks 128 cx (Marked (get_or concepts a []))
+-- some number below w has P; some member of the set n has
+pub record Below (w : ℕ) (P : ℕ → Type 0) : Type 0 where
+  pub one : ℕ
+  pub within : one < w
+  pub has : P one
 
--- an unnamed element that ends by R has
-pub record UnnamedBreaks (cx : List ℕ) (order : List (List Bool)) (living : List Bool) (R : ℕ) : Type 0 where
-  pub lives : get_or living R false ≡ true
-  pub breaks : Breaks 128 cx (Marked (get_or order (64 + flip R) []))
+pub record InSet (w : ℕ) (P : ℕ → Type 0) (n : ℕ) : Type 0 where
+  pub one : ℕ
+  pub within : one < w
+  pub member : Has n one
+  pub has : P one
 
--- an element and its child by Q have, on the way down or on the way up
-pub record LivingBreaks (rx : List ℕ) (roles : List (List Bool)) (living : List Bool) (Q : ℕ) : Type 0 where
-  pub lives : get_or living Q false ≡ true
-  pub breaks : Breaks 64 rx (Marked (get_or roles Q [])) ⊎ Breaks 64 rx (Marked (get_or roles (flip Q) []))
+-- a row of marks has both sides of an exclusion
+pub record IsBroken (n : ℕ) (table : List ℕ) (row : ℕ → Bool) : Type 0 where
+  pub breaks : Breaks n table (Marked row)
 
--- what the test of it reads: Q is in conflict with itself, or the same role in the other direction is
-pub record LivingMeets (table : List ℕ) (living : List Bool) (Q : ℕ) : Type 0 where
-  pub lives : get_or living Q false ≡ true
-  pub meets : Bit (get_or table Q 0) Q ⊎ Bit (get_or table (flip Q) 0) (flip Q)
+-- ---- concepts
 
--- the pair (a, b) has; a pair that begins with a has
-pub record PairBreaks (rx rf : List ℕ) (roles : List (List Bool)) (a b : ℕ) : Type 0 where
-  pub breaks : Breaks 64 rx (Joined rf roles a b)
+-- from has the pairs of the table, and the set has their left sides
+pub record IsApart (table : List ℕ) (from : ℕ → ℕ → Bool) (lefts : ℕ) : Type 0 where
+  pub at : (i j : ℕ) → i < concept_width → j < concept_width → IsTrue (from i j) ↔ Listed table i j
+  pub covers : (i j : ℕ) → i < concept_width → IsTrue (from i j) → Has lefts i
 
-abbrev pub FromBreaks : List ℕ → List ℕ → List (List Bool) → ℕ → Type 0
-FromBreaks rx rf roles a = Some (PairBreaks rx rf roles a) 255
+-- the set has each of the first n concepts whose row has a member
+pub record Covers (from : ℕ → ℕ → Bool) (n lefts : ℕ) : Type 0 where
+  pub at : (i j : ℕ) → i < n → IsTrue (from i j) → Has lefts i
 
--- an element and its child, or two individuals, have both sides of an exclusion of roles
-abbrev pub RolesBreak : List ℕ → List ℕ → List (List Bool) → List Bool → Type 0
-RolesBreak rx rf roles living = Some (LivingBreaks rx roles living) 64 ⊎ Some (FromBreaks rx rf roles) 255
+-- row i of the rows meets a set
+abbrev pub MeetsRow : List ConceptSet → ℕ → ℕ → Type 0
+MeetsRow rows n i = Meets (slice_index_or rows i no_concepts).0 n
 
--- by the table of the roles in conflict: a living role that is in conflict with itself; and where none is, the facts decide
-module _ (rx : List ℕ) (roles : List (List Bool)) (table : List ℕ) (c : Conflicts rx roles table) (living : List Bool) where
-  self : (Q : ℕ) → Q < 64 → Bit (get_or table Q 0) Q ↔ Breaks 64 rx (Marked (get_or roles Q []))
-  self Q h = self-conflict rx roles table Q c h
+-- the individual a breaks an exclusion, and so does an unnamed element that ends by R
+abbrev pub AtIndividual : List ℕ → (ℕ → ℕ → Bool) → ℕ → Type 0
+AtIndividual table individuals a = IsBroken concept_width table (individuals a)
 
-  pub living-break : (rf : List ℕ) → Some (LivingMeets table living) 64 → RolesBreak rx rf roles living
-  living-break rf (Q, h, w) =
-      inl (Q, h, record { lives = w.lives; breaks = ⊎_elim (λ b. inl ((self Q h).0 b)) (λ b. inr ((self (flip Q) (flip-below Q 32 h)).0 b)) w.meets })
+abbrev pub AtUnnamed : List ℕ → (ℕ → ℕ → Bool) → ℕ → Type 0
+AtUnnamed table order R = IsBroken concept_width table (order (base + flip R))
 
-  breaks-living : Some (LivingBreaks rx roles living) 64 → Some (LivingMeets table living) 64
-  breaks-living (Q, h, w) =
-      (Q, h, record { lives = w.lives; meets = ⊎_elim (λ b. inl ((self Q h).1 b)) (λ b. inr ((self (flip Q) (flip-below Q 32 h)).1 b)) w.breaks })
+-- ---- roles
 
-  pub facts-decide : {r : Bool} {rf : List ℕ} → (Some (LivingMeets table living) 64 → ⊥) → Exactly r (Some (Meets table rf) 255) → Exactly r (RolesBreak rx rf roles living)
-  facts-decide never e =
-      exactly-same e (λ w. let p = meets-break c w.0 w.1 w.2 in inr (w.0, w.1, (p.0, p.1, record { breaks = p.2 })))
-      (⊎_elim (λ w. absurd (never (breaks-living w))) (λ w. (w.0, w.1, breaks-meet c w.0 w.2.0 w.2.2.breaks)))
+-- a pair both ways; those of record k, or of all
+abbrev pub BothWays : RolePair → ℕ → ℕ → Type 0
+BothWays pair = Either (Pair pair.left.0 pair.right.0) (Pair pair.right.0 pair.left.0)
 
--- a pair that has a role has its rows
-ends : {rf : List ℕ} {roles : List (List Bool)} {a b : Individual} {S : ℕ} → FactRole rf roles a b S → (a.0 < 255) × (b.0 < 255)
-ends (ahead r m h p) = (h.first, h.second)
-ends (behind r m h p) = (h.second, h.first)
+abbrev pub SideOf : List ℕ → ℕ → ℕ → ℕ → Type 0
+SideOf table k = BothWays (read_role_pair table k)
 
--- the searches and the definition
-module _ {cx rx rf : List ℕ} {roles order concepts : List (List Bool)} {living : List Bool} where
-  pub by-named : Some (NamedBreaks cx concepts) 255 → Clashes cx rx rf roles order concepts living
-  by-named w = named w.0 w.1 w.2.breaks
+abbrev pub SidesListed : List ℕ → ℕ → ℕ → Type 0
+SidesListed table = OneOf (SideOf table) (length table / rule_width)
 
-  pub by-unnamed : Some (UnnamedBreaks cx order living) 64 → Clashes cx rx rf roles order concepts living
-  by-unnamed w = unnamed w.0 w.1 w.2.lives w.2.breaks
+-- r has what the rows of the members of n have
+pub record Joins (rows : ℕ → ℕ → Bool) (n r : ℕ) : Type 0 where
+  pub member : (j : ℕ) → Has r j ↔ ((i : ℕ) × (i < role_width) × Has n i × IsTrue (rows i j))
 
-  by-living : Some (LivingBreaks rx roles living) 64 → Clashes cx rx rf roles order concepts living
-  by-living (Q, h, w) = side w.breaks
-    where
-      side : Breaks 64 rx (Marked (get_or roles Q [])) ⊎ Breaks 64 rx (Marked (get_or roles (flip Q) [])) → Clashes cx rx rf roles order concepts living
-      side (inl b) = down Q h w.lives b
-      side (inr b) = up Q h w.lives b
+-- for each role what the rows of those above it have
+pub record Raises (rows roles r : ℕ → ℕ → Bool) : Type 0 where
+  pub at : (p j : ℕ) → p < role_width → j < role_width
+      → IsTrue (r p j) ↔ ((i : ℕ) × (i < role_width) × IsTrue (roles p i) × IsTrue (rows i j))
 
-  by-facts : Some (FromBreaks rx rf roles) 255 → Clashes cx rx rf roles order concepts living
-  by-facts w = joined (individual w.0) (individual w.2.0) w.2.2.breaks
+-- j is excluded from a role that follows from r
+pub record IsBarred (table : List ℕ) (roles : ℕ → ℕ → Bool) (r j : ℕ) : Type 0 where
+  pub by : ℕ
+  pub row : by < role_width
+  pub above : IsTrue (roles r by)
+  pub sides : Listed table by j ⊎ Listed table j by
 
-  by-roles : RolesBreak rx rf roles living → Clashes cx rx rf roles order concepts living
-  by-roles (inl w) = by-living w
-  by-roles (inr w) = by-facts w
+-- the roles barred for each role
+pub record Bars (table : List ℕ) (roles barred : ℕ → ℕ → Bool) : Type 0 where
+  pub at : (r j : ℕ) → r < role_width → j < role_width
+      → IsTrue (barred r j) ↔ IsBarred table roles r j
 
-  -- where two find nothing, the last decides
-  pub last-decides : {r : Bool} → (Some (NamedBreaks cx concepts) 255 → ⊥) → (Some (UnnamedBreaks cx order living) 64 → ⊥) → Exactly r (RolesBreak rx rf roles living)
-      → Exactly r (Clashes cx rx rf roles order concepts living)
-  last-decides no-named no_unnamed e = exactly-same e by-roles out
-    where
-      out : Clashes cx rx rf roles order concepts living → RolesBreak rx rf roles living
-      out (named a h b) = absurd (no-named (a, h, record { breaks = b }))
-      out (unnamed R h l b) = absurd (no_unnamed (R, h, record { lives = l; breaks = b }))
-      out (joined a b x) = let h = ends x.2.left in inr (a.0, h.0, (b.0, h.1, record { breaks = x }))
-      out (down Q h l b) = inl (Q, h, record { lives = l; breaks = inl b })
-      out (up Q h l b) = inl (Q, h, record { lives = l; breaks = inr b })
+-- some role is marked in both rows
+pub record IsMet (x y : ℕ → Bool) : Type 0 where
+  pub role : ℕ
+  pub within : role < role_width
+  pub left : IsTrue (x role)
+  pub right : IsTrue (y role)
+
+-- an element and its child by Q break an exclusion, on the way down or up
+abbrev pub AtLink : List ℕ → (ℕ → ℕ → Bool) → ℕ → Type 0
+AtLink table roles Q =
+    IsBroken role_width table (roles Q) ⊎ IsBroken role_width table (roles (flip Q))
+
+-- what the hop gives its pair: the roles that follow from its own
+pub record ByHop (roles : ℕ → ℕ → Bool) (hop : Hop) (b S : ℕ) : Type 0 where
+  pub same : b ≡ hop.to.0
+  pub follows : IsTrue (roles hop.role.0 S)
+
+-- some pair of individuals that begins with a breaks an exclusion
+pub record FromIndividual (table facts : List ℕ) (roles : ℕ → ℕ → Bool) (a : ℕ) : Type 0 where
+  pub to : ℕ
+  pub breaks : Breaks role_width table (FactRole facts roles a to)
+
+-- an element and its child by a living role break one, or a pair of individuals does
+abbrev pub RolesClash : List ℕ → List ℕ → (ℕ → ℕ → Bool) → ℕ → Type 0
+RolesClash table facts roles living =
+    InSet role_width (AtLink table roles) living
+    ⊎ Below most_individuals (FromIndividual table facts roles)

@@ -1,12 +1,11 @@
 -- Lines put one after the other into a text in memory.
-use Rattle.std.proofs.Common.{ℕ, ◌≡◌, ◌+◌, ◌*◌, ◌≤◌, List, ◌++◌, length, take, drop, sym, ap, ◌∙◌, subst, append_assoc, length-append, arith}
+use Rattle.std.proofs.Common.{ℕ, ◌≡◌, ◌+◌, ◌≤◌, List, ◌++◌, length, take, drop, sym, ap, ◌∙◌, subst, append_assoc, length-append, arith}
 use Rattle.std.proofs.lemmas.List.{take_at, drop_at, drop-drop, length-take-le}
 use borrow.Rule.Slice.PartMut.{put_mid, post_of}
 use Rattle.reading.specs.declared.File.{File}
-use Rattle.index.specs.declared.Prepared.{Prepared}
 use Rattle.file.specs.declared.text.TheConstants.{ANSWER_LINE}
-use Rattle.file.specs.Replying.{ReplyLine, Replied}
-use Rattle.file.proofs.Turns.{replied_more}
+use Rattle.file.specs.Writes.{Answers, Answered}
+use Rattle.file.proofs.Turns.{answer-length, answered_more}
 
 module _ (old line new : List ℕ) (at k : ℕ) (fits : at + length line ≤ length old) (long : k ≡ length line) (is : new ≡ put_mid at k old line) where
   abbrev front : List ℕ
@@ -27,17 +26,17 @@ module _ (old line new : List ℕ) (at k : ℕ) (fits : at + length line ≤ len
   kept_after =
       ap (drop (at + length line)) whole ∙ drop_at front (post_of at k old) _ len ∙ drop-drop k at old ∙ ap (λ n. drop (at + n) old) long
 
-module _ (file : File) (p : Prepared) (k at : ℕ) (start old new line : List ℕ) (here : at ≡ ANSWER_LINE * k) (long : length line ≡ ANSWER_LINE) where
-  next : at + length line ≡ ANSWER_LINE * (k + 1)
-  next = omega arith
-
-  pub copied_more : Replied file p k (take at old) → ReplyLine file p k line → take (at + length line) new ≡ take at old ++ line
-      → Replied file p (k + 1) (take (ANSWER_LINE * (k + 1)) new)
-  copied_more r w e =
-      subst (λ (out : List ℕ). Replied file p (k + 1) out) (sym (ap (λ n. take n new) (sym next) ∙ e)) (replied_more file p k (take at old) line r w)
+-- the line for one more ask stands after those before it
+module _ (file : File) (k at : ℕ) (start old new line : List ℕ) (w : Answers file k line) where
+  pub copied_more : Answered file k (take at old) → take (at + length line) new ≡ take at old ++ line
+      → Answered file (k + 1) (take (at + ANSWER_LINE) new)
+  copied_more r e =
+      let long : at + ANSWER_LINE ≡ at + length line = omega (arith, answer-length w) in
+      subst (λ (out : List ℕ). Answered file (k + 1) out) (sym (ap (λ n. take n new) long ∙ e)) (answered_more file k (take at old) line r w)
 
   pub kept_more : drop at old ≡ drop at start → drop (at + length line) new ≡ drop (at + length line) old
-      → drop (ANSWER_LINE * (k + 1)) new ≡ drop (ANSWER_LINE * (k + 1)) start
+      → drop (at + ANSWER_LINE) new ≡ drop (at + ANSWER_LINE) start
   kept_more r e =
-      ap (λ n. drop n new) (sym next) ∙ e ∙ sym (drop-drop (length line) at old) ∙ ap (drop (length line)) r ∙ drop-drop (length line) at start
-      ∙ ap (λ n. drop n start) next
+      let long : at + ANSWER_LINE ≡ at + length line = omega (arith, answer-length w) in
+      ap (λ n. drop n new) long ∙ e ∙ sym (drop-drop (length line) at old) ∙ ap (drop (length line)) r ∙ drop-drop (length line) at start
+      ∙ ap (λ n. drop n start) (sym long)

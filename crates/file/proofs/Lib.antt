@@ -6,6 +6,7 @@ pub mod NeverFails
 pub mod Spelling
 pub mod Asks
 pub mod Turns
+pub mod Each
 pub mod Copying
 pub mod Answering
 pub mod Served

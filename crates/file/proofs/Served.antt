@@ -6,36 +6,36 @@ use Rattle.streams.specs.Lines.{lines}
 use Rattle.streams.specs.Takes.{TakesStart}
 use Rattle.reading.specs.declared.File.{File}
 use Rattle.reading.specs.declared.Fault.{Fault}
-use Rattle.reading.specs.Reading.{none, Verdict, faulty, sound, frames_of, Reading}
+use Rattle.reading.specs.Reading.{Verdict, faulty, sound, frames_of, Reading}
 use Rattle.reading.specs.File.{file_of}
-use Rattle.reading.specs.Reads.{Reads, told_of}
-use Rattle.file.specs.Writes.{Writes, fault, answers}
+use Rattle.reading.specs.Reads.{ReadsFile, told_of}
+use Rattle.file.specs.Writes.{Answered, Writes, fault, answers}
 use Rattle.file.specs.Serves.{Serves, Starts}
-use Rattle.file.specs.Replying.{Tells}
-use Rattle.reading.proofs.Accepted.{reading-taken}
+use Rattle.file.specs.Replying.{ask_count, Tells}
+use Rattle.file.proofs.Asks.{ask_entries}
 
 told : (input : List ℕ) (file : File) (P : List ℕ → Type 0) (v : Verdict) → Reading [] (lines input) v → file ≡ file_of (frames_of v)
     → Tells file (told_of v) P → (text : List ℕ) × Writes input text × P text
 told input file P (sound fs) r e t =
-    let w = t.by fs (reading-taken r none) e in
-    (w.0, answers fs w.0 r w.1, w.2)
+    let own : Answered (file_of fs) (ask_count (file_of fs)) t.text = subst (λ (f : File). Answered f (ask_count f) t.text) e t.answered in
+    (t.text, answers fs t.text r (subst (λ (n : ℕ). Answered (file_of fs) n t.text) (ask_entries fs) own), t.so)
 told input file P (faulty before n) r e q = (_, fault before n r, q)
 
 module _ (file : File) (found : Result (Unit {0}) Fault) where
   -- THEOREM: what is told of a file that was read is the text of the input
-  pub tells-writes : (input : List ℕ) (P : List ℕ → Type 0) → Reads (lines input) found file → Tells file found P
+  pub tells-writes : (input : List ℕ) (P : List ℕ → Type 0) → ReadsFile (lines input) found file → Tells file found P
       → (text : List ℕ) × Writes input text × P text
   tells-writes input P r t = told input file P r.verdict r.reading r.kept (subst (λ f. Tells file f P) r.told t)
 
-  pub wrote : (input text : List ℕ) → Reads (lines input) found file → Tells file found (λ out. text ≡ out) → Writes input text
+  pub wrote : (input text : List ℕ) → ReadsFile (lines input) found file → Tells file found (λ out. text ≡ out) → Writes input text
   wrote input text r t = let w = tells-writes _ _ r t in subst (Writes input) (sym w.2) w.1
 
-  pub served : (known old new : Option (List ℕ)) → IfSome known (λ input. Reads (lines input) found file) → Tells file found (Appends old new)
+  pub served : (known old new : Option (List ℕ)) → IfSome known (λ input. ReadsFile (lines input) found file) → Tells file found (Appends old new)
       → IfSome known (λ input. Serves input old new)
   served None old new r t = tt
   served (Some input) old new r t = let w = tells-writes _ _ r t in record { text = w.0; writes = w.1; put = w.2 }
 
-  pub started : (known old new : Option (List ℕ)) → IfSome known (λ input. Reads (lines input) found file) → Tells file found (TakesStart old new)
+  pub started : (known old new : Option (List ℕ)) → IfSome known (λ input. ReadsFile (lines input) found file) → Tells file found (TakesStart old new)
       → IfSome known (λ input. Starts input old new)
   started None old new r t = tt
   started (Some input) old new r t = let w = tells-writes _ _ r t in record { text = w.0; writes = w.1; takes = w.2 }

@@ -4,7 +4,8 @@ use Rattle.std.proofs.Math.ListN.{set, length-set}
 use Rattle.std.proofs.lemmas.List.{take_all, take_more, take_more_set, flat_map_more}
 use Rattle.std.specs.List.{flat_map}
 use Rattle.streams.specs.Lines.{newline}
-use Rattle.file.specs.Text.{base, character, characters, text}
+use Rattle.frames.specs.Digits.{base}
+use Rattle.file.specs.Text.{character, characters, text}
 
 take_two : (s : List ℕ) (i x y : ℕ) → i + 1 < length s → take (i + 1 + 1) (set (set s i x) (i + 1) y) ≡ take i s ++ (x ∷ y ∷ [])
 take_two s i x y h =

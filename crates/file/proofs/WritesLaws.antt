@@ -1,13 +1,15 @@
 -- An input writes one text; its first 467,155 bytes decide it; no text is longer than its room; two outcomes of a call are one.
-use Rattle.std.specs.Prelude.{ℕ, zero, suc, ◌+◌, ◌*◌, ◌≤◌, ◌≡◌, refl, List, [], ◌++◌, Some, length, take, drop}
+use Rattle.std.specs.Prelude.{ℕ, zero, suc, ◌+◌, ◌≤◌, ◌≡◌, refl, List, [], ◌++◌, Some, length, take, drop}
 use Rattle.std.proofs.Math.Path.{ap₂}
-use Rattle.std.proofs.Common.{sym, ap, ◌∙◌, subst, take-append-drop, length-take, length-append, arith}
+use Rattle.std.proofs.Common.{sym, ap, ◌∙◌, subst, take-append-drop, length-take, arith}
 use Rattle.meaning.proofs.OutcomeLaws.{outcome-unique}
 use Rattle.frames.specs.declared.Frame.{Frame}
 use Rattle.streams.specs.Lines.{lines}
 use Rattle.reading.specs.declared.Refusal.{Refusal}
 use Rattle.reading.specs.Refusal.{refusal_number}
-use Rattle.reading.specs.Tables.{asks, entries, asked, first_asked, second_asked}
+use Rattle.reading.specs.Tables.{asks, entries}
+use Rattle.reading.specs.declared.File.{File}
+use Rattle.reading.specs.File.{file_of, ask_at, asked}
 use Rattle.reading.specs.Reading.{Verdict, faulty, sound, Reading}
 use Rattle.reading.specs.Reading as read
 use Rattle.reading.proofs.Once.{reading-once}
@@ -15,18 +17,18 @@ use Rattle.reading.proofs.Bounds.{few, most_lines, within-lines}
 use Rattle.reading.proofs.Accepted.{reading-taken}
 use Rattle.reading.proofs.Prefix.{most_bytes, reading-start, reading-whole}
 use Rattle.file.specs.declared.TheConstants.{MOST_TEXT}
-use Rattle.file.specs.declared.text.TheConstants.{ANSWER_LINE}
 use Rattle.file.specs.Text.{text, fault_line, answer_line}
 use Rattle.file.specs.Writes.{Answers, Answered, Writes, fault, answers}
 use Rattle.file.specs.Serves.{Serves}
+use Rattle.file.proofs.Turns.{answered-length}
 
-module _ (fs : List Frame) where
-  answers-once : (k : ℕ) (x y : List ℕ) → Answers fs k x → Answers fs k y → x ≡ y
+module _ (file : File) where
+  answers-once : (k : ℕ) (x y : List ℕ) → Answers file k x → Answers file k y → x ≡ y
   answers-once k x y a b =
-      let e = (outcome-unique (asked fs k) a.outcome b.outcome).0 in
-      a.written ∙ ap (answer_line (first_asked fs k) (second_asked fs k)) e ∙ sym b.written
+      let e = (outcome-unique (asked file k) a.outcome b.outcome).0 in
+      a.written ∙ ap (answer_line (ask_at file k)) e ∙ sym b.written
 
-  answered-once : (k : ℕ) (x y : List ℕ) → Answered fs k x → Answered fs k y → x ≡ y
+  answered-once : (k : ℕ) (x y : List ℕ) → Answered file k x → Answered file k y → x ≡ y
   unfolding Answered
   answered-once zero x y a b = a ∙ sym b
   answered-once (suc k) x y (p, q, a, b, e) (u, v, c, d, i) =
@@ -35,11 +37,11 @@ module _ (fs : List Frame) where
 -- what the text of a verdict is
 abbrev TextIs : Verdict → List ℕ → Type 0
 TextIs (faulty before r) x = x ≡ fault_line (length before + 1) (refusal_number r)
-TextIs (sound fs) x = Answered fs (entries asks fs) x
+TextIs (sound fs) x = Answered (file_of fs) (entries asks fs) x
 
 text-once : (v : Verdict) (x y : List ℕ) → TextIs v x → TextIs v y → x ≡ y
 text-once (faulty before r) x y a b = a ∙ sym b
-text-once (sound fs) x y a b = answered-once fs (entries asks fs) x y a b
+text-once (sound fs) x y a b = answered-once (file_of fs) (entries asks fs) x y a b
 
 record Found (input : List ℕ) (x : List ℕ) : Type 0 where
   verdict : Verdict
@@ -81,23 +83,11 @@ module _ (input : List ℕ) (n : ℕ) (h : most_bytes ≤ n) where
   writes_start (fault f r k) = fault f r (reading-start input n h (faulty f r) k)
   writes_start (answers f x k a) = answers f x (reading-start input n h (sound f) k) a
 
-answer-length : {fs : List Frame} {k : ℕ} {line : List ℕ} → Answers fs k line → length line ≡ ANSWER_LINE
-unfolding answer_line text
-answer-length w = rw w.written refl
-
-answered-length : (fs : List Frame) (k : ℕ) (out : List ℕ) → Answered fs k out → length out ≡ ANSWER_LINE * k
-unfolding Answered
-answered-length fs zero out e = rw e refl
-answered-length fs (suc k) out (x, y, a, b, e) =
-    let l = answered-length fs k x a in
-    let m = answer-length b in
-    rw e (omega (arith, length-append x y))
-
 -- THEOREM: no text is longer than its room
 pub writes-length : {input out : List ℕ} → Writes input out → length out ≤ MOST_TEXT
 unfolding fault_line text
 writes-length (fault before n k) = omega arith
-writes-length {input} (answers fs out k a) = omega (arith, answered-length fs (entries asks fs) out a, few asks fs (reading-taken k read.none))
+writes-length {input} (answers fs out k a) = omega (arith, answered-length (file_of fs) (entries asks fs) out a, few asks fs (reading-taken k read.none))
 
 -- THEOREM: the first faulty line of any input has a number of at most 7,187
 pub fault-line : (input : List ℕ) (before : List Frame) (r : Refusal) → Reading [] (lines input) (faulty before r) → length before + 1 ≤ most_lines + 1

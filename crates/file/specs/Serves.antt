@@ -1,4 +1,5 @@
--- What the desk does between a source and a sink, of which it may be known what bytes are left and what bytes are held.
+-- What the desk does between a source and a sink, of which it may be known what bytes are left and
+-- what bytes are held.
 use Rattle.std.specs.Prelude.{ℕ, List, Option, ⊤, codes}
 use Rattle.std.specs.Io.KnownBytes.{Appends}
 use Rattle.std.specs.declared.io.Error.{Error}

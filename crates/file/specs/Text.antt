@@ -1,14 +1,12 @@
 -- What is written: bytes as two characters each, capital letters, each line ended by 0A.
-use Rattle.std.specs.Prelude.{ℕ, ◌+◌, ◌/◌, ◌%◌, ◌^◌, List, [], ◌∷◌, ◌++◌, nat_lt, if◌then◌else◌}
+use Rattle.std.specs.Prelude.{ℕ, ◌+◌, ◌/◌, ◌%◌, ◌^◌, ◌<◌, List, [], ◌∷◌, ◌++◌, nat_lt, if◌then◌else◌}
 use Rattle.std.specs.List.{flat_map}
-use Rattle.kinds.specs.declared.Individual.{Individual}
 use Rattle.kinds.specs.declared.Answer.{Answer}
-use Rattle.kinds.specs.Answer.{answerNumber, answerCount}
+use Rattle.kinds.specs.Answer.{answer_number, answer_count}
+use Rattle.tables.specs.declared.ask.Ask.{Ask}
+use Rattle.tables.specs.declared.ask.Ask.TheVariants.{Pair}
 use Rattle.streams.specs.Lines.{newline}
-
--- a digit is below it
-abbrev pub base : ℕ
-base = 2 ^ 4
+use Rattle.frames.specs.Digits.{base}
 
 -- the character of a digit: 0–9, then A–F
 abbrev pub character : ℕ → ℕ
@@ -31,5 +29,10 @@ unfoldable pub fault_line : ℕ → ℕ → List ℕ
 fault_line line number = text (0x8F ∷ two_bytes line ++ number ∷ [])
 
 -- 8B, first, second, answer, count (two bytes)
-unfoldable pub answer_line : Individual → Individual → Answer → List ℕ
-answer_line first second answer = text (0x8B ∷ first.0 ∷ second.0 ∷ answerNumber answer ∷ two_bytes (answerCount answer))
+unfoldable pub answer_line : Ask → Answer → List ℕ
+answer_line (Pair a b) r =
+    text (0x8B ∷ a.0 ∷ b.0 ∷ answer_number r ∷ two_bytes (answer_count r))
+
+-- an ask's individuals go into a byte each
+abbrev pub IsInBytes : Ask → Type 0
+IsInBytes (Pair a b) = (a.0 < 2 ^ 8) × (b.0 < 2 ^ 8)

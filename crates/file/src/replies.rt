@@ -1,52 +1,39 @@
 // What reading a file found, written: the line of its fault, or its asks answered from one preparation.
-ghost use Rattle.std.specs.Prelude.{◌≡◌, ◌++◌, ◌+◌, ◌*◌, ◌/◌, ◌^◌, ◌<◌, ◌≤◌, OnOk, OnErr, IfErr, length, drop, take};
+ghost use Rattle.std.specs.Prelude.{◌≡◌, ◌++◌, ◌+◌, ◌^◌, ◌<◌, ◌≤◌, OnOk, OnErr, IfErr, length, drop, take};
 ghost use Rattle.std.specs.Io.KnownBytes.{Appends};
-ghost use Rattle.meaning.specs.Layout.{zeros};
 ghost use Rattle.reading.specs.Refusal.{refusal_number};
 ghost use Rattle.reading.specs.Reads.{IsRead};
 ghost use Rattle.streams.specs.Takes.{TakesStart};
 ghost use Rattle.file.specs.Text.{fault_line};
-ghost use Rattle.file.specs.Replying.{ask_count, ReplyLine, Replied, RepliesAll, RepliesStart, AnswersAll, Tells};
+ghost use Rattle.file.specs.Replying.{AnswersEach, AnswersAll, Tells};
 
 use crate::text::{ANSWER_LINE, FAULT_LINE};
 use crate::{MOST_TEXT, text};
-use index::{Prepared, prepare, reply};
-use kinds::Individual;
+use index::{Lent, Routes};
+use kinds::Answer;
 use reading::{ASKS, Fault, File};
 use std::io;
 use streams::Sink;
 use streams::output::{Output, write_all};
-use tables::AREA;
+use tables::collection::AREA;
 
-// Each ask is two individuals.
-#[tactic(auto, using(crate::proofs::Asks::few_asks))]
-fn ask_count(file: &File) -> usize
-    requires { IsRead file.now }
-    ensures count { result ≡ ask_count file.now }
-    ensures few { result ≤ ASKS }
-{
-    file.asks().len() / 2
-}
-
-// The line for an ask, replied to from the file's preparation.
-fn reply_line(file: &File, prepared: &Prepared, k: usize) -> [u8; ANSWER_LINE]
-    requires read { IsRead file.now }
-    requires asked { k < ask_count file.now }
-    ensures { ReplyLine file.now prepared.now k result }
+// The answers to a file's asks, in their order. Where there is none nothing is worked out.
+fn work_out(file: &File, answers: &mut [Answer; ASKS])
+    ensures { AnswersEach file.now answers.new }
 {
     let asks = file.asks();
-    let first = Individual(asks[2 * k]);
-    let second = Individual(asks[2 * k + 1]);
-    let tables = file.tables();
-    let answer = reply(
-        prepared,
-        file.counts(),
-        tables.role_facts,
-        tables.finals,
-        first,
-        second,
-    );
-    text::answer(first, second, answer)
+    if asks.is_empty() {
+        return;
+    }
+    let lent = Lent {
+        collection: file.collection(),
+        allowance: file.allowance(),
+    };
+    let mut area = [0; AREA];
+    let mut spare = [0; AREA];
+    let mut routes = Routes::new();
+    let prepared = lent.prepare(&mut area, &mut spare, &mut routes);
+    prepared.reply_all(&asks, answers);
 }
 
 // A line put into a text; all but its place stays.
@@ -58,45 +45,7 @@ fn place(text: &mut [u8; MOST_TEXT], at: usize, line: &[u8])
     text[at..at + line.len()].copy_from_slice(line);
 }
 
-// Every ask replied to, in order, to a sink.
-#[tactic(auto, using(crate::proofs::Turns::pending_none))]
-fn write_replies<K: Sink>(file: &File, prepared: &Prepared, sink: &mut K) -> io::Result<()>
-    requires { IsRead file.now }
-    ensures ok { OnOk result (RepliesAll file.now prepared.now
-        (Appends (K.contents sink.old) (K.contents sink.new))) }
-    ensures err { OnErr result
-        (RepliesStart file.now prepared.now (K.contents sink.old) (K.contents sink.new)) }
-    ensures fails { IfErr result K.fails }
-{
-    let mut output = Output::new();
-    for k in 0..ask_count(file) {
-        output.put(sink, &reply_line(file, prepared, k))?;
-    }
-    output.finish(sink)
-}
-
-// The same, into memory.
-fn copy_replies(file: &File, prepared: &Prepared, text: &mut [u8; MOST_TEXT]) -> usize
-    requires { IsRead file.now }
-    ensures within { result ≤ MOST_TEXT }
-    ensures written { Replied file.now prepared.now (ask_count file.now) (take result text.new) }
-    ensures rest { drop result text.new ≡ drop result text.old }
-{
-    let count = ask_count(file);
-    for k in 0..count {
-        place(text, ANSWER_LINE * k, &reply_line(file, prepared, k));
-    }
-    ANSWER_LINE * count
-}
-
-// A working area.
-fn area() -> [u8; AREA]
-    ensures { result ≡ zeros }
-{
-    [0; AREA]
-}
-
-// Every ask of a file answered, to a sink. Where there is none nothing is worked out.
+// Every ask of a file answered, in order, to a sink.
 fn write_answers<K: Sink>(file: &File, sink: &mut K) -> io::Result<()>
     requires { IsRead file.now }
     ensures ok { OnOk result (AnswersAll file.now
@@ -105,20 +54,13 @@ fn write_answers<K: Sink>(file: &File, sink: &mut K) -> io::Result<()>
         (TakesStart (K.contents sink.old) (K.contents sink.new))) }
     ensures fails { IfErr result K.fails }
 {
-    if file.asks().is_empty() {
-        return Ok(());
+    let mut answers = [Answer::BadAsk; ASKS];
+    work_out(file, &mut answers);
+    let mut output = Output::new();
+    for (ask, answer) in file.asks().iter().zip(answers.iter()) {
+        output.put(sink, &text::answer(ask, *answer))?;
     }
-    let mut first = area();
-    let mut second = area();
-    let tables = file.tables();
-    let prepared = prepare(
-        file.counts(),
-        &tables,
-        file.allowance(),
-        &mut first,
-        &mut second,
-    );
-    write_replies(file, &prepared, sink)
+    output.finish(sink)
 }
 
 // The same, into memory.
@@ -128,20 +70,14 @@ fn copy_answers(file: &File, text: &mut [u8; MOST_TEXT]) -> usize
     ensures written { AnswersAll file.now (λ out. take result text.new ≡ out) }
     ensures rest { drop result text.new ≡ drop result text.old }
 {
-    if file.asks().is_empty() {
-        return 0;
+    let mut answers = [Answer::BadAsk; ASKS];
+    work_out(file, &mut answers);
+    let mut at = 0;
+    for (ask, answer) in file.asks().iter().zip(answers.iter()) {
+        place(text, at, &text::answer(ask, *answer));
+        at += ANSWER_LINE;
     }
-    let mut first = area();
-    let mut second = area();
-    let tables = file.tables();
-    let prepared = prepare(
-        file.counts(),
-        &tables,
-        file.allowance(),
-        &mut first,
-        &mut second,
-    );
-    copy_replies(file, &prepared, text)
+    at
 }
 
 // The line of a fault, into memory.

@@ -1,10 +1,13 @@
 // The lines that are written, in characters: two for each byte, capital letters, and the end of the line.
 ghost use Rattle.std.specs.Prelude.{◌≡◌, ◌+◌, ◌*◌, ◌/◌, ◌%◌, ◌^◌, ◌<◌, [], ◌∷◌, length};
 ghost use Rattle.reading.specs.Refusal.{refusal_number};
-ghost use Rattle.file.specs.Text.{base, character, text, fault_line, answer_line};
+ghost use Rattle.frames.specs.Digits.{base};
+ghost use Rattle.file.specs.Text.{character, text, fault_line, answer_line, IsInBytes};
 
-use kinds::{Answer, Individual};
+use frames::BASE;
+use kinds::Answer;
 use reading::Fault;
+use tables::Ask;
 
 // The kinds of line.
 const ANSWER: u8 = 0x8B;
@@ -15,9 +18,6 @@ const FAULT: u8 = 0x8F;
 pub(crate) const ANSWER_LINE: usize = 2 * 6 + 1;
 
 pub(crate) const FAULT_LINE: usize = 2 * 4 + 1;
-
-// A digit is below it.
-const BASE: u8 = 16;
 
 // The character of a digit.
 fn character(digit: u8) -> u8
@@ -65,11 +65,11 @@ pub(crate) fn fault(fault: Fault) -> [u8; FAULT_LINE]
 
 // The line of an answer.
 #[tactic(auto, unfolding(crate::specs::Text::answer_line))]
-pub(crate) fn answer(first: Individual, second: Individual, answer: Answer) -> [u8; ANSWER_LINE]
-    requires first_in { first.0 < 2 ^ 8 }
-    requires second_in { second.0 < 2 ^ 8 }
-    ensures { result ≡ answer_line first second answer }
+pub(crate) fn answer(ask: Ask, answer: Answer) -> [u8; ANSWER_LINE]
+    requires { IsInBytes ask }
+    ensures { result ≡ answer_line ask answer }
 {
+    let Ask::Pair(first, second) = ask;
     let [high, low] = two_bytes(answer.count());
     let mut line = [0; ANSWER_LINE];
     let bytes = [

@@ -1,7 +1,7 @@
 -- The frame of a line: for every line one, or the refusals 9 and 10.
-use Rattle.std.specs.Prelude.{ℕ, ◌+◌, ◌*◌, ◌≡◌, List, [], ◌∷◌, Result, Ok, Err, unwrap_or, slice_get}
+use Rattle.std.specs.Prelude.{ℕ, ◌+◌, ◌*◌, ◌^◌, ◌≡◌, List, [], ◌∷◌, Result, Ok, Err, unwrap_or, slice_get}
 use Rattle.kinds.specs.declared.Counts.{Counts}
-use Rattle.kinds.specs.Kinds.{conceptName, roleName, individual, state, signed, conceptOf}
+use Rattle.kinds.specs.Kinds.{concept_name, role_name, individual, state, signed, concept_of}
 use Rattle.laws.specs.First.{First}
 use Rattle.frames.specs.Digits.{bytes, byte_of, LineOk}
 use Rattle.frames.specs.declared.Frame.{Frame}
@@ -9,7 +9,8 @@ use Rattle.frames.specs.declared.Frame.TheVariants.{Declared, ConceptRule, Conce
 use Rattle.frames.specs.declared.Misread.{Misread}
 use Rattle.frames.specs.declared.Misread.TheVariants.{BadLine, BadFrame}
 
--- the bytes of a frame of each kind, from 00 on, the kind's own among them; 0 where there is no such kind
+-- the bytes of a frame of each kind, from 00 on, the kind's own among them; 0 where there is no
+-- such kind
 abbrev lengths : List ℕ
 lengths = 0 ∷ 6 ∷ 3 ∷ 3 ∷ 3 ∷ 3 ∷ 3 ∷ 4 ∷ 4 ∷ 4 ∷ 2 ∷ 3 ∷ 3 ∷ []
 
@@ -18,24 +19,30 @@ frame_length kind = unwrap_or (slice_get lengths kind) 0
 
 module _ (byte : ℕ → ℕ) where
   abbrev counts : Counts
-  counts = record { names = byte 1; roles = byte 2; individuals = byte 3; states = byte 4; start = state (byte 5) }
+  counts = record {
+    names = byte 1;
+    roles = byte 2;
+    individuals = byte 3;
+    states = byte 4;
+    start = state (byte 5);
+  }
 
   -- the frame of each kind, from 00 on, by its bytes
   abbrev frames : List (Result Frame Misread)
   frames =
       Err BadFrame
       ∷ Ok (Declared counts)
-      ∷ Ok (ConceptRule (conceptOf (byte 1)) (conceptOf (byte 2)))
-      ∷ Ok (ConceptExclusion (conceptOf (byte 1)) (conceptOf (byte 2)))
+      ∷ Ok (ConceptRule (concept_of (byte 1)) (concept_of (byte 2)))
+      ∷ Ok (ConceptExclusion (concept_of (byte 1)) (concept_of (byte 2)))
       ∷ Ok (RoleRule (signed (byte 1)) (signed (byte 2)))
       ∷ Ok (RoleExclusion (signed (byte 1)) (signed (byte 2)))
-      ∷ Ok (ConceptFact (conceptName (byte 1)) (individual (byte 2)))
-      ∷ Ok (RoleFact (roleName (byte 1)) (individual (byte 2)) (individual (byte 3)))
+      ∷ Ok (ConceptFact (concept_name (byte 1)) (individual (byte 2)))
+      ∷ Ok (RoleFact (role_name (byte 1)) (individual (byte 2)) (individual (byte 3)))
       ∷ Ok (RoleStep (state (byte 1)) (signed (byte 2)) (state (byte 3)))
-      ∷ Ok (TestStep (state (byte 1)) (conceptName (byte 2)) (state (byte 3)))
+      ∷ Ok (TestStep (state (byte 1)) (concept_name (byte 2)) (state (byte 3)))
       ∷ Ok (Final (state (byte 1)))
       ∷ Ok (Ask (individual (byte 1)) (individual (byte 2)))
-      ∷ Ok (Allowance (256 * byte 1 + byte 2))
+      ∷ Ok (Allowance (2 ^ 8 * byte 1 + byte 2))
       ∷ []
 
 -- the frame of a kind and its bytes
@@ -50,9 +57,9 @@ module _ (l : List ℕ) where
   abbrev pub Shaped : Type 0
   Shaped = bytes l ≡ frame_length kind
 
-  abbrev pub Reads : Result Frame Misread → Type 0
-  Reads r = r ≡ frame_by kind (byte_of l)
+  abbrev pub ReadsFrame : Result Frame Misread → Type 0
+  ReadsFrame r = r ≡ frame_by kind (byte_of l)
 
   -- 9, then 10, then the frame
   abbrev pub FrameOf : Result Frame Misread → Type 0
-  FrameOf = First (LineOk l) (Err BadLine) (First Shaped (Err BadFrame) Reads)
+  FrameOf = First (LineOk l) (Err BadLine) (First Shaped (Err BadFrame) ReadsFrame)

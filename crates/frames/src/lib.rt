@@ -2,7 +2,7 @@
 #![tactic(auto)]
 
 ghost use Rattle.std.specs.Prelude.{ℕ, ◌+◌, ◌*◌, ◌<◌, ◌↔◌, ◌≡◌, IsTrue};
-ghost use Rattle.kinds.specs.Kinds.{conceptName, roleName, individual, state, signed, conceptOf};
+ghost use Rattle.kinds.specs.Kinds.{concept_name, role_name, individual, state, signed, concept_of};
 ghost use Rattle.frames.specs.Digits.{digit_of, byte_of, LineOk, line_length};
 ghost use Rattle.frames.specs.Frames.{frame_length, frame_by, FrameOf};
 ghost use Rattle.frames.specs.Reader.{Advanced};
@@ -33,6 +33,12 @@ pub enum Misread {
     BadLine,
     BadFrame,
 }
+
+// A digit is below it.
+pub const BASE: u8 = 16;
+
+// A byte is below it.
+const BYTE: u16 = 256;
 
 // What each character is worth as a digit; 255 is no digit.
 const DIGITS: [u8; 256] = [
@@ -66,7 +72,7 @@ fn line_ok(line: &[u8]) -> bool
     ensures { IsTrue result ↔ LineOk line.now }
 {
     let n = line.len();
-    0 < n && n <= LINE && n % 2 == 0 && line.iter().all(|c| digit(*c) < 16)
+    0 < n && n <= LINE && n % 2 == 0 && line.iter().all(|c| digit(*c) < BASE)
 }
 
 // Byte k of a line, and 0 past its end.
@@ -76,7 +82,7 @@ fn byte_at(line: &[u8], k: usize) -> u16
 {
     if k < line.len() / 2 {
         let at = 2 * k;
-        16 * u16::from(digit(line[at])) + u16::from(digit(line[at + 1]))
+        u16::from(BASE) * u16::from(digit(line[at])) + u16::from(digit(line[at + 1]))
     } else {
         0
     }
@@ -128,7 +134,7 @@ trait Field {
 }
 
 impl Field for Concept {
-    ghost of = { conceptOf };
+    ghost of = { concept_of };
 
     fn of(byte: u16) -> Concept {
         Concept::read(byte)
@@ -136,7 +142,7 @@ impl Field for Concept {
 }
 
 impl Field for ConceptName {
-    ghost of = { conceptName };
+    ghost of = { concept_name };
 
     fn of(byte: u16) -> ConceptName {
         ConceptName(byte)
@@ -152,7 +158,7 @@ impl Field for SignedRole {
 }
 
 impl Field for RoleName {
-    ghost of = { roleName };
+    ghost of = { role_name };
 
     fn of(byte: u16) -> RoleName {
         RoleName(byte)
@@ -212,7 +218,7 @@ fn frame_of(kind: u16, reader: &mut Reader) -> Result<Frame, Misread>
         9 => Frame::TestStep(reader.field(), reader.field(), reader.field()),
         10 => Frame::Final(reader.field()),
         11 => Frame::Ask(reader.field(), reader.field()),
-        12 => Frame::Allowance(256 * reader.byte() + reader.byte()),
+        12 => Frame::Allowance(BYTE * reader.byte() + reader.byte()),
         _ => return Err(Misread::BadFrame),
     };
     Ok(frame)

@@ -1,9 +1,10 @@
--- What the public contracts name.
-pub mod Prepare
-pub mod Reply
--- What callers use.
-pub mod Mean
-pub mod Unique
-pub mod Demands
--- How the parts come together.
-pub mod Settle
+-- What is asked, and of what.
+pub mod Preparation
+pub mod Asked
+-- What the rooms find.
+pub mod Works
+pub mod Worked
+-- The words of the clauses.
+pub mod Clauses
+pub mod Worlds
+pub mod Row

@@ -1,39 +1,38 @@
 // The four kinds of number, signed roles and basic concepts over them, the declared counts, and the answers.
 #![tactic(auto)]
 
-ghost use Rattle.std.specs.Prelude.{◌+◌, ◌*◌, ◌%◌, ◌<◌, ◌≡◌};
-ghost use Rattle.laws.specs.Exactly.{Exactly};
-ghost use Rattle.kinds.specs.Kinds.{mostRoles, inverse, forward, backward, wrapped, number_of, conceptOf, NameDeclared, RoleDeclared, SignedDeclared, IndividualDeclared, StateDeclared, ConceptDeclared, CountsFit};
-ghost use Rattle.kinds.specs.Answer.{answerNumber, answerCount};
+ghost use Rattle.std.specs.Prelude.{◌+◌, ◌*◌, ◌%◌, ◌<◌, ◌≡◌, ◌↔◌, IsTrue};
+ghost use Rattle.kinds.specs.Kinds.{most_roles, inverse, forward, backward, wrapped, number_of, concept_of, NameDeclared, RoleDeclared, SignedDeclared, IndividualDeclared, StateDeclared, ConceptDeclared, CountsFit};
+ghost use Rattle.kinds.specs.Answer.{answer_number, answer_count};
 
 // A number of rounds, and the allowance of them.
 pub type Rounds = u16;
 
-#[derive(Clone, Copy)]
+#[derive(Clone, Copy, PartialEq, Eq)]
 pub struct ConceptName(pub u16);
 
-#[derive(Clone, Copy)]
+#[derive(Clone, Copy, PartialEq, Eq)]
 pub struct RoleName(pub u16);
 
-#[derive(Clone, Copy)]
+#[derive(Clone, Copy, PartialEq, Eq)]
 pub struct Individual(pub u16);
 
-#[derive(Clone, Copy)]
+#[derive(Clone, Copy, PartialEq, Eq)]
 pub struct State(pub u16);
 
 // 2 × r is the role r forward, 2 × r + 1 is r backward.
-#[derive(Clone, Copy)]
+#[derive(Clone, Copy, PartialEq, Eq)]
 pub struct SignedRole(pub u16);
 
 // A basic concept: a name, or "has an R-neighbour". There is no other way to make one.
-#[derive(Clone, Copy)]
+#[derive(Clone, Copy, PartialEq, Eq)]
 pub enum Concept {
     Name(ConceptName),
     Exists(SignedRole),
 }
 
 // What a collection declares.
-#[derive(Clone, Copy)]
+#[derive(Clone, Copy, PartialEq, Eq)]
 pub struct Counts {
     pub names: u16,
     pub roles: u16,
@@ -43,7 +42,7 @@ pub struct Counts {
 }
 
 // What a call answers; `number` and `count` are those of docs/RULES.md, section 7.
-#[derive(Clone, Copy)]
+#[derive(Clone, Copy, PartialEq, Eq)]
 pub enum Answer {
     No(Rounds),
     Yes(Rounds),
@@ -60,7 +59,7 @@ impl ConceptName {
     pub const MOST: u16 = 64;
 
     pub fn declared(self, counts: Counts) -> bool
-        ensures { Exactly result (NameDeclared counts self) }
+        ensures { IsTrue result ↔ NameDeclared counts self }
     {
         self.0 < counts.names
     }
@@ -70,26 +69,26 @@ impl RoleName {
     pub const MOST: u16 = 32;
 
     pub fn declared(self, counts: Counts) -> bool
-        ensures { Exactly result (RoleDeclared counts self) }
+        ensures { IsTrue result ↔ RoleDeclared counts self }
     {
         self.0 < counts.roles
     }
 
-    // Every declared role is far below 32,768; above it the number wraps, as 16 bits do.
+    // Every declared role is far below half of 2 ^ 16; from there on the number wraps, as 16 bits do.
     #[tactic(auto, using(crate::specs::Kinds::wrapped_forward))]
     pub fn forward(self) -> SignedRole
         ensures wrapped { result ≡ wrapped (forward self) }
-        ensures declared { self.0 < mostRoles → result ≡ forward self }
+        ensures declared { self.0 < most_roles → result ≡ forward self }
     {
-        SignedRole(2 * (self.0 % 32768))
+        SignedRole(self.0.wrapping_mul(2))
     }
 
     #[tactic(auto, using(crate::specs::Kinds::wrapped_backward))]
     pub fn backward(self) -> SignedRole
         ensures wrapped { result ≡ wrapped (backward self) }
-        ensures declared { self.0 < mostRoles → result ≡ backward self }
+        ensures declared { self.0 < most_roles → result ≡ backward self }
     {
-        SignedRole(2 * (self.0 % 32768) + 1)
+        SignedRole(self.0.wrapping_mul(2) + 1)
     }
 }
 
@@ -100,7 +99,7 @@ impl Individual {
     pub const NUMBERS: usize = Individual::MOST as usize;
 
     pub fn declared(self, counts: Counts) -> bool
-        ensures { Exactly result (IndividualDeclared counts self) }
+        ensures { IsTrue result ↔ IndividualDeclared counts self }
     {
         self.0 < counts.individuals
     }
@@ -115,7 +114,7 @@ impl State {
     pub const PAIRS: usize = State::NUMBERS * State::NUMBERS;
 
     pub fn declared(self, counts: Counts) -> bool
-        ensures { Exactly result (StateDeclared counts self) }
+        ensures { IsTrue result ↔ StateDeclared counts self }
     {
         self.0 < counts.states
     }
@@ -146,7 +145,7 @@ impl SignedRole {
 
     // Halved, so that no count of roles is too large for the test.
     pub fn declared(self, counts: Counts) -> bool
-        ensures { Exactly result (SignedDeclared counts self) }
+        ensures { IsTrue result ↔ SignedDeclared counts self }
     {
         self.0 / 2 < counts.roles
     }
@@ -160,9 +159,9 @@ impl Concept {
     pub const NUMBERS: usize = Concept::BASE as usize + SignedRole::NUMBERS;
 
     // The basic concept that a table's number means.
-    #[tactic(auto, unfolding(crate::specs::Kinds::conceptOf))]
+    #[tactic(auto, unfolding(crate::specs::Kinds::concept_of))]
     pub fn read(number: u16) -> Concept
-        ensures { result ≡ conceptOf number }
+        ensures { result ≡ concept_of number }
     {
         if number < Concept::BASE {
             Concept::Name(ConceptName(number))
@@ -182,7 +181,7 @@ impl Concept {
     }
 
     pub fn declared(self, counts: Counts) -> bool
-        ensures { Exactly result (ConceptDeclared counts self) }
+        ensures { IsTrue result ↔ ConceptDeclared counts self }
     {
         match self {
             Concept::Name(a) => a.declared(counts),
@@ -194,28 +193,19 @@ impl Concept {
 impl Counts {
     // Each count in its range, and the start state below the count of states.
     pub fn fit(self) -> bool
-        ensures { Exactly result (CountsFit self) }
+        ensures { IsTrue result ↔ CountsFit self }
     {
-        if ConceptName::MOST < self.names {
-            return false;
-        }
-        if RoleName::MOST < self.roles {
-            return false;
-        }
-        if Individual::MOST < self.individuals {
-            return false;
-        }
-        if State::MOST < self.states {
-            return false;
-        }
-        let start = self.start;
-        start.0 < self.states
+        self.names <= ConceptName::MOST
+            && self.roles <= RoleName::MOST
+            && self.individuals <= Individual::MOST
+            && self.states <= State::MOST
+            && self.start.0 < self.states
     }
 }
 
 impl Answer {
     pub fn number(self) -> u8
-        ensures { result ≡ answerNumber self }
+        ensures { result ≡ answer_number self }
     {
         match self {
             Answer::No(_) => 0,
@@ -231,7 +221,7 @@ impl Answer {
     }
 
     pub fn count(self) -> Rounds
-        ensures { result ≡ answerCount self }
+        ensures { result ≡ answer_count self }
     {
         match self {
             Answer::No(rounds) => rounds,

@@ -1,13 +1,14 @@
--- What the call from other languages gives: the outcome of asking, with the answer as its number and count (docs/RULES.md, section 7).
-use Rattle.std.specs.Prelude.{◌≡◌, List, ℕ}
-use Rattle.std.proofs.Common.{ap, sym, ◌∙◌}
+-- What the calls from other languages give: the outcome of asking, each answer as number and count.
+use Rattle.std.specs.Prelude.{◌≡◌, List, ℕ, ◌<◌, Some, IfSome, length, slice_get}
 use Rattle.kinds.specs.declared.Answer.{Answer}
 use Rattle.kinds.specs.declared.Counts.{Counts}
-use Rattle.kinds.specs.Kinds.{state}
-use Rattle.kinds.specs.Answer.{answerNumber, answerCount}
-use Rattle.meaning.specs.Lent.{Tables, Call}
+use Rattle.kinds.specs.Kinds.{individual, state}
+use Rattle.kinds.specs.Answer.{answer_number, answer_count}
+use Rattle.meaning.specs.Lent.{Tables, Call, Whole}
 use Rattle.meaning.specs.Outcome.{Outcome}
-use Rattle.meaning.proofs.OutcomeLaws.{outcome-unique}
+use Rattle.index.specs.Preparation.{Preparation}
+use Rattle.tables.specs.Asks.{ask_width}
+use Rattle.index.specs.Row.{ask_count}
 
 -- the five counts as a call has them
 abbrev pub counted : ℕ → ℕ → ℕ → ℕ → ℕ → Counts
@@ -32,17 +33,52 @@ lent cr ce rr re cf rf st fi = record {
   finals = fi;
 }
 
+-- a pair asked of them
+abbrev pub calls : Counts → Tables → ℕ → List ℕ → List ℕ → ℕ → ℕ → Call
+calls counts tables allowance area spare first second = record {
+  counts = counts;
+  tables = tables;
+  first = individual first;
+  second = individual second;
+  allowance = allowance;
+  area = area;
+  spare = spare;
+}
+
+-- all that asks of a row share
+abbrev pub made_of : Counts → Tables → ℕ → List ℕ → List ℕ → Preparation
+made_of counts tables allowance area spare = record {
+  counts = counts;
+  tables = tables;
+  allowance = allowance;
+  area = length area;
+  spare = length spare;
+}
+
+-- the outcome of a call, its answer as number and count
 pub record Gives (c : Call) (number count : ℕ) (x y : List ℕ) : Type 0 where
   pub answer : Answer
   pub outcome : Outcome c answer x y
-  pub number_is : number ≡ answerNumber answer
-  pub count-is : count ≡ answerCount answer
+  pub number_is : number ≡ answer_number answer
+  pub count_is : count ≡ answer_count answer
 
-pub gives : (c : Call) (r : Answer) (number count : ℕ) (x y : List ℕ) → Outcome c r x y → number ≡ answerNumber r → count ≡ answerCount r → Gives c number count x y
-gives c r number count x y o n k = record { answer = r; outcome = o; number_is = n; count-is = k }
+-- the most pairs of one call
+abbrev pub most_pairs : ℕ
+most_pairs = 256
 
--- THEOREM: number, count and both areas are fixed by the call
-pub gives-once : (c : Call) {m n j k : ℕ} {x y u v : List ℕ} → Gives c m j x y → Gives c n k u v → (m ≡ n) × (j ≡ k) × (x ≡ u) × (y ≡ v)
-gives-once c a b =
-    let e = outcome-unique c a.outcome b.outcome in
-    (a.number_is ∙ ap answerNumber e.0 ∙ sym b.number_is, a.count-is ∙ ap answerCount e.0 ∙ sym b.count-is, e.1, e.2)
+-- whole pairs, not too many, and an entry for each in both
+pub record RowFits (pairs : List ℕ) (numbers counts : ℕ) : Type 0 where
+  pub whole : Whole ask_width most_pairs pairs
+  pub number_each : numbers ≡ ask_count pairs
+  pub count_each : counts ≡ ask_count pairs
+
+-- entry k is the answer's number, and its count
+pub record Tells (numbers counts : List ℕ) (k : ℕ) (r : Answer) : Type 0 where
+  pub number : slice_get numbers k ≡ Some (answer_number r)
+  pub count : slice_get counts k ≡ Some (answer_count r)
+
+-- each answer that has an entry in both is told there
+abbrev pub TellsEach : List Answer → List ℕ → List ℕ → Type 0
+TellsEach answers numbers counts =
+    (k : ℕ) → k < length numbers → k < length counts
+    → IfSome (slice_get answers k) (λ r. Tells numbers counts k r)

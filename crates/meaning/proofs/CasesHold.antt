@@ -4,134 +4,134 @@ use Rattle.std.proofs.Math.Path.{sym}
 use Rattle.std.proofs.Math.Dec.{eqb→eq}
 use Rattle.kinds.specs.declared.Answer.{Answer}
 use Rattle.kinds.specs.declared.Answer.TheVariants.{No, Yes, Contradiction, AllowanceSpent, BadCount, BadTable, BadNumber, EqualEnds, BadAsk}
-use Rattle.kinds.specs.Kinds.{inverse, individual, number_of, conceptOf}
-use Rattle.kinds.specs.Answer.{answerNumber, answerCount}
+use Rattle.kinds.specs.Kinds.{inverse, individual, number_of, concept_of}
+use Rattle.kinds.specs.Answer.{answer_number, answer_count}
 use Rattle.laws.specs.Member.{◌∈◌, map-in, map-out}
 use Rattle.laws.specs.Search.{and, and_left, and_right, any, every, every-out}
 use Rattle.laws.specs.Same.{both}
-use Rattle.laws.specs.Decide.{exactly-out, exactly-and}
+use Rattle.laws.specs.Truth.{test-and, test-out}
 use Rattle.laws.specs.Pairs.{pairs}
 use Rattle.laws.specs.Numbers.{upto, numbered}
-use Rattle.laws.specs.Select.{select, select_in, select-out, risesFrom, rising}
+use Rattle.laws.specs.Select.{select, select_in, select-out, rises_from, rising}
 use Rattle.laws.specs.Settle.{memo, settle, stays, new}
 use Rattle.laws.specs.Chain.{via, compose, tab, closing}
 use Rattle.meaning.specs.Collection.{Collection, WellFormed}
-use Rattle.meaning.specs.Lite.{signedRoles, validConcepts, declaredStates, lite}
+use Rattle.meaning.specs.Lite.{signed_roles, valid_concepts, declared_states, lite}
 use Rattle.meaning.specs.Sheet.{Mark}
 use Rattle.meaning.proofs.SheetLaws.{mark-markable}
-use Rattle.meaning.proofs.Tests.{joins, hangsTo, hangsFrom, hangs, round, Spot, places, spot_in, spot_out, at, table, work, after}
-use Rattle.meaning.proofs.LiteSheet.{liteSheet, liteAfter, lite-after, lite-mark-in, lite-mark-out}
-use Rattle.meaning.proofs.LiteTests.{roleBase, roleLe, conceptBase, conceptLe, liteTests}
-use Rattle.meaning.proofs.Reply.{declaredIndividuals, factTypes, endTypes, isTyped, typedTo, individualHas, joinsBy, factEdge, follows, aliveBy, aliveAt, alive, clashAt, clashUnder, conceptClash, clashBetween, clashBelow, roleClash, clash, marked, stride, walks, reachesIn, reaches}
+use Rattle.meaning.proofs.Tests.{joins, hangs_to, hangs_from, hangs, round, Spot, places, spot_in, spot_out, at, table, work, after}
+use Rattle.meaning.proofs.LiteSheet.{lite_sheet, lite_after, lite-after, lite-mark-in, lite-mark-out}
+use Rattle.meaning.proofs.LiteTests.{role_base, role_le, concept_base, concept_le, lite_tests}
+use Rattle.meaning.proofs.Reply.{declared_individuals, fact_types, end_types, is_typed, typed_to, individual_has, joins_by, fact_edge, follows, alive_by, alive_at, alive, clash_at, clash_under, concept_clash, clash_between, clash_below, role_clash, clash, marked, stride, walks, reaches_in, reaches}
 use Rattle.meaning.specs.Lent.{records, collection, Sound}
-use Rattle.meaning.specs.Layout.{place, areaLength, Lays, Standing}
+use Rattle.meaning.specs.Layout.{place, area_length, Lays, Standing}
 use Rattle.meaning.proofs.OutcomeExists.{outcome-exists, passes-all, sound-well-formed, holds-sheet}
-use Rattle.meaning.proofs.Calculate.{countsFit, whole, shapesOk, conceptsDeclared, rolesDeclared, conceptFactDeclared, roleFactDeclared, numbersDeclared, numbersOk, endsOk, askOk, soundAnswer, afterClash, afterRounds, sheetArea, areaAfter, spareAfter}
+use Rattle.meaning.proofs.Calculate.{counts_fit, whole, shapes_ok, concepts_declared, roles_declared, concept_fact_declared, role_fact_declared, numbers_declared, numbers_ok, ends_ok, ask_ok, sound_answer, after_clash, after_rounds, sheet_area, area_after, spare_after}
 use Rattle.meaning.proofs.CalculateLaws.{counts-test, shapes-test, numbers-test, ends-test, ask-test}
 use Rattle.meaning.specs.Cases.{Case, cases, lend, MarksStand, Says}
 
 -- where the marks of the sheet after n rounds stand, in order
 module _ (𝓒 : Collection) where
   abbrev Spots : Type 0
-  Spots = Spot (lite 𝓒) (liteTests 𝓒)
+  Spots = Spot (lite 𝓒) (lite_tests 𝓒)
 
-  abbrev spotPlace : Spots → ℕ
-  spotPlace p = place p.0.0 p.0.1 p.1
+  abbrev spot_place : Spots → ℕ
+  spot_place p = place p.0.0 p.0.1 p.1
 
-  abbrev spotMarked : ℕ → Spots → Bool
-  spotMarked n = at (lite 𝓒) (liteTests 𝓒) (liteAfter 𝓒 n)
+  abbrev spot_marked : ℕ → Spots → Bool
+  spot_marked n = at (lite 𝓒) (lite_tests 𝓒) (lite_after 𝓒 n)
 
-  unfoldable standsAt : ℕ → List ℕ
-  standsAt n = map spotPlace (select (places (lite 𝓒) (liteTests 𝓒)) (spotMarked n))
+  unfoldable stands_at : ℕ → List ℕ
+  stands_at n = map spot_place (select (places (lite 𝓒) (lite_tests 𝓒)) (spot_marked n))
 
-  unfoldable listOk : ℕ → ℕ → Bool
-  listOk n m = let b = eqb (length (standsAt n)) m in and (risesFrom 0 (standsAt n)) b
+  unfoldable list_ok : ℕ → ℕ → Bool
+  list_ok n m = let b = eqb (length (stands_at n)) m in and (rises_from 0 (stands_at n)) b
 
-  abbrev marksOk : Answer → ℕ → Bool
-  marksOk (No rounds) m = listOk rounds m
-  marksOk (Yes rounds) m = listOk rounds m
-  marksOk (AllowanceSpent allowance) m = listOk allowance m
-  marksOk Contradiction m = true
-  marksOk BadCount m = true
-  marksOk BadTable m = true
-  marksOk BadNumber m = true
-  marksOk EqualEnds m = true
-  marksOk BadAsk m = true
+  abbrev marks_ok : Answer → ℕ → Bool
+  marks_ok (No rounds) m = list_ok rounds m
+  marks_ok (Yes rounds) m = list_ok rounds m
+  marks_ok (AllowanceSpent allowance) m = list_ok allowance m
+  marks_ok Contradiction m = true
+  marks_ok BadCount m = true
+  marks_ok BadTable m = true
+  marks_ok BadNumber m = true
+  marks_ok EqualEnds m = true
+  marks_ok BadAsk m = true
 
-  unfoldable answerOk : Answer → ℕ → ℕ → ℕ → Bool
-  answerOk r number count marks =
-      let b = marksOk r marks in
-      let a = and (eqb (answerCount r) count) b in
-      and (eqb (answerNumber r) number) a
+  unfoldable answer_ok : Answer → ℕ → ℕ → ℕ → Bool
+  answer_ok r number count marks =
+      let b = marks_ok r marks in
+      let a = and (eqb (answer_count r) count) b in
+      and (eqb (answer_number r) number) a
 
 -- the test of a row, as it is computed
 abbrev given : Case → Collection
 given k = collection k.counts k.tables
 
-unfoldable soundOk : Case → Bool
-soundOk k =
-    let e = askOk k.counts (individual k.first) (individual k.second) in
-    let d = and (endsOk (given k)) e in
-    let b = and (numbersOk k.counts k.tables) d in
-    let a = and (shapesOk k.tables) b in
-    and (countsFit k.counts) a
+unfoldable sound_ok : Case → Bool
+sound_ok k =
+    let e = ask_ok k.counts (individual k.first) (individual k.second) in
+    let d = and (ends_ok (given k)) e in
+    let b = and (numbers_ok k.counts k.tables) d in
+    let a = and (shapes_ok k.tables) b in
+    and (counts_fit k.counts) a
 
 abbrev computed : Case → Answer
-computed k = soundAnswer (given k) (individual k.first) (individual k.second) k.allowance
+computed k = sound_answer (given k) (individual k.first) (individual k.second) k.allowance
 
 unfoldable holds : Case → Bool
-holds k = let b = answerOk (given k) (computed k) k.number k.count k.marks in and (soundOk k) b
+holds k = let b = answer_ok (given k) (computed k) k.number k.count k.marks in and (sound_ok k) b
 
 -- every row passes
 table-computes : every cases holds ≡ true
-unfolding every cases holds soundOk answerOk listOk risesFrom standsAt select countsFit whole shapesOk conceptsDeclared rolesDeclared conceptFactDeclared roleFactDeclared numbersDeclared numbersOk endsOk askOk soundAnswer afterClash afterRounds records conceptOf number_of inverse any upto numbered pairs memo settle stays new via compose tab closing both signedRoles validConcepts declaredStates joins hangsTo hangsFrom hangs round places table work after roleBase roleLe conceptBase conceptLe declaredIndividuals factTypes endTypes isTyped typedTo individualHas joinsBy factEdge follows aliveBy aliveAt alive clashAt clashUnder conceptClash clashBetween clashBelow roleClash clash marked stride walks reachesIn reaches
+unfolding every cases holds sound_ok answer_ok list_ok rises_from stands_at select counts_fit whole shapes_ok concepts_declared roles_declared concept_fact_declared role_fact_declared numbers_declared numbers_ok ends_ok ask_ok sound_answer after_clash after_rounds records concept_of number_of inverse any upto numbered pairs memo settle stays new via compose tab closing both signed_roles valid_concepts declared_states joins hangs_to hangs_from hangs round places table work after role_base role_le concept_base concept_le declared_individuals fact_types end_types is_typed typed_to individual_has joins_by fact_edge follows alive_by alive_at alive clash_at clash_under concept_clash clash_between clash_below role_clash clash marked stride walks reaches_in reaches
 table-computes = refl
 
 -- the list that is computed is that of the places that hold 1, in any area that holds the sheet
 module _ (𝓒 : Collection) (ok : WellFormed 𝓒) (n : ℕ) (x : List ℕ) (lays : Lays (Mark (lite 𝓒) n) x) where
-  marked-sheet : (q : Spots 𝓒) → T (spotMarked 𝓒 n q) → T (liteSheet 𝓒 n q.0.0 q.0.1 q.1)
+  marked-sheet : (q : Spots 𝓒) → T (spot_marked 𝓒 n q) → T (lite_sheet 𝓒 n q.0.0 q.0.1 q.1)
   marked-sheet q h = rw (lite-after 𝓒 ok.numbers n) at h
 
-  sheet-marked : (q : Spots 𝓒) → T (liteSheet 𝓒 n q.0.0 q.0.1 q.1) → T (spotMarked 𝓒 n q)
+  sheet-marked : (q : Spots 𝓒) → T (lite_sheet 𝓒 n q.0.0 q.0.1 q.1) → T (spot_marked 𝓒 n q)
   sheet-marked q h = rw (lite-after 𝓒 ok.numbers n) h
 
-  stands-out : (p : ℕ) → p ∈ standsAt 𝓒 n → get_or x p 0 ≡ 1
-  unfolding standsAt
+  stands-out : (p : ℕ) → p ∈ stands_at 𝓒 n → get_or x p 0 ≡ 1
+  unfolding stands_at
   stands-out p m =
-      let w = map-out (spotPlace 𝓒) (select (places (lite 𝓒) (liteTests 𝓒)) (spotMarked 𝓒 n)) m in
+      let w = map-out (spot_place 𝓒) (select (places (lite 𝓒) (lite_tests 𝓒)) (spot_marked 𝓒 n)) m in
       let q = w.0 in
-      let v = select-out (places (lite 𝓒) (liteTests 𝓒)) (spotMarked 𝓒 n) w.1 in
-      let k = lite-mark-out 𝓒 ok.numbers n q.0.0 q.0.1 q.1 (spot_out (lite 𝓒) (liteTests 𝓒) q v.0) (marked-sheet q v.1) in
+      let v = select-out (places (lite 𝓒) (lite_tests 𝓒)) (spot_marked 𝓒 n) w.1 in
+      let k = lite-mark-out 𝓒 ok.numbers n q.0.0 q.0.1 q.1 (spot_out (lite 𝓒) (lite_tests 𝓒) q v.0) (marked-sheet q v.1) in
       (lays.marks p).1 (q.0.0, q.0.1, q.1, k, sym w.2)
 
-  stands-in : (p : ℕ) → get_or x p 0 ≡ 1 → p ∈ standsAt 𝓒 n
-  unfolding standsAt
+  stands-in : (p : ℕ) → get_or x p 0 ≡ 1 → p ∈ stands_at 𝓒 n
+  unfolding stands_at
   stands-in p e =
       let w = (lays.marks p).0 e in
       let q : Spots 𝓒 = ((w.0, w.1), w.2) in
-      let i = spot_in (lite 𝓒) (liteTests 𝓒) w.0 w.1 w.2 (mark-markable (lite 𝓒) n w.0 w.1 w.2 w.3) in
+      let i = spot_in (lite 𝓒) (lite_tests 𝓒) w.0 w.1 w.2 (mark-markable (lite 𝓒) n w.0 w.1 w.2 w.3) in
       let h = sheet-marked q (lite-mark-in 𝓒 ok.numbers n w.0 w.1 w.2 w.3) in
-      let m = map-in (spotPlace 𝓒) (select_in (places (lite 𝓒) (liteTests 𝓒)) (spotMarked 𝓒 n) {x = q} i h) in
+      let m = map-in (spot_place 𝓒) (select_in (places (lite 𝓒) (lite_tests 𝓒)) (spot_marked 𝓒 n) {x = q} i h) in
       rw w.4 at m
 
-  standing : (m : ℕ) → T (listOk 𝓒 n m) → Standing x m
-  unfolding listOk
+  standing : (m : ℕ) → T (list_ok 𝓒 n m) → Standing x m
+  unfolding list_ok
   standing m h =
-      let l = standsAt 𝓒 n in
-      (l, record { rising = rising l (and_left (risesFrom 0 l) (eqb (length l) m) h); ones = λ p. (stands-in p, stands-out p) }, eqb→eq (length l) m (and_right (risesFrom 0 l) (eqb (length l) m) h))
+      let l = stands_at 𝓒 n in
+      (l, record { rising = rising l (and_left (rises_from 0 l) (eqb (length l) m) h); ones = λ p. (stands-in p, stands-out p) }, eqb→eq (length l) m (and_right (rises_from 0 l) (eqb (length l) m) h))
 
-module _ (area spare : List ℕ) (long : length area ≡ areaLength) (long' : length spare ≡ areaLength) where
-  sound : (k : Case) → T (soundOk k) → Sound (lend area spare k)
-  unfolding soundOk
+module _ (area spare : List ℕ) (long : length area ≡ area_length) (long' : length spare ≡ area_length) where
+  sound : (k : Case) → T (sound_ok k) → Sound (lend area spare k)
+  unfolding sound_ok
   sound k h =
-      let w = exactly-out (exactly-and (counts-test k.counts) (exactly-and (shapes-test k.tables) (exactly-and (numbers-test (lend area spare k)) (exactly-and (ends-test (lend area spare k)) (ask-test (lend area spare k)))))) h in
+      let w = test-out (test-and (counts-test k.counts) (test-and (shapes-test k.tables) (test-and (numbers-test (lend area spare k)) (test-and (ends-test (lend area spare k)) (ask-test (lend area spare k)))))) h in
       record { counts = w.0; tables = record { tables = w.1.0; area = long; spare = long' }; numbers = w.1.1.0; ends = w.1.1.1.0; ask = w.1.1.1.1 }
 
-  stood : (k : Case) → Sound (lend area spare k) → (n : ℕ) → T (listOk (given k) n k.marks) → Standing (sheetArea (lend area spare k) n) k.marks
-  stood k s n h = standing (given k) (sound-well-formed (lend area spare k) s) n (sheetArea (lend area spare k) n) (holds-sheet (lend area spare k) s n) k.marks h
+  stood : (k : Case) → Sound (lend area spare k) → (n : ℕ) → T (list_ok (given k) n k.marks) → Standing (sheet_area (lend area spare k) n) k.marks
+  stood k s n h = standing (given k) (sound-well-formed (lend area spare k) s) n (sheet_area (lend area spare k) n) (holds-sheet (lend area spare k) s n) k.marks h
 
-  marks-stand : (k : Case) → Sound (lend area spare k) → (r : Answer) → T (marksOk (given k) r k.marks)
-      → MarksStand area spare r (areaAfter (lend area spare k) r) k.marks
+  marks-stand : (k : Case) → Sound (lend area spare k) → (r : Answer) → T (marks_ok (given k) r k.marks)
+      → MarksStand area spare r (area_after (lend area spare k) r) k.marks
   marks-stand k s (No rounds) h = stood k s rounds h
   marks-stand k s (Yes rounds) h = stood k s rounds h
   marks-stand k s (AllowanceSpent allowance) h = stood k s allowance h
@@ -143,24 +143,24 @@ module _ (area spare : List ℕ) (long : length area ≡ areaLength) (long' : le
   marks-stand k s BadAsk h = refl
 
   says : (k : Case) → T (holds k) → Says area spare k
-  unfolding holds answerOk
+  unfolding holds answer_ok
   says k h =
       let r = computed k in
-      let b = marksOk (given k) r k.marks in
-      let a = and (eqb (answerCount r) k.count) b in
-      let o = and (eqb (answerNumber r) k.number) a in
-      let s = sound k (and_left (soundOk k) o h) in
-      let v = and_right (soundOk k) o h in
-      let w = and_right (eqb (answerNumber r) k.number) a v in
+      let b = marks_ok (given k) r k.marks in
+      let a = and (eqb (answer_count r) k.count) b in
+      let o = and (eqb (answer_number r) k.number) a in
+      let s = sound k (and_left (sound_ok k) o h) in
+      let v = and_right (sound_ok k) o h in
+      let w = and_right (eqb (answer_number r) k.number) a v in
       let done = outcome-exists (lend area spare k) in
       record {
         answer = r;
-        area-after = areaAfter (lend area spare k) r;
-        spare-after = spareAfter (lend area spare k) r;
+        area-after = area_after (lend area spare k) r;
+        spare-after = spare_after (lend area spare k) r;
         outcome = rw (passes-all (lend area spare k) s) at done;
-        number = eqb→eq (answerNumber r) k.number (and_left (eqb (answerNumber r) k.number) a v);
-        count = eqb→eq (answerCount r) k.count (and_left (eqb (answerCount r) k.count) b w);
-        marks = marks-stand k s r (and_right (eqb (answerCount r) k.count) b w);
+        number = eqb→eq (answer_number r) k.number (and_left (eqb (answer_number r) k.number) a v);
+        count = eqb→eq (answer_count r) k.count (and_left (eqb (answer_count r) k.count) b w);
+        marks = marks-stand k s r (and_right (eqb (answer_count r) k.count) b w);
       }
 
   -- THEOREM: the cases worked on paper: for any two areas of the right length, whatever they hold, each row's call has the

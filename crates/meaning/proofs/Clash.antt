@@ -10,7 +10,7 @@ use Rattle.laws.specs.Member.{◌∈◌}
 use Rattle.meaning.specs.Collection.{Collection, NumbersDeclared}
 use Rattle.meaning.specs.Orders.{RoleLe, ConceptLe}
 use Rattle.meaning.specs.Tree.{root, ◌▹◌}
-use Rattle.meaning.specs.Model.{Belongs, Edge, fact, child, parent, individuals, Element, Typed, named, first, second, IndividualHas, FactEdge, Contradiction, at-element, at_pair}
+use Rattle.meaning.specs.Model.{Belongs, ModelEdge, fact, child, parent, individuals, Element, Typed, named, first, second, IndividualHas, FactEdge, Contradiction, at-element, at_pair}
 use Rattle.meaning.proofs.ModelLaws.{born}
 
 module _ (𝓒 : Collection) where
@@ -40,17 +40,17 @@ module _ (𝓒 : Collection) where
   last (root a) = signed 0
   last (x ▹ R) = R
 
-  down-role : {x y : Element 𝓒} {S : SignedRole} → Edge 𝓒 (individuals 𝓒) x S y → (Q : SignedRole) → y ≡ x ▹ Q → RoleLe 𝓒 Q S
+  down-role : {x y : Element 𝓒} {S : SignedRole} → ModelEdge 𝓒 (individuals 𝓒) x S y → (Q : SignedRole) → y ≡ x ▹ Q → RoleLe 𝓒 Q S
   down-role (fact f) Q e = absurd (omega (arith, ap depth e))
   down-role (child {R = R} b l) Q e = rw (← ap last e) l
   down-role (parent b l) Q e = absurd (omega (arith, ap depth e))
 
-  up-role : {x y : Element 𝓒} {S : SignedRole} → Edge 𝓒 (individuals 𝓒) x S y → (Q : SignedRole) → x ≡ y ▹ Q → (U : SignedRole) × (inverse U ≡ S) × RoleLe 𝓒 Q U
+  up-role : {x y : Element 𝓒} {S : SignedRole} → ModelEdge 𝓒 (individuals 𝓒) x S y → (Q : SignedRole) → x ≡ y ▹ Q → (U : SignedRole) × (inverse U ≡ S) × RoleLe 𝓒 Q U
   up-role (fact f) Q e = absurd (omega (arith, ap depth e))
   up-role (child b l) Q e = absurd (omega (arith, ap depth e))
   up-role (parent {S = S} b l) Q e = (S, refl, rw (← ap last e) l)
 
-  flat-role : {x y : Element 𝓒} {S : SignedRole} → Edge 𝓒 (individuals 𝓒) x S y → (a b : Individual) → x ≡ root a → y ≡ root b → FactEdge 𝓒 a S b
+  flat-role : {x y : Element 𝓒} {S : SignedRole} → ModelEdge 𝓒 (individuals 𝓒) x S y → (a b : Individual) → x ≡ root a → y ≡ root b → FactEdge 𝓒 a S b
   flat-role (fact {a = c} {b = d} f) a b e g =
       let p : c ≡ a = cc in
       let q : d ≡ b = cc in
@@ -58,7 +58,7 @@ module _ (𝓒 : Collection) where
   flat-role (child c l) a b e g = absurd (omega (arith, ap depth g))
   flat-role (parent c l) a b e g = absurd (omega (arith, ap depth e))
 
-  find-pair : {x y : Element 𝓒} {R S : SignedRole} → (R, S) ∈ 𝓒.role-exclusions → Edge 𝓒 (individuals 𝓒) x R y → Edge 𝓒 (individuals 𝓒) x S y → Clash
+  find-pair : {x y : Element 𝓒} {R S : SignedRole} → (R, S) ∈ 𝓒.role-exclusions → ModelEdge 𝓒 (individuals 𝓒) x R y → ModelEdge 𝓒 (individuals 𝓒) x S y → Clash
   find-pair m (fact {a = a} {b = b} f) g = fact-clash a b _ _ m f (flat-role g a b refl refl)
   find-pair {S = S} m (child {x = x} {R = Q} {S = R} c l) g = down-clash Q R S m (living x Q c) l (down-role g Q refl)
   find-pair m (parent {x = x} {R = Q} {S = R} c l) g =

@@ -10,54 +10,54 @@ use Rattle.kinds.specs.declared.SignedRole.{SignedRole}
 use Rattle.kinds.specs.declared.Concept.{Concept}
 use Rattle.kinds.specs.declared.Concept.TheVariants.{Name, Exists}
 use Rattle.kinds.specs.declared.Counts.{Counts}
-use Rattle.kinds.specs.Kinds.{inverse, inverse-inverse, inverse-declared, conceptName, signed, state, SignedDeclared, StateDeclared, ConceptDeclared}
+use Rattle.kinds.specs.Kinds.{inverse, inverse-inverse, inverse-declared, concept_name, signed, state, SignedDeclared, StateDeclared, ConceptDeclared}
 use Rattle.laws.specs.Member.{◌∈◌, map-in, map-out}
 use Rattle.laws.specs.Numbers.{numbered, numbered-in, numbered-out, length-numbered}
 use Rattle.meaning.specs.Collection.{Collection, role, test, step, NumbersDeclared, RoleStep, TestStep}
 use Rattle.meaning.specs.Orders.{RoleLe, ConceptLe, same, then, rule, turned, wider}
 use Rattle.meaning.specs.Kind.{Sane}
-use Rattle.meaning.specs.Lite.{signedRoles, validConcepts, declaredStates, lite}
+use Rattle.meaning.specs.Lite.{signed_roles, valid_concepts, declared_states, lite}
 
 module _ (c : Counts) where
-  pub signed-in : (R : SignedRole) → SignedDeclared c R → R ∈ signedRoles c
-  unfolding signedRoles
+  pub signed-in : (R : SignedRole) → SignedDeclared c R → R ∈ signed_roles c
+  unfolding signed_roles
   signed-in R h = numbered-in signed (2 * c.roles) R.0 h
 
-  pub signed-out : (R : SignedRole) → R ∈ signedRoles c → SignedDeclared c R
-  unfolding signedRoles
+  pub signed-out : (R : SignedRole) → R ∈ signed_roles c → SignedDeclared c R
+  unfolding signed_roles
   signed-out R m = let w = numbered-out signed (2 * c.roles) m in rw w.2 w.1
 
-  pub state-in : (s : State) → StateDeclared c s → s ∈ declaredStates c
-  unfolding declaredStates
+  pub state-in : (s : State) → StateDeclared c s → s ∈ declared_states c
+  unfolding declared_states
   state-in s h = numbered-in state c.states s.0 h
 
-  pub state-out : (s : State) → s ∈ declaredStates c → StateDeclared c s
-  unfolding declaredStates
+  pub state-out : (s : State) → s ∈ declared_states c → StateDeclared c s
+  unfolding declared_states
   state-out s m = let w = numbered-out state c.states m in rw w.2 w.1
 
-  pub concept-in : (C : Concept) → ConceptDeclared c C → C ∈ validConcepts c
-  unfolding validConcepts
-  concept-in (Name A) h = Memᴰ.append_left (map Exists (signedRoles c)) (map-in Name (numbered-in conceptName c.names A.0 h))
-  concept-in (Exists R) h = Memᴰ.append_right (map Name (numbered conceptName c.names)) (map-in Exists (signed-in R h))
+  pub concept-in : (C : Concept) → ConceptDeclared c C → C ∈ valid_concepts c
+  unfolding valid_concepts
+  concept-in (Name A) h = Memᴰ.append_left (map Exists (signed_roles c)) (map-in Name (numbered-in concept_name c.names A.0 h))
+  concept-in (Exists R) h = Memᴰ.append_right (map Name (numbered concept_name c.names)) (map-in Exists (signed-in R h))
 
-  pub concept-out : (C : Concept) → C ∈ validConcepts c → ConceptDeclared c C
-  unfolding validConcepts
-  concept-out C m = side (Memᴰ.append_cases (map Name (numbered conceptName c.names)) m)
+  pub concept-out : (C : Concept) → C ∈ valid_concepts c → ConceptDeclared c C
+  unfolding valid_concepts
+  concept-out C m = side (Memᴰ.append_cases (map Name (numbered concept_name c.names)) m)
     where
-      side : (C ∈ map Name (numbered conceptName c.names)) ⊎ (C ∈ map Exists (signedRoles c)) → ConceptDeclared c C
+      side : (C ∈ map Name (numbered concept_name c.names)) ⊎ (C ∈ map Exists (signed_roles c)) → ConceptDeclared c C
       side (inl k) =
-          let w = map-out Name (numbered conceptName c.names) k in
-          let v = numbered-out conceptName c.names w.1 in
+          let w = map-out Name (numbered concept_name c.names) k in
+          let v = numbered-out concept_name c.names w.1 in
           rw (w.2, v.2) v.1
-      side (inr k) = let w = map-out Exists (signedRoles c) k in rw w.2 (signed-out w.0 w.1)
+      side (inr k) = let w = map-out Exists (signed_roles c) k in rw w.2 (signed-out w.0 w.1)
 
   -- "concepts" as a count means names + 2 × roles
-  pub concepts-count : length (validConcepts c) ≡ c.names + 2 * c.roles
-  unfolding validConcepts signedRoles
+  pub concepts-count : length (valid_concepts c) ≡ c.names + 2 * c.roles
+  unfolding valid_concepts signed_roles
   concepts-count = simp (length-append, length-map, length-numbered)
 
-  pub states-count : length (declaredStates c) ≡ c.states
-  unfolding declaredStates
+  pub states-count : length (declared_states c) ≡ c.states
+  unfolding declared_states
   states-count = length-numbered state c.states
 
 module _ (𝓒 : Collection) (ok : NumbersDeclared 𝓒) where
@@ -75,10 +75,10 @@ module _ (𝓒 : Collection) (ok : NumbersDeclared 𝓒) where
   concept-declared (rule {C = C} {D = D} m) h = (ok.concept-rules (C, D) m).1
   concept-declared (wider l) h = role-declared l h
 
-  pub role-step-to : (s : State) (S : SignedRole) (t : State) → RoleStep 𝓒 s S t → t ∈ declaredStates 𝓒.counts
+  pub role-step-to : (s : State) (S : SignedRole) (t : State) → RoleStep 𝓒 s S t → t ∈ declared_states 𝓒.counts
   role-step-to s S t m = state-in 𝓒.counts t (ok.steps (step s (role S) t) m).2
 
-  pub test-step-to : (s : State) (A : ConceptName) (t : State) → TestStep 𝓒 s A t → t ∈ declaredStates 𝓒.counts
+  pub test-step-to : (s : State) (A : ConceptName) (t : State) → TestStep 𝓒 s A t → t ∈ declared_states 𝓒.counts
   test-step-to s A t m = state-in 𝓒.counts t (ok.steps (step s (test A) t) m).2
 
   pub lite-sane : Sane (lite 𝓒)

@@ -6,7 +6,7 @@ use Rattle.kinds.specs.declared.Concept.{Concept}
 use Rattle.kinds.specs.declared.Answer.{Answer}
 use Rattle.kinds.specs.declared.Counts.{Counts}
 use Rattle.kinds.specs.Kinds.{CountsFit, StateDeclared, ConceptDeclared}
-use Rattle.kinds.specs.Answer.{answerNumber, number-listed}
+use Rattle.kinds.specs.Answer.{answer_number, number-listed}
 use Rattle.meaning.specs.Collection.{Collection, WellFormed}
 use Rattle.meaning.specs.Sheet.{Mark, Needed}
 use Rattle.meaning.proofs.SheetLaws.{rounds-unique, mark→loop, loop→mark}
@@ -15,23 +15,23 @@ use Rattle.meaning.specs.Lite.{lite}
 use Rattle.meaning.specs.Model.{tree_of}
 use Rattle.meaning.specs.Question.{PathIn, SpellsWord}
 use Rattle.meaning.proofs.QuestionLaws.{yes↔word}
-use Rattle.meaning.proofs.ModelWalk.{loop↔treeOf}
+use Rattle.meaning.proofs.ModelWalk.{loop↔tree_of}
 use Rattle.meaning.proofs.Declared.{concepts-count, states-count, state-in, concept-in, lite-sane}
 use Rattle.meaning.proofs.Tests.{rounds-bound}
-use Rattle.meaning.proofs.LiteTests.{liteTests, lite-decides}
-use Rattle.meaning.specs.Lent.{Call, collectionOf, Sound}
+use Rattle.meaning.proofs.LiteTests.{lite_tests, lite-decides}
+use Rattle.meaning.specs.Lent.{Call, collection_of, Sound}
 use Rattle.meaning.specs.Outcome.{Outcome, bad-count, bad-table, bad-number, equal-ends, bad-ask, contradiction, spent, says-yes, says-no, Breaks, Reached, RoundsNeeded}
 use Rattle.meaning.proofs.OutcomeExists.{sound-well-formed, outcome-exists}
 use Rattle.meaning.proofs.OutcomeLaws.{outcome-unique}
-use Rattle.meaning.proofs.Calculate.{answer, areaAfter, spareAfter}
+use Rattle.meaning.proofs.Calculate.{answer, area_after, spare_after}
 use Rattle.meaning.proofs.Larger.{Larger, yes-grows, contradiction-grows}
 
 -- concepts × states × (states − 1)
-abbrev pub mostRounds : Counts → ℕ
-mostRounds c = (c.names + 2 * c.roles) * c.states * (c.states - 1)
+abbrev pub most_rounds : Counts → ℕ
+most_rounds c = (c.names + 2 * c.roles) * c.states * (c.states - 1)
 
 -- never more than 30,720
-pub most-rounds : (c : Counts) → CountsFit c → mostRounds c ≤ 30720
+pub most-rounds : (c : Counts) → CountsFit c → most_rounds c ≤ 30720
 most-rounds c fit =
     let a : c.names + 2 * c.roles ≤ 128 = omega (arith, fit.names, fit.roles) in
     let b : c.states - 1 ≤ 15 = omega (arith, fit.states) in
@@ -39,9 +39,9 @@ most-rounds c fit =
 
 module _ (𝓒 : Collection) (ok : WellFormed 𝓒) where
   -- THEOREM: the rounds needed exist, and are at most concepts × states × (states − 1)
-  pub rounds-suffice : (n : ℕ) × (n ≤ mostRounds 𝓒.counts) × Needed (lite 𝓒) n
+  pub rounds-suffice : (n : ℕ) × (n ≤ most_rounds 𝓒.counts) × Needed (lite 𝓒) n
   rounds-suffice =
-      let w = rounds-bound (lite 𝓒) (liteTests 𝓒) (lite-decides 𝓒 ok.numbers) (lite-sane 𝓒 ok.numbers) in
+      let w = rounds-bound (lite 𝓒) (lite_tests 𝓒) (lite-decides 𝓒 ok.numbers) (lite-sane 𝓒 ok.numbers) in
       (w.0, rw (concepts-count 𝓒.counts, states-count 𝓒.counts) at w.1, w.2)
 
   -- THEOREM: a mark's meaning: in the tree grown from one element whose only concept is B, and what follows from B,
@@ -49,14 +49,14 @@ module _ (𝓒 : Collection) (ok : WellFormed 𝓒) where
   pub mark-means : (n : ℕ) → Needed (lite 𝓒) n → (s t : State) (B : Concept) → StateDeclared 𝓒.counts s → ConceptDeclared 𝓒.counts B
       → Mark (lite 𝓒) n s t B ↔ PathIn 𝓒 (tree_of 𝓒 B) (root tt) s (root tt) t
   mark-means n needed s t B h d = (
-    λ m. (loop↔treeOf 𝓒 B s t).0 (mark→loop (lite 𝓒) n s t B m),
-    λ p. loop→mark (lite 𝓒) (lite-sane 𝓒 ok.numbers) n needed.holds ((loop↔treeOf 𝓒 B s t).1 p) (concept-in 𝓒.counts B d) (state-in 𝓒.counts s h),
+    λ m. (loop↔tree_of 𝓒 B s t).0 (mark→loop (lite 𝓒) n s t B m),
+    λ p. loop→mark (lite 𝓒) (lite-sane 𝓒 ok.numbers) n needed.holds ((loop↔tree_of 𝓒 B s t).1 p) (concept-in 𝓒.counts B d) (state-in 𝓒.counts s h),
   )
 
 -- THEOREM: every input gets one of the listed answers, and only one; what it leaves in both areas is fixed
 pub every-input-answered : (c : Call)
-    → (r : Answer) × (x y : List ℕ) × Outcome c r x y × (answerNumber r ≤ 8) × ((r' : Answer) (x' y' : List ℕ) → Outcome c r' x' y' → (r' ≡ r) × (x' ≡ x) × (y' ≡ y))
-every-input-answered c = (answer c, areaAfter c (answer c), spareAfter c (answer c), outcome-exists c, number-listed (answer c), λ r' x' y' o. outcome-unique c o (outcome-exists c))
+    → (r : Answer) × (x y : List ℕ) × Outcome c r x y × (answer_number r ≤ 8) × ((r' : Answer) (x' y' : List ℕ) → Outcome c r' x' y' → (r' ≡ r) × (x' ≡ x) × (y' ≡ y))
+every-input-answered c = (answer c, area_after c (answer c), spare_after c (answer c), outcome-exists c, number-listed (answer c), λ r' x' y' o. outcome-unique c o (outcome-exists c))
 
 -- with enough rounds
 abbrev pub Enough : Call → Type 0
@@ -64,27 +64,27 @@ Enough c = (n : ℕ) × RoundsNeeded c n × (n ≤ c.allowance)
 
 -- a path in the model from the first individual to the second spells a word of the question
 abbrev pub Spelled : Call → Type 0
-Spelled c = SpellsWord (collectionOf c) c.first c.second
+Spelled c = SpellsWord (collection_of c) c.first c.second
 
 -- yes, no and contradiction as the canonical model says
 pub data Verdict (c : Call) (r : Answer) : Type 0 where
-  is-contradiction : answerNumber r ≡ 2 → Breaks c → Verdict c r
-  is-yes : answerNumber r ≡ 1 → (Breaks c → ⊥) → Reached c → Verdict c r
-  is-no : answerNumber r ≡ 0 → (Breaks c → ⊥) → (Reached c → ⊥) → Verdict c r
+  is-contradiction : answer_number r ≡ 2 → Breaks c → Verdict c r
+  is-yes : answer_number r ≡ 1 → (Breaks c → ⊥) → Reached c → Verdict c r
+  is-no : answer_number r ≡ 0 → (Breaks c → ⊥) → (Reached c → ⊥) → Verdict c r
 
 -- what a well-formed call answers with enough rounds
 pub record AsModelSays (c : Call) (r : Answer) : Type 0 where
-  pub contradiction : (answerNumber r ≡ 2) ↔ Breaks c
-  pub yes : (Breaks c → ⊥) → (answerNumber r ≡ 1) ↔ Spelled c
-  pub no : (Breaks c → ⊥) → (answerNumber r ≡ 0) ↔ (Spelled c → ⊥)
+  pub contradiction : (answer_number r ≡ 2) ↔ Breaks c
+  pub yes : (Breaks c → ⊥) → (answer_number r ≡ 1) ↔ Spelled c
+  pub no : (Breaks c → ⊥) → (answer_number r ≡ 0) ↔ (Spelled c → ⊥)
 
 module _ (c : Call) where
   -- an allowance of concepts × states × (states − 1) is always enough
-  pub most-enough : Sound c → mostRounds c.counts ≤ c.allowance → Enough c
-  most-enough s h = let w = rounds-suffice (collectionOf c) (sound-well-formed c s) in (w.0, w.2, omega (arith, w.1))
+  pub most-enough : Sound c → most_rounds c.counts ≤ c.allowance → Enough c
+  most-enough s h = let w = rounds-suffice (collection_of c) (sound-well-formed c s) in (w.0, w.2, omega (arith, w.1))
 
   not-spent : Enough c → {n : ℕ} → RoundsNeeded c n → c.allowance < n → ⊥
-  not-spent e {n} need h = let q = rounds-unique (lite (collectionOf c)) e.0 n e.1 need in omega (arith, e.2)
+  not-spent e {n} need h = let q = rounds-unique (lite (collection_of c)) e.0 n e.1 need in omega (arith, e.2)
 
   -- with enough rounds a sound call answers one of three
   verdict : {r : Answer} {x y : List ℕ} → Sound c → Enough c → Outcome c r x y → Verdict c r
@@ -104,12 +104,12 @@ module _ (c : Call) where
     yes = λ sane. absurd (sane h);
     no = λ sane. absurd (sane h);
   }
-  decided (is-yes n sane reached) = let w = (yes↔word (collectionOf c) c.first c.second).0 reached in record {
+  decided (is-yes n sane reached) = let w = (yes↔word (collection_of c) c.first c.second).0 reached in record {
     contradiction = (λ m. absurd (omega arith), λ b. absurd (sane b));
     yes = λ u. (λ m. w, λ v. n);
     no = λ u. (λ m. absurd (omega arith), λ v. absurd (v w));
   }
-  decided (is-no n sane missed) = let w = (yes↔word (collectionOf c) c.first c.second).1 in record {
+  decided (is-no n sane missed) = let w = (yes↔word (collection_of c) c.first c.second).1 in record {
     contradiction = (λ m. absurd (omega arith), λ b. absurd (sane b));
     yes = λ u. (λ m. absurd (omega arith), λ v. absurd (missed (w v)));
     no = λ u. (λ m v. missed (w v), λ v. n);
@@ -124,12 +124,12 @@ module _ (c : Call) where
 -- an answer r, and the answer q that a larger collection gives: a yes is kept or turned into contradiction, a contradiction
 -- is kept, and a no was a no before
 pub record Grown (r q : Answer) : Type 0 where
-  pub yes-kept : answerNumber r ≡ 1 → (answerNumber q ≡ 1) ⊎ (answerNumber q ≡ 2)
-  pub contradiction-kept : answerNumber r ≡ 2 → answerNumber q ≡ 2
-  pub no-before : answerNumber q ≡ 0 → answerNumber r ≡ 0
+  pub yes-kept : answer_number r ≡ 1 → (answer_number q ≡ 1) ⊎ (answer_number q ≡ 2)
+  pub contradiction-kept : answer_number r ≡ 2 → answer_number q ≡ 2
+  pub no-before : answer_number q ≡ 0 → answer_number r ≡ 0
 
 -- growth, between two collections: a shared start state and pair, the records of the first among those of the second
-module _ (c d : Call) (more : Larger (collectionOf c) (collectionOf d)) (first : c.first ≡ d.first) (second : c.second ≡ d.second) where
+module _ (c d : Call) (more : Larger (collection_of c) (collection_of d)) (first : c.first ≡ d.first) (second : c.second ≡ d.second) where
   module _ (s : Sound c) (s' : Sound d) where
     breaks-kept : Breaks c → Breaks d
     breaks-kept h = contradiction-grows more (sound-well-formed c s) (sound-well-formed d s') h
@@ -170,7 +170,7 @@ module _ (c : Call) (n : ℕ) (h : c.allowance ≤ n) where
   }
 
   -- THEOREM: an answer 0, 1 or 2 at one allowance returns, with the same count and areas, at every larger one
-  pub returns : {r : Answer} {x y : List ℕ} → Outcome c r x y → answerNumber r ≤ 2 → Outcome (allowed c n) r x y
+  pub returns : {r : Answer} {x y : List ℕ} → Outcome c r x y → answer_number r ≤ 2 → Outcome (allowed c n) r x y
   returns (bad-count k) l = absurd (omega arith)
   returns (bad-table k t) l = absurd (omega arith)
   returns (bad-number k t u) l = absurd (omega arith)

@@ -9,7 +9,7 @@ use Rattle.meaning.specs.Collection.{Collection, NumbersDeclared}
 use Rattle.meaning.specs.Orders.{RoleLe, ConceptLe, same, then, rule, turned, wider}
 use Rattle.meaning.specs.Tree.{root, ◌▹◌}
 use Rattle.meaning.specs.Run.{Run, stop, go, one, carry}
-use Rattle.meaning.specs.Model.{Has, Belongs, bare, Edge, fact, child, parent, individuals, Element, Typed, named, first, second, FactEdge, ahead, behind, canonical, Contradiction, at-element, at_pair}
+use Rattle.meaning.specs.Model.{Has, Belongs, bare, ModelEdge, fact, child, parent, individuals, Element, Typed, named, first, second, FactEdge, ahead, behind, canonical, Contradiction, at-element, at_pair}
 use Rattle.meaning.proofs.ModelLaws.{born, edge-back, edge-above, edge-has, has-neighbour, concept-fact-holds, role-fact-holds, concept-rule-kept}
 use Rattle.meaning.specs.Question.{Going, along-role, at_name, Yes}
 use Rattle.meaning.proofs.Clash.{Alive, sprouts, grows, Clash, individual-clash, unnamed-clash, fact-clash, down-clash, up-clash}
@@ -56,7 +56,7 @@ module _ (𝓒 : Collection) (𝓦 : World) (keeps : Keeps 𝓒 𝓦) where
   holds {d = e} C (for-child {d = d} s f) h = in-up h e (d, keeps.back f)
 
   -- an edge of the model is one of the world
-  follows : {x y : Element 𝓒} {S : SignedRole} {d : structure.Thing} → Edge 𝓒 (individuals 𝓒) x S y → Stands 𝓒 𝓦 x d
+  follows : {x y : Element 𝓒} {S : SignedRole} {d : structure.Thing} → ModelEdge 𝓒 (individuals 𝓒) x S y → Stands 𝓒 𝓦 x d
       → (e : structure.Thing) × Stands 𝓒 𝓦 y e × structure.edge d S e
   follows (fact {b = b} f) for-root = (person b, for-root, fact-edge f)
   follows {d = d} (child {R = R} b l) s =
@@ -101,28 +101,28 @@ module _ (𝓒 : Collection) (𝓦 : World) (keeps : Keeps 𝓒 𝓦) where
     clash-fails (up-clash Q R S m v l k) = let p = alive v in respects.roles m (keeps.back (edge-up l _ _ p.2)) (keeps.back (edge-up k _ _ p.2))
 
 -- the canonical model as a world: the elements that belong, with their names and edges; each individual is itself
-abbrev pub modelWorld : Collection → World
-modelWorld 𝓒 = record {
+abbrev pub model_world : Collection → World
+model_world 𝓒 = record {
   structure = record {
     Thing = Element 𝓒;
     name = λ x A. Belongs 𝓒 (individuals 𝓒) x × Has 𝓒 (individuals 𝓒) x (Name A);
-    edge = λ x S y. Belongs 𝓒 (individuals 𝓒) x × Belongs 𝓒 (individuals 𝓒) y × Edge 𝓒 (individuals 𝓒) x S y;
+    edge = λ x S y. Belongs 𝓒 (individuals 𝓒) x × Belongs 𝓒 (individuals 𝓒) y × ModelEdge 𝓒 (individuals 𝓒) x S y;
   };
   person = root;
 }
 
 module _ (𝓒 : Collection) where
   -- in this world an element is in the concepts that it has
-  in-has : (x : Element 𝓒) (C : Concept) → In (modelWorld 𝓒).structure x C → Belongs 𝓒 (individuals 𝓒) x × Has 𝓒 (individuals 𝓒) x C
+  in-has : (x : Element 𝓒) (C : Concept) → In (model_world 𝓒).structure x C → Belongs 𝓒 (individuals 𝓒) x × Has 𝓒 (individuals 𝓒) x C
   in-has x (Name A) h = h
   in-has x (Exists R) h = (h.1.0, edge-has 𝓒 h.1.2)
 
-  has_in : (x : Element 𝓒) (C : Concept) → Belongs 𝓒 (individuals 𝓒) x → Has 𝓒 (individuals 𝓒) x C → In (modelWorld 𝓒).structure x C
+  has_in : (x : Element 𝓒) (C : Concept) → Belongs 𝓒 (individuals 𝓒) x → Has 𝓒 (individuals 𝓒) x C → In (model_world 𝓒).structure x C
   has_in x (Name A) b h = (b, h)
   has_in x (Exists R) b h = let n = has-neighbour 𝓒 x R b h in (n.0, (b, n.1, n.2))
 
   -- THEOREM: it has the facts and keeps the rules
-  pub model-keeps : NumbersDeclared 𝓒 → Keeps 𝓒 (modelWorld 𝓒)
+  pub model-keeps : NumbersDeclared 𝓒 → Keeps 𝓒 (model_world 𝓒)
   model-keeps ok = record {
     back = λ e. (e.1, e.0, edge-back 𝓒 e.2);
     concept-fact = λ {A} {a} m. (bare (ok.concept-facts (A, a) m).1, concept-fact-holds 𝓒 A a m);
@@ -132,13 +132,13 @@ module _ (𝓒 : Collection) where
   }
 
   -- THEOREM: it breaks no exclusion, unless there is a contradiction
-  pub model-respects : (Contradiction 𝓒 → ⊥) → Respects 𝓒 (modelWorld 𝓒)
+  pub model-respects : (Contradiction 𝓒 → ⊥) → Respects 𝓒 (model_world 𝓒)
   model-respects sane = record {
     concepts = λ {C} {D} m x h k. let w = in-has x C h in sane (at-element x C D m w.0 w.1 (in-has x D k).1);
     roles = λ {R} {S} m {x} {y} e f. sane (at_pair x y R S m e.2 f.2);
   }
 
-  going : (x y : Element 𝓒) (s t : State) → Going 𝓒 (modelWorld 𝓒).structure x s y t → Run (Going 𝓒 (canonical 𝓒)) x s y t
+  going : (x y : Element 𝓒) (s t : State) → Going 𝓒 (model_world 𝓒).structure x s y t → Run (Going 𝓒 (canonical 𝓒)) x s y t
   going x y s t (along-role S m e) = one (along-role S m e.2)
   going x y s t (at_name A m h) = one (at_name A m h.1)
 
@@ -149,7 +149,7 @@ module _ (𝓒 : Collection) where
 
     -- THEOREM: where there is no contradiction, there is a world
     pub no-world-contradiction : NoWorld 𝓒 → (Contradiction 𝓒 → ⊥) → ⊥
-    no-world-contradiction none sane = none (modelWorld 𝓒) (model-keeps ok) (model-respects sane)
+    no-world-contradiction none sane = none (model_world 𝓒) (model-keeps ok) (model-respects sane)
 
     -- THEOREM: a yes is forced, and where there is no contradiction only a yes is
     pub yes-forced : (a b : Individual) → Yes 𝓒 a b → Forced 𝓒 a b
@@ -157,5 +157,5 @@ module _ (𝓒 : Collection) where
 
     pub forced-yes : (Contradiction 𝓒 → ⊥) → (a b : Individual) → Forced 𝓒 a b → Yes 𝓒 a b
     forced-yes sane a b f =
-        let w = f (modelWorld 𝓒) (model-keeps ok) (model-respects sane) in
+        let w = f (model_world 𝓒) (model-keeps ok) (model-respects sane) in
         (w.0, w.1, carry (λ x. x) going w.2)

@@ -10,7 +10,7 @@ use Rattle.laws.specs.Member.{Within}
 use Rattle.meaning.specs.Collection.{Collection, step, role, WellFormed}
 use Rattle.meaning.specs.Orders.{RoleLe, ConceptLe, same, then, rule, turned, wider}
 use Rattle.meaning.specs.Tree.{root, ◌▹◌}
-use Rattle.meaning.specs.Model.{Has, Belongs, bare, grown, Edge, fact, child, parent, individuals, Element, Typed, named, first, second, IndividualHas, FactEdge, ahead, behind, Contradiction, at-element, at_pair}
+use Rattle.meaning.specs.Model.{Has, Belongs, bare, grown, ModelEdge, fact, child, parent, individuals, Element, Typed, named, first, second, IndividualHas, FactEdge, ahead, behind, Contradiction, at-element, at_pair}
 use Rattle.meaning.specs.Question.{Yes}
 use Rattle.meaning.proofs.Growth.{Grows, walk-grows}
 use Rattle.meaning.specs.Lite.{lite}
@@ -90,7 +90,7 @@ module _ {𝓒 𝓓 : Collection} (more : Larger 𝓒 𝓓) where
     child-grows : {x : Element 𝓒} {R : SignedRole} → Belongs 𝓒 (individuals 𝓒) (x ▹ R) → Belongs 𝓓 (individuals 𝓓) (x ▹ R)
     child-grows (grown {x = x} {R = R} b k) = grown (belongs-grows b (Exists R) k) (has-grows x (Exists R) k)
 
-    edge-grows : {x y : Element 𝓒} {S : SignedRole} → Edge 𝓒 (individuals 𝓒) x S y → Edge 𝓓 (individuals 𝓓) x S y
+    edge-grows : {x y : Element 𝓒} {S : SignedRole} → ModelEdge 𝓒 (individuals 𝓒) x S y → ModelEdge 𝓓 (individuals 𝓓) x S y
     edge-grows (fact f) = fact (fact-grows f)
     edge-grows (child b l) = child (child-grows b) (role-grows l)
     edge-grows (parent b l) = parent (child-grows b) (role-grows l)

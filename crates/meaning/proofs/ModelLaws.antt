@@ -10,7 +10,7 @@ use Rattle.laws.specs.Member.{◌∈◌}
 use Rattle.meaning.specs.Collection.{Collection}
 use Rattle.meaning.specs.Orders.{RoleLe, ConceptLe, same, then, rule, turned, wider}
 use Rattle.meaning.specs.Tree.{Elem, root, ◌▹◌}
-use Rattle.meaning.specs.Model.{Roots, Has, Belongs, grown, Edge, fact, child, parent, individuals, Element, named, first, second, IndividualHas, FactEdge, ahead, behind}
+use Rattle.meaning.specs.Model.{Roots, Has, Belongs, grown, ModelEdge, fact, child, parent, individuals, Element, named, first, second, IndividualHas, FactEdge, ahead, behind}
 use Rattle.meaning.proofs.RoleTurned.{turn}
 
 -- a child's parent belongs, and has what the child was promised by
@@ -35,17 +35,17 @@ module _ (𝓒 : Collection) where
       (Exists (backward r), second m, wider (rw (inverse-forward r) at k))
 
   -- THEOREM: an edge read the other way has the inverse
-  pub edge-back : {x y : Element 𝓒} {S : SignedRole} → Edge 𝓒 (individuals 𝓒) x S y → Edge 𝓒 (individuals 𝓒) y (inverse S) x
+  pub edge-back : {x y : Element 𝓒} {S : SignedRole} → ModelEdge 𝓒 (individuals 𝓒) x S y → ModelEdge 𝓒 (individuals 𝓒) y (inverse S) x
   edge-back (fact f) = fact (fact-back f)
   edge-back (child b l) = parent b l
   edge-back (parent {S = S} b l) = rw (inverse-inverse S) (child b l)
 
   -- THEOREM: an edge has every role that follows from its own
-  pub edge-above : {x y : Element 𝓒} {R S : SignedRole} → Edge 𝓒 (individuals 𝓒) x R y → RoleLe 𝓒 R S → Edge 𝓒 (individuals 𝓒) x S y
+  pub edge-above : {x y : Element 𝓒} {R S : SignedRole} → ModelEdge 𝓒 (individuals 𝓒) x R y → RoleLe 𝓒 R S → ModelEdge 𝓒 (individuals 𝓒) x S y
   edge-above (fact f) k = fact (fact-above f k)
   edge-above (child b l) k = child b (then l k)
   edge-above {S = S} (parent {x = x} {R = R} b l) k =
-      let f : Edge 𝓒 (individuals 𝓒) (x ▹ R) (inverse (inverse S)) x = parent b (then l (turn 𝓒 k)) in
+      let f : ModelEdge 𝓒 (individuals 𝓒) (x ▹ R) (inverse (inverse S)) x = parent b (then l (turn 𝓒 k)) in
       rw (inverse-inverse S) at f
 
   -- THEOREM: an element has every concept that follows from its own
@@ -54,26 +54,26 @@ module _ (𝓒 : Collection) where
   has_above (x ▹ R) h k = then h k
 
   -- THEOREM: whoever has an S-neighbour has the concept ∃S
-  pub edge-has : {x y : Element 𝓒} {S : SignedRole} → Edge 𝓒 (individuals 𝓒) x S y → Has 𝓒 (individuals 𝓒) x (Exists S)
+  pub edge-has : {x y : Element 𝓒} {S : SignedRole} → ModelEdge 𝓒 (individuals 𝓒) x S y → Has 𝓒 (individuals 𝓒) x (Exists S)
   edge-has (fact f) = fact-has f
   edge-has (child {x = x} b l) = has_above x (born 𝓒 (individuals 𝓒) b).1 (wider l)
   edge-has (parent b l) = wider (turned l)
 
   -- THEOREM: whoever has the concept ∃S has an S-neighbour
   pub has-neighbour : (x : Element 𝓒) (S : SignedRole) → Belongs 𝓒 (individuals 𝓒) x → Has 𝓒 (individuals 𝓒) x (Exists S)
-      → (y : Element 𝓒) × Belongs 𝓒 (individuals 𝓒) y × Edge 𝓒 (individuals 𝓒) x S y
+      → (y : Element 𝓒) × Belongs 𝓒 (individuals 𝓒) y × ModelEdge 𝓒 (individuals 𝓒) x S y
   has-neighbour x S b h = let c : Belongs 𝓒 (individuals 𝓒) (x ▹ S) = grown b h in (x ▹ S, c, child c same)
 
   -- THEOREM: every fact holds
   pub concept-fact-holds : (A : ConceptName) (a : Individual) → (A, a) ∈ 𝓒.concept-facts → Has 𝓒 (individuals 𝓒) (root a) (Name A)
   concept-fact-holds A a m = (Name A, named m, same)
 
-  pub role-fact-holds : (r : RoleName) (a b : Individual) → (r, a, b) ∈ 𝓒.role-facts → Edge 𝓒 (individuals 𝓒) (root a) (forward r) (root b)
+  pub role-fact-holds : (r : RoleName) (a b : Individual) → (r, a, b) ∈ 𝓒.role-facts → ModelEdge 𝓒 (individuals 𝓒) (root a) (forward r) (root b)
   role-fact-holds r a b m = fact (ahead m same)
 
   -- THEOREM: every rule is kept
   pub concept-rule-kept : (C D : Concept) → (C, D) ∈ 𝓒.concept-rules → (x : Element 𝓒) → Has 𝓒 (individuals 𝓒) x C → Has 𝓒 (individuals 𝓒) x D
   concept-rule-kept C D m x h = has_above x h (rule m)
 
-  pub role-rule-kept : (R S : SignedRole) → (R, S) ∈ 𝓒.role-rules → (x y : Element 𝓒) → Edge 𝓒 (individuals 𝓒) x R y → Edge 𝓒 (individuals 𝓒) x S y
+  pub role-rule-kept : (R S : SignedRole) → (R, S) ∈ 𝓒.role-rules → (x y : Element 𝓒) → ModelEdge 𝓒 (individuals 𝓒) x R y → ModelEdge 𝓒 (individuals 𝓒) x S y
   role-rule-kept R S m x y e = edge-above e (rule m)

@@ -9,7 +9,7 @@ use Rattle.meaning.specs.Collection.{Collection}
 use Rattle.meaning.specs.Orders.{ConceptLe}
 use Rattle.meaning.specs.Run.{Run, stop, go, one, carry}
 use Rattle.meaning.specs.Tree.{Elem, root, ◌▹◌, Holds, Move, tests, downs, ups, hops, Stride, path↔walk}
-use Rattle.meaning.specs.Model.{Roots, Has, Belongs, bare, grown, fact, child, parent, grownFrom}
+use Rattle.meaning.specs.Model.{Roots, Has, Belongs, bare, grown, fact, child, parent, grown_from}
 use Rattle.meaning.proofs.ModelLaws.{born}
 use Rattle.meaning.specs.Question.{along-role, at_name, PathIn}
 use Rattle.meaning.specs.Lite.{lite}
@@ -30,7 +30,7 @@ module _ (𝓒 : Collection) (𝓡 : Roots) (keep : RootsKeep 𝓒 𝓡) where
 
   -- THEOREM: moves from an element that belongs are a path
   from-moves : {x y : Elem 𝓡.Root SignedRole} {s t : State} → Run (Move (lite 𝓒) 𝓡.has (Near 𝓒 𝓡)) x s y t → Belongs 𝓒 𝓡 x
-      → PathIn 𝓒 (grownFrom 𝓒 𝓡) x s y t
+      → PathIn 𝓒 (grown_from 𝓒 𝓡) x s y t
   from-moves stop b = stop
   from-moves (go (tests {x = x} B h e) p) b = go (at_name e.0 e.1 (holds→has x B (Name e.0) h e.2)) (from-moves p b)
   from-moves (go (downs {x = x} B R h k d) p) b =
@@ -40,7 +40,7 @@ module _ (𝓒 : Collection) (𝓡 : Roots) (keep : RootsKeep 𝓒 𝓡) where
   from-moves (go (hops {a = a} {b = d} f) p) b = go (along-role f.0 f.1 (fact f.2)) (from-moves p (bare (keep.within a d f.0 f.2)))
 
   -- THEOREM: a path leads from root to root exactly when a walk by the sheet's rules does
-  pub path↔steps : (a b : 𝓡.Root) (s t : State) → 𝓡.belongs a → PathIn 𝓒 (grownFrom 𝓒 𝓡) (root a) s (root b) t ↔ Walk a s b t
+  pub path↔steps : (a b : 𝓡.Root) (s t : State) → 𝓡.belongs a → PathIn 𝓒 (grown_from 𝓒 𝓡) (root a) s (root b) t ↔ Walk a s b t
   path↔steps a b s t h = (
     λ p. (path↔walk (lite 𝓒) 𝓡.has (Near 𝓒 𝓡)).0 (carry (λ x. x) (λ x y s t m. one (to-move 𝓒 𝓡 m)) p),
     λ w. from-moves ((path↔walk (lite 𝓒) 𝓡.has (Near 𝓒 𝓡)).1 w) (bare h),

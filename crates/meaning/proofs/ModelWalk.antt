@@ -52,8 +52,8 @@ module _ (𝓒 : Collection) (B : Concept) where
   walk→loop (go (by C k l) w) = twice (loop-above l k) (walk→loop w)
 
   -- a loop at B is a path, in the tree grown from one element whose only concept is B, from that element back to it
-  pub loop↔treeOf : (s t : State) → Loop (lite 𝓒) B s t ↔ PathIn 𝓒 (tree_of 𝓒 B) (root tt) s (root tt) t
-  loop↔treeOf s t = (
+  pub loop↔tree_of : (s t : State) → Loop (lite 𝓒) B s t ↔ PathIn 𝓒 (tree_of 𝓒 B) (root tt) s (root tt) t
+  loop↔tree_of s t = (
     λ l. (path↔steps 𝓒 (only 𝓒 B) only_keeps tt tt s t tt).1 (one (by B same l)),
     λ p. walk→loop ((path↔steps 𝓒 (only 𝓒 B) only_keeps tt tt s t tt).0 p),
   )

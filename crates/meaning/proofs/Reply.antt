@@ -15,106 +15,106 @@ use Rattle.laws.specs.Pairs.{pairs}
 use Rattle.laws.specs.Numbers.{numbered}
 use Rattle.laws.specs.Chain.{closed}
 use Rattle.meaning.specs.Collection.{Collection}
-use Rattle.meaning.specs.Lite.{signedRoles, validConcepts, declaredStates}
-use Rattle.meaning.proofs.LiteTests.{sameIndividual, sameState, sameRole, sameConcept, leads, roleLetter, roleLe, conceptLe}
+use Rattle.meaning.specs.Lite.{signed_roles, valid_concepts, declared_states}
+use Rattle.meaning.proofs.LiteTests.{same_individual, same_state, same_role, same_concept, leads, role_letter, role_le, concept_le}
 
-unfoldable pub declaredIndividuals : Counts → List Individual
-declaredIndividuals c = numbered individual c.individuals
+unfoldable pub declared_individuals : Counts → List Individual
+declared_individuals c = numbered individual c.individuals
 
 -- what a fact types of an individual
-unfoldable pub factTypes : Individual → Concept → ConceptName × Individual → Bool
-factTypes a C f = let b = sameConcept (Name f.0) C in and (sameIndividual f.1 a) b
+unfoldable pub fact_types : Individual → Concept → ConceptName × Individual → Bool
+fact_types a C f = let b = same_concept (Name f.0) C in and (same_individual f.1 a) b
 
-unfoldable pub endTypes : Individual → Concept → RoleName × Individual × Individual → Bool
-endTypes a C f =
-    let b = and (sameIndividual f.2 a) (sameConcept (Exists (backward f.0)) C) in
-    or (and (sameIndividual f.1 a) (sameConcept (Exists (forward f.0)) C)) b
+unfoldable pub end_types : Individual → Concept → RoleName × Individual × Individual → Bool
+end_types a C f =
+    let b = and (same_individual f.2 a) (same_concept (Exists (backward f.0)) C) in
+    or (and (same_individual f.1 a) (same_concept (Exists (forward f.0)) C)) b
 
 module _ (𝓒 : Collection) where
-  unfoldable pub isTyped : Individual → Concept → Bool
-  isTyped a C = let b = any 𝓒.role-facts (endTypes a C) in or (any 𝓒.concept-facts (factTypes a C)) b
+  unfoldable pub is_typed : Individual → Concept → Bool
+  is_typed a C = let b = any 𝓒.role-facts (end_types a C) in or (any 𝓒.concept-facts (fact_types a C)) b
 
-  unfoldable pub typedTo : Individual → Concept → Concept → Bool
-  typedTo a D C = let b = conceptLe 𝓒 C D in and (isTyped a C) b
+  unfoldable pub typed_to : Individual → Concept → Concept → Bool
+  typed_to a D C = let b = concept_le 𝓒 C D in and (is_typed a C) b
 
-  unfoldable pub individualHas : Individual → Concept → Bool
-  individualHas a D = any (validConcepts 𝓒.counts) (typedTo a D)
+  unfoldable pub individual_has : Individual → Concept → Bool
+  individual_has a D = any (valid_concepts 𝓒.counts) (typed_to a D)
 
   -- a fact joins a to b by S, forwards or backwards
-  unfoldable pub joinsBy : Individual → SignedRole → Individual → RoleName × Individual × Individual → Bool
-  joinsBy a S b f =
-      let x = and (sameIndividual f.2 b) (roleLe 𝓒 (forward f.0) S) in
-      let y = and (sameIndividual f.1 b) (roleLe 𝓒 (forward f.0) (inverse S)) in
-      let z = and (sameIndividual f.2 a) y in
-      or (and (sameIndividual f.1 a) x) z
+  unfoldable pub joins_by : Individual → SignedRole → Individual → RoleName × Individual × Individual → Bool
+  joins_by a S b f =
+      let x = and (same_individual f.2 b) (role_le 𝓒 (forward f.0) S) in
+      let y = and (same_individual f.1 b) (role_le 𝓒 (forward f.0) (inverse S)) in
+      let z = and (same_individual f.2 a) y in
+      or (and (same_individual f.1 a) x) z
 
-  unfoldable pub factEdge : Individual → SignedRole → Individual → Bool
-  factEdge a S b = any 𝓒.role-facts (joinsBy a S b)
+  unfoldable pub fact_edge : Individual → SignedRole → Individual → Bool
+  fact_edge a S b = any 𝓒.role-facts (joins_by a S b)
 
   -- a row that ends in R may go on with S
   unfoldable pub follows : SignedRole → SignedRole → Bool
-  follows R S = let b = conceptLe 𝓒 (Exists (inverse R)) (Exists S) in or (sameRole R S) b
+  follows R S = let b = concept_le 𝓒 (Exists (inverse R)) (Exists S) in or (same_role R S) b
 
   -- a signed role by which some unnamed element ends
-  unfoldable pub aliveBy : SignedRole → Individual → SignedRole → Bool
-  aliveBy R a Q = let b = closed sameRole (signedRoles 𝓒.counts) follows Q R in and (individualHas a (Exists Q)) b
+  unfoldable pub alive_by : SignedRole → Individual → SignedRole → Bool
+  alive_by R a Q = let b = closed same_role (signed_roles 𝓒.counts) follows Q R in and (individual_has a (Exists Q)) b
 
-  unfoldable pub aliveAt : SignedRole → Individual → Bool
-  aliveAt R a = any (signedRoles 𝓒.counts) (aliveBy R a)
+  unfoldable pub alive_at : SignedRole → Individual → Bool
+  alive_at R a = any (signed_roles 𝓒.counts) (alive_by R a)
 
   unfoldable pub alive : SignedRole → Bool
-  alive R = any (declaredIndividuals 𝓒.counts) (aliveAt R)
+  alive R = any (declared_individuals 𝓒.counts) (alive_at R)
 
   -- a concept exclusion broken at an individual, or at unnamed elements that end in R
-  unfoldable pub clashAt : Concept × Concept → Individual → Bool
-  clashAt p a = let b = individualHas a p.1 in and (individualHas a p.0) b
+  unfoldable pub clash_at : Concept × Concept → Individual → Bool
+  clash_at p a = let b = individual_has a p.1 in and (individual_has a p.0) b
 
-  unfoldable pub clashUnder : Concept × Concept → SignedRole → Bool
-  clashUnder p R =
+  unfoldable pub clash_under : Concept × Concept → SignedRole → Bool
+  clash_under p R =
       let c = alive R in
-      let b = and (conceptLe 𝓒 (Exists (inverse R)) p.1) c in
-      and (conceptLe 𝓒 (Exists (inverse R)) p.0) b
+      let b = and (concept_le 𝓒 (Exists (inverse R)) p.1) c in
+      and (concept_le 𝓒 (Exists (inverse R)) p.0) b
 
-  unfoldable pub conceptClash : Concept × Concept → Bool
-  conceptClash p = let b = any (signedRoles 𝓒.counts) (clashUnder p) in or (any (declaredIndividuals 𝓒.counts) (clashAt p)) b
+  unfoldable pub concept_clash : Concept × Concept → Bool
+  concept_clash p = let b = any (signed_roles 𝓒.counts) (clash_under p) in or (any (declared_individuals 𝓒.counts) (clash_at p)) b
 
   -- a role exclusion broken at a pair joined by a fact, or at an element and its child by Q
-  unfoldable pub clashBetween : SignedRole × SignedRole → Individual × Individual → Bool
-  clashBetween p q = let b = factEdge q.0 p.1 q.1 in and (factEdge q.0 p.0 q.1) b
+  unfoldable pub clash_between : SignedRole × SignedRole → Individual × Individual → Bool
+  clash_between p q = let b = fact_edge q.0 p.1 q.1 in and (fact_edge q.0 p.0 q.1) b
 
-  unfoldable pub clashBelow : SignedRole × SignedRole → SignedRole → Bool
-  clashBelow p Q =
+  unfoldable pub clash_below : SignedRole × SignedRole → SignedRole → Bool
+  clash_below p Q =
       let c = alive Q in
-      let b = and (roleLe 𝓒 Q p.1) c in
-      and (roleLe 𝓒 Q p.0) b
+      let b = and (role_le 𝓒 Q p.1) c in
+      and (role_le 𝓒 Q p.0) b
 
-  unfoldable pub roleClash : SignedRole × SignedRole → Bool
-  roleClash p =
-      let c = any (signedRoles 𝓒.counts) (clashBelow (inverse p.0, inverse p.1)) in
-      let b = or (any (signedRoles 𝓒.counts) (clashBelow p)) c in
-      or (any (pairs (declaredIndividuals 𝓒.counts) (declaredIndividuals 𝓒.counts)) (clashBetween p)) b
+  unfoldable pub role_clash : SignedRole × SignedRole → Bool
+  role_clash p =
+      let c = any (signed_roles 𝓒.counts) (clash_below (inverse p.0, inverse p.1)) in
+      let b = or (any (signed_roles 𝓒.counts) (clash_below p)) c in
+      or (any (pairs (declared_individuals 𝓒.counts) (declared_individuals 𝓒.counts)) (clash_between p)) b
 
   unfoldable pub clash : Bool
-  clash = let b = any 𝓒.role-exclusions roleClash in or (any 𝓒.concept-exclusions conceptClash) b
+  clash = let b = any 𝓒.role-exclusions role_clash in or (any 𝓒.concept-exclusions concept_clash) b
 
   -- the individuals' walk over a closed sheet
   unfoldable pub marked : (State → State → Concept → Bool) → Individual → State → State → Concept → Bool
-  marked f a s t B = let b = individualHas a B in and (f s t B) b
+  marked f a s t B = let b = individual_has a B in and (f s t B) b
 
   unfoldable pub stride : (State → State → Concept → Bool) → Individual × State → Individual × State → Bool
   stride f p q =
       let s = p.1 in
       let t = q.1 in
-      let x = any 𝓒.steps (leads s t (roleLetter (λ S. factEdge p.0 S q.0))) in
-      let y = any (validConcepts 𝓒.counts) (marked f p.0 s t) in
-      let z = and (sameIndividual p.0 q.0) (or (sameState s t) y) in
+      let x = any 𝓒.steps (leads s t (role_letter (λ S. fact_edge p.0 S q.0))) in
+      let y = any (valid_concepts 𝓒.counts) (marked f p.0 s t) in
+      let z = and (same_individual p.0 q.0) (or (same_state s t) y) in
       or z x
 
   unfoldable pub walks : (State → State → Concept → Bool) → Individual × State → Individual × State → Bool
-  walks f = closed (both sameIndividual sameState) (pairs (declaredIndividuals 𝓒.counts) (declaredStates 𝓒.counts)) (stride f)
+  walks f = closed (both same_individual same_state) (pairs (declared_individuals 𝓒.counts) (declared_states 𝓒.counts)) (stride f)
 
-  unfoldable pub reachesIn : (State → State → Concept → Bool) → Individual → Individual → State → Bool
-  reachesIn f a b t = walks f (a, 𝓒.counts.start) (b, t)
+  unfoldable pub reaches_in : (State → State → Concept → Bool) → Individual → Individual → State → Bool
+  reaches_in f a b t = walks f (a, 𝓒.counts.start) (b, t)
 
   unfoldable pub reaches : (State → State → Concept → Bool) → Individual → Individual → Bool
-  reaches f a b = any 𝓒.finals (reachesIn f a b)
+  reaches f a b = any 𝓒.finals (reaches_in f a b)

@@ -20,121 +20,121 @@ use Rattle.laws.specs.Chain.{Chain, link, chain, closed_in, closed-out}
 use Rattle.meaning.specs.Collection.{Collection, WellFormed}
 use Rattle.meaning.specs.Run.{stop, go, one, join}
 use Rattle.meaning.specs.Tree.{Loop, here, tested, twice, below, along, by}
-use Rattle.meaning.specs.Lite.{validConcepts, declaredStates, lite}
+use Rattle.meaning.specs.Lite.{valid_concepts, declared_states, lite}
 use Rattle.meaning.specs.Model.{Typed, named, first, second, IndividualHas, FactEdge, ahead, behind}
 use Rattle.meaning.specs.Question.{Yes}
 use Rattle.meaning.proofs.ModelWalk.{edge-declared, IndividualsWalk, path↔individuals-walk}
 use Rattle.meaning.proofs.Declared.{concept-in, state-in, concept-declared, role-step-to, test-step-to}
-use Rattle.meaning.proofs.LiteTests.{sameIndividual, sameState, sameConcept, individual-same, state-same, concept-same, leads, roleLetter, roleLe, roleLe-in, roleLe-out, conceptLe, conceptLe-in, conceptLe-out, role-step-in, role-step-out}
-use Rattle.meaning.proofs.Reply.{declaredIndividuals, factTypes, endTypes, isTyped, typedTo, individualHas, joinsBy, factEdge, marked, stride, walks, reachesIn, reaches}
+use Rattle.meaning.proofs.LiteTests.{same_individual, same_state, same_concept, individual-same, state-same, concept-same, leads, role_letter, role_le, role_le-in, role_le-out, concept_le, concept_le-in, concept_le-out, role-step-in, role-step-out}
+use Rattle.meaning.proofs.Reply.{declared_individuals, fact_types, end_types, is_typed, typed_to, individual_has, joins_by, fact_edge, marked, stride, walks, reaches_in, reaches}
 
-pub individual-in : (c : Counts) (a : Individual) → IndividualDeclared c a → a ∈ declaredIndividuals c
-unfolding declaredIndividuals
+pub individual-in : (c : Counts) (a : Individual) → IndividualDeclared c a → a ∈ declared_individuals c
+unfolding declared_individuals
 individual-in c a h = numbered-in individual c.individuals a.0 h
 
-pub individual-out : (c : Counts) (a : Individual) → a ∈ declaredIndividuals c → IndividualDeclared c a
-unfolding declaredIndividuals
+pub individual-out : (c : Counts) (a : Individual) → a ∈ declared_individuals c → IndividualDeclared c a
+unfolding declared_individuals
 individual-out c a m = let w = numbered-out individual c.individuals m in rw w.2 w.1
 
 module _ (𝓒 : Collection) (ok : WellFormed 𝓒) where
-  typed-out : (a : Individual) (C : Concept) → T (isTyped 𝓒 a C) → Typed 𝓒 a C
-  unfolding isTyped factTypes endTypes
-  typed-out a C h = side (or_case (any 𝓒.concept-facts (factTypes a C)) _ h)
+  typed-out : (a : Individual) (C : Concept) → T (is_typed 𝓒 a C) → Typed 𝓒 a C
+  unfolding is_typed fact_types end_types
+  typed-out a C h = side (or_case (any 𝓒.concept-facts (fact_types a C)) _ h)
     where
-      by_name : (f : ConceptName × Individual) → f ∈ 𝓒.concept-facts → T (factTypes a C f) → Typed 𝓒 a C
+      by_name : (f : ConceptName × Individual) → f ∈ 𝓒.concept-facts → T (fact_types a C f) → Typed 𝓒 a C
       by_name f m k =
-          let e = individual-same.is f.1 a (and_left (sameIndividual f.1 a) (sameConcept (Name f.0) C) k) in
-          let g = concept-same.is (Name f.0) C (and_right (sameIndividual f.1 a) (sameConcept (Name f.0) C) k) in
+          let e = individual-same.is f.1 a (and_left (same_individual f.1 a) (same_concept (Name f.0) C) k) in
+          let g = concept-same.is (Name f.0) C (and_right (same_individual f.1 a) (same_concept (Name f.0) C) k) in
           rw (← e, ← g) (named m)
 
       by_end : (f : RoleName × Individual × Individual) → f ∈ 𝓒.role-facts
-          → T (and (sameIndividual f.1 a) (sameConcept (Exists (forward f.0)) C)) ⊎ T (and (sameIndividual f.2 a) (sameConcept (Exists (backward f.0)) C))
+          → T (and (same_individual f.1 a) (same_concept (Exists (forward f.0)) C)) ⊎ T (and (same_individual f.2 a) (same_concept (Exists (backward f.0)) C))
           → Typed 𝓒 a C
       by_end f m (inl k) =
-          let e = individual-same.is f.1 a (and_left (sameIndividual f.1 a) (sameConcept (Exists (forward f.0)) C) k) in
-          let g = concept-same.is (Exists (forward f.0)) C (and_right (sameIndividual f.1 a) (sameConcept (Exists (forward f.0)) C) k) in
+          let e = individual-same.is f.1 a (and_left (same_individual f.1 a) (same_concept (Exists (forward f.0)) C) k) in
+          let g = concept-same.is (Exists (forward f.0)) C (and_right (same_individual f.1 a) (same_concept (Exists (forward f.0)) C) k) in
           rw (← e, ← g) (first m)
       by_end f m (inr k) =
-          let e = individual-same.is f.2 a (and_left (sameIndividual f.2 a) (sameConcept (Exists (backward f.0)) C) k) in
-          let g = concept-same.is (Exists (backward f.0)) C (and_right (sameIndividual f.2 a) (sameConcept (Exists (backward f.0)) C) k) in
+          let e = individual-same.is f.2 a (and_left (same_individual f.2 a) (same_concept (Exists (backward f.0)) C) k) in
+          let g = concept-same.is (Exists (backward f.0)) C (and_right (same_individual f.2 a) (same_concept (Exists (backward f.0)) C) k) in
           rw (← e, ← g) (second m)
 
-      side : T (any 𝓒.concept-facts (factTypes a C)) ⊎ T (any 𝓒.role-facts (endTypes a C)) → Typed 𝓒 a C
-      side (inl k) = let w = any_out 𝓒.concept-facts (factTypes a C) k in by_name w.0 w.1 w.2
+      side : T (any 𝓒.concept-facts (fact_types a C)) ⊎ T (any 𝓒.role-facts (end_types a C)) → Typed 𝓒 a C
+      side (inl k) = let w = any_out 𝓒.concept-facts (fact_types a C) k in by_name w.0 w.1 w.2
       side (inr k) =
-          let w = any_out 𝓒.role-facts (endTypes a C) k in
-          by_end w.0 w.1 (or_case (and (sameIndividual w.0.1 a) (sameConcept (Exists (forward w.0.0)) C)) _ w.2)
+          let w = any_out 𝓒.role-facts (end_types a C) k in
+          by_end w.0 w.1 (or_case (and (same_individual w.0.1 a) (same_concept (Exists (forward w.0.0)) C)) _ w.2)
 
-  typed-in : {a : Individual} {C : Concept} → Typed 𝓒 a C → T (isTyped 𝓒 a C)
-  unfolding isTyped factTypes endTypes
+  typed-in : {a : Individual} {C : Concept} → Typed 𝓒 a C → T (is_typed 𝓒 a C)
+  unfolding is_typed fact_types end_types
   typed-in (named {A = A} {a = a} m) =
-      or_left (any 𝓒.concept-facts (factTypes a (Name A))) _
-      (any-in 𝓒.concept-facts (factTypes a (Name A)) m (and_both (sameIndividual a a) _ (individual-same.self a) (concept-same.self (Name A))))
+      or_left (any 𝓒.concept-facts (fact_types a (Name A))) _
+      (any-in 𝓒.concept-facts (fact_types a (Name A)) m (and_both (same_individual a a) _ (individual-same.self a) (concept-same.self (Name A))))
   typed-in (first {r = r} {a = a} {b = b} m) =
-      or_right (any 𝓒.concept-facts (factTypes a (Exists (forward r)))) _
-      (any-in 𝓒.role-facts (endTypes a (Exists (forward r))) m
-      (or_left (and (sameIndividual a a) (sameConcept (Exists (forward r)) (Exists (forward r)))) _ (and_both (sameIndividual a a) _ (individual-same.self a) (concept-same.self (Exists (forward r))))))
+      or_right (any 𝓒.concept-facts (fact_types a (Exists (forward r)))) _
+      (any-in 𝓒.role-facts (end_types a (Exists (forward r))) m
+      (or_left (and (same_individual a a) (same_concept (Exists (forward r)) (Exists (forward r)))) _ (and_both (same_individual a a) _ (individual-same.self a) (concept-same.self (Exists (forward r))))))
   typed-in (second {r = r} {a = a} {b = b} m) =
-      or_right (any 𝓒.concept-facts (factTypes b (Exists (backward r)))) _
-      (any-in 𝓒.role-facts (endTypes b (Exists (backward r))) m
-      (or_right (and (sameIndividual a b) (sameConcept (Exists (forward r)) (Exists (backward r)))) _ (and_both (sameIndividual b b) _ (individual-same.self b) (concept-same.self (Exists (backward r))))))
+      or_right (any 𝓒.concept-facts (fact_types b (Exists (backward r)))) _
+      (any-in 𝓒.role-facts (end_types b (Exists (backward r))) m
+      (or_right (and (same_individual a b) (same_concept (Exists (forward r)) (Exists (backward r)))) _ (and_both (same_individual b b) _ (individual-same.self b) (concept-same.self (Exists (backward r))))))
 
   typed-concept : {a : Individual} {C : Concept} → Typed 𝓒 a C → ConceptDeclared 𝓒.counts C
   typed-concept (named {A = A} {a = a} m) = (ok.numbers.concept-facts (A, a) m).0
   typed-concept (first {r = r} {a = a} {b = b} m) = omega (arith, (ok.numbers.role-facts (r, a, b) m).0)
   typed-concept (second {r = r} {a = a} {b = b} m) = omega (arith, (ok.numbers.role-facts (r, a, b) m).0)
 
-  pub individualHas-out : (a : Individual) (D : Concept) → T (individualHas 𝓒 a D) → IndividualHas 𝓒 a D
-  unfolding individualHas typedTo
-  individualHas-out a D h =
-      let w = any_out (validConcepts 𝓒.counts) (typedTo 𝓒 a D) h in
+  pub individual_has-out : (a : Individual) (D : Concept) → T (individual_has 𝓒 a D) → IndividualHas 𝓒 a D
+  unfolding individual_has typed_to
+  individual_has-out a D h =
+      let w = any_out (valid_concepts 𝓒.counts) (typed_to 𝓒 a D) h in
       let C = w.0 in
-      (C, typed-out a C (and_left (isTyped 𝓒 a C) (conceptLe 𝓒 C D) w.2), conceptLe-out 𝓒 ok.numbers C D (and_right (isTyped 𝓒 a C) (conceptLe 𝓒 C D) w.2))
+      (C, typed-out a C (and_left (is_typed 𝓒 a C) (concept_le 𝓒 C D) w.2), concept_le-out 𝓒 ok.numbers C D (and_right (is_typed 𝓒 a C) (concept_le 𝓒 C D) w.2))
 
-  pub individualHas-in : (a : Individual) (D : Concept) → IndividualHas 𝓒 a D → T (individualHas 𝓒 a D)
-  unfolding individualHas typedTo
-  individualHas-in a D h =
+  pub individual_has-in : (a : Individual) (D : Concept) → IndividualHas 𝓒 a D → T (individual_has 𝓒 a D)
+  unfolding individual_has typed_to
+  individual_has-in a D h =
       let C = h.0 in
       let d = typed-concept h.1 in
-      any-in (validConcepts 𝓒.counts) (typedTo 𝓒 a D) (concept-in 𝓒.counts C d) (and_both (isTyped 𝓒 a C) (conceptLe 𝓒 C D) (typed-in h.1) (conceptLe-in 𝓒 ok.numbers C D d h.2))
+      any-in (valid_concepts 𝓒.counts) (typed_to 𝓒 a D) (concept-in 𝓒.counts C d) (and_both (is_typed 𝓒 a C) (concept_le 𝓒 C D) (typed-in h.1) (concept_le-in 𝓒 ok.numbers C D d h.2))
 
   pub has-declared : (a : Individual) (B : Concept) → IndividualHas 𝓒 a B → ConceptDeclared 𝓒.counts B
   has-declared a B h = concept-declared 𝓒 ok.numbers h.2 (typed-concept h.1)
 
-  pub edge-out : (a : Individual) (S : SignedRole) (b : Individual) → T (factEdge 𝓒 a S b) → FactEdge 𝓒 a S b
-  unfolding factEdge joinsBy
+  pub edge-out : (a : Individual) (S : SignedRole) (b : Individual) → T (fact_edge 𝓒 a S b) → FactEdge 𝓒 a S b
+  unfolding fact_edge joins_by
   edge-out a S b h =
-      let w = any_out 𝓒.role-facts (joinsBy 𝓒 a S b) h in
+      let w = any_out 𝓒.role-facts (joins_by 𝓒 a S b) h in
       let f = w.0 in
-      side f w.1 (or_case (and (sameIndividual f.1 a) (and (sameIndividual f.2 b) (roleLe 𝓒 (forward f.0) S))) _ w.2)
+      side f w.1 (or_case (and (same_individual f.1 a) (and (same_individual f.2 b) (role_le 𝓒 (forward f.0) S))) _ w.2)
     where
       side : (f : RoleName × Individual × Individual) → f ∈ 𝓒.role-facts
-          → T (and (sameIndividual f.1 a) (and (sameIndividual f.2 b) (roleLe 𝓒 (forward f.0) S))) ⊎ T (and (sameIndividual f.2 a) (and (sameIndividual f.1 b) (roleLe 𝓒 (forward f.0) (inverse S))))
+          → T (and (same_individual f.1 a) (and (same_individual f.2 b) (role_le 𝓒 (forward f.0) S))) ⊎ T (and (same_individual f.2 a) (and (same_individual f.1 b) (role_le 𝓒 (forward f.0) (inverse S))))
           → FactEdge 𝓒 a S b
       side f m (inl k) =
-          let l = roleLe 𝓒 (forward f.0) S in
-          let q = and_right (sameIndividual f.1 a) (and (sameIndividual f.2 b) l) k in
-          let e = individual-same.is f.1 a (and_left (sameIndividual f.1 a) (and (sameIndividual f.2 b) l) k) in
-          let g = individual-same.is f.2 b (and_left (sameIndividual f.2 b) l q) in
-          rw (← e, ← g) (ahead m (roleLe-out 𝓒 ok.numbers (forward f.0) S (and_right (sameIndividual f.2 b) l q)))
+          let l = role_le 𝓒 (forward f.0) S in
+          let q = and_right (same_individual f.1 a) (and (same_individual f.2 b) l) k in
+          let e = individual-same.is f.1 a (and_left (same_individual f.1 a) (and (same_individual f.2 b) l) k) in
+          let g = individual-same.is f.2 b (and_left (same_individual f.2 b) l q) in
+          rw (← e, ← g) (ahead m (role_le-out 𝓒 ok.numbers (forward f.0) S (and_right (same_individual f.2 b) l q)))
       side f m (inr k) =
-          let l = roleLe 𝓒 (forward f.0) (inverse S) in
-          let q = and_right (sameIndividual f.2 a) (and (sameIndividual f.1 b) l) k in
-          let e = individual-same.is f.2 a (and_left (sameIndividual f.2 a) (and (sameIndividual f.1 b) l) k) in
-          let g = individual-same.is f.1 b (and_left (sameIndividual f.1 b) l q) in
-          let x : FactEdge 𝓒 f.2 (inverse (inverse S)) f.1 = behind m (roleLe-out 𝓒 ok.numbers (forward f.0) (inverse S) (and_right (sameIndividual f.1 b) l q)) in
+          let l = role_le 𝓒 (forward f.0) (inverse S) in
+          let q = and_right (same_individual f.2 a) (and (same_individual f.1 b) l) k in
+          let e = individual-same.is f.2 a (and_left (same_individual f.2 a) (and (same_individual f.1 b) l) k) in
+          let g = individual-same.is f.1 b (and_left (same_individual f.1 b) l q) in
+          let x : FactEdge 𝓒 f.2 (inverse (inverse S)) f.1 = behind m (role_le-out 𝓒 ok.numbers (forward f.0) (inverse S) (and_right (same_individual f.1 b) l q)) in
           rw (inverse-inverse S, e, g) at x
 
-  pub edge_in : {a b : Individual} {S : SignedRole} → FactEdge 𝓒 a S b → T (factEdge 𝓒 a S b)
-  unfolding factEdge joinsBy
+  pub edge_in : {a b : Individual} {S : SignedRole} → FactEdge 𝓒 a S b → T (fact_edge 𝓒 a S b)
+  unfolding fact_edge joins_by
   edge_in (ahead {r = r} {a = a} {b = b} {S = S} m l) =
-      any-in 𝓒.role-facts (joinsBy 𝓒 a S b) m (or_left (and (sameIndividual a a) _) _ (and_both (sameIndividual a a) _ (individual-same.self a) (and_both (sameIndividual b b) _ (individual-same.self b)
-      (roleLe-in 𝓒 ok.numbers (forward r) S (omega (arith, (ok.numbers.role-facts (r, a, b) m).0)) l))))
+      any-in 𝓒.role-facts (joins_by 𝓒 a S b) m (or_left (and (same_individual a a) _) _ (and_both (same_individual a a) _ (individual-same.self a) (and_both (same_individual b b) _ (individual-same.self b)
+      (role_le-in 𝓒 ok.numbers (forward r) S (omega (arith, (ok.numbers.role-facts (r, a, b) m).0)) l))))
   edge_in (behind {r = r} {a = a} {b = b} {S = S} m l) =
-      any-in 𝓒.role-facts (joinsBy 𝓒 b (inverse S) a) m (or_right (and (sameIndividual a b) _) _ (and_both (sameIndividual b b) _ (individual-same.self b) (and_both (sameIndividual a a) _ (individual-same.self a)
-      (rw (inverse-inverse S) (roleLe-in 𝓒 ok.numbers (forward r) S (omega (arith, (ok.numbers.role-facts (r, a, b) m).0)) l)))))
+      any-in 𝓒.role-facts (joins_by 𝓒 b (inverse S) a) m (or_right (and (same_individual a b) _) _ (and_both (same_individual b b) _ (individual-same.self b) (and_both (same_individual a a) _ (individual-same.self a)
+      (rw (inverse-inverse S) (role_le-in 𝓒 ok.numbers (forward r) S (omega (arith, (ok.numbers.role-facts (r, a, b) m).0)) l)))))
 
-  loop-state : {B : Concept} {s t : State} → Loop (lite 𝓒) B s t → s ∈ declaredStates 𝓒.counts → t ∈ declaredStates 𝓒.counts
+  loop-state : {B : Concept} {s t : State} → Loop (lite 𝓒) B s t → s ∈ declared_states 𝓒.counts → t ∈ declared_states 𝓒.counts
   loop-state here m = m
   loop-state (tested {s = s} {t = t} e) m = test-step-to 𝓒 ok.numbers s e.0 t e.1
   loop-state (twice l k) m = loop-state k (loop-state l m)
@@ -142,47 +142,47 @@ module _ (𝓒 : Collection) (ok : WellFormed 𝓒) where
 
   -- over any sheet that holds the loops
   module _ (f : State → State → Concept → Bool)
-      (mark-out : (s t : State) (B : Concept) → s ∈ declaredStates 𝓒.counts → B ∈ validConcepts 𝓒.counts → T (f s t B) → Loop (lite 𝓒) B s t)
-      (mark-in : (s t : State) (B : Concept) → s ∈ declaredStates 𝓒.counts → B ∈ validConcepts 𝓒.counts → Loop (lite 𝓒) B s t → T (f s t B)) where
+      (mark-out : (s t : State) (B : Concept) → s ∈ declared_states 𝓒.counts → B ∈ valid_concepts 𝓒.counts → T (f s t B) → Loop (lite 𝓒) B s t)
+      (mark-in : (s t : State) (B : Concept) → s ∈ declared_states 𝓒.counts → B ∈ valid_concepts 𝓒.counts → Loop (lite 𝓒) B s t → T (f s t B)) where
     abbrev nodes : List (Individual × State)
-    nodes = pairs (declaredIndividuals 𝓒.counts) (declaredStates 𝓒.counts)
+    nodes = pairs (declared_individuals 𝓒.counts) (declared_states 𝓒.counts)
 
     abbrev Links : Individual × State → Individual × State → Type 0
     Links p q = T (stride 𝓒 f p q)
 
-    abbrev marksAt : Individual × State → Individual × State → Bool
-    marksAt p q = any (validConcepts 𝓒.counts) (marked 𝓒 f p.0 p.1 q.1)
+    abbrev marks_at : Individual × State → Individual × State → Bool
+    marks_at p q = any (valid_concepts 𝓒.counts) (marked 𝓒 f p.0 p.1 q.1)
 
-    abbrev stepsAt : Individual × State → Individual × State → Bool
-    stepsAt p q = any 𝓒.steps (leads p.1 q.1 (roleLetter (λ S. factEdge 𝓒 p.0 S q.0)))
+    abbrev steps_at : Individual × State → Individual × State → Bool
+    steps_at p q = any 𝓒.steps (leads p.1 q.1 (role_letter (λ S. fact_edge 𝓒 p.0 S q.0)))
 
     abbrev Found : Individual × State → Individual × State → Type 0
     Found p q = (q ∈ nodes) × IndividualsWalk 𝓒 ok p.0 p.1 q.0 q.1
 
     stride-out : (p q : Individual × State) → p ∈ nodes → Links p q → Found p q
     unfolding stride marked
-    stride-out p q m h = side (or_case (and (sameIndividual p.0 q.0) (or (sameState p.1 q.1) (marksAt p q))) _ h)
+    stride-out p q m h = side (or_case (and (same_individual p.0 q.0) (or (same_state p.1 q.1) (marks_at p q))) _ h)
       where
-        known : (p.0 ∈ declaredIndividuals 𝓒.counts) × (p.1 ∈ declaredStates 𝓒.counts)
-        known = pairs-out (declaredIndividuals 𝓒.counts) (declaredStates 𝓒.counts) m
+        known : (p.0 ∈ declared_individuals 𝓒.counts) × (p.1 ∈ declared_states 𝓒.counts)
+        known = pairs-out (declared_individuals 𝓒.counts) (declared_states 𝓒.counts) m
 
-        at_home : p.0 ≡ q.0 → T (sameState p.1 q.1) ⊎ T (marksAt p q) → Found p q
+        at_home : p.0 ≡ q.0 → T (same_state p.1 q.1) ⊎ T (marks_at p q) → Found p q
         at_home e (inl k) =
             let g = state-same.is p.1 q.1 k in
             (pairs-in (rw e at known.0) (rw g at known.1), rw (e, g) stop)
         at_home e (inr k) =
-            let w = any_out (validConcepts 𝓒.counts) (marked 𝓒 f p.0 p.1 q.1) k in
+            let w = any_out (valid_concepts 𝓒.counts) (marked 𝓒 f p.0 p.1 q.1) k in
             let B = w.0 in
-            let i = individualHas-out p.0 B (and_right (f p.1 q.1 B) (individualHas 𝓒 p.0 B) w.2) in
-            let l = mark-out p.1 q.1 B known.1 w.1 (and_left (f p.1 q.1 B) (individualHas 𝓒 p.0 B) w.2) in
+            let i = individual_has-out p.0 B (and_right (f p.1 q.1 B) (individual_has 𝓒 p.0 B) w.2) in
+            let l = mark-out p.1 q.1 B known.1 w.1 (and_left (f p.1 q.1 B) (individual_has 𝓒 p.0 B) w.2) in
             (pairs-in (rw e at known.0) (loop-state l known.1), rw (← e) (one (by B i l)))
 
-        side : T (and (sameIndividual p.0 q.0) (or (sameState p.1 q.1) (marksAt p q))) ⊎ T (stepsAt p q) → Found p q
+        side : T (and (same_individual p.0 q.0) (or (same_state p.1 q.1) (marks_at p q))) ⊎ T (steps_at p q) → Found p q
         side (inl k) =
-            let o = or (sameState p.1 q.1) (marksAt p q) in
-            at_home (individual-same.is p.0 q.0 (and_left (sameIndividual p.0 q.0) o k)) (or_case (sameState p.1 q.1) _ (and_right (sameIndividual p.0 q.0) o k))
+            let o = or (same_state p.1 q.1) (marks_at p q) in
+            at_home (individual-same.is p.0 q.0 (and_left (same_individual p.0 q.0) o k)) (or_case (same_state p.1 q.1) _ (and_right (same_individual p.0 q.0) o k))
         side (inr k) =
-            let w = role-step-out 𝓒 p.1 q.1 (λ S. factEdge 𝓒 p.0 S q.0) k in
+            let w = role-step-out 𝓒 p.1 q.1 (λ S. fact_edge 𝓒 p.0 S q.0) k in
             let e = edge-out p.0 w.0 q.0 w.2 in
             (pairs-in (individual-in 𝓒.counts q.0 (edge-declared 𝓒 ok e).1) (role-step-to 𝓒 ok.numbers p.1 w.0 q.1 w.1), one (along (w.0, w.1, e)))
 
@@ -195,41 +195,41 @@ module _ (𝓒 : Collection) (ok : WellFormed 𝓒) where
 
     rests : (a : Individual) (s : State) → Links (a, s) (a, s)
     unfolding stride
-    rests a s = or_left (and (sameIndividual a a) _) _ (and_both (sameIndividual a a) _ (individual-same.self a) (or_left (sameState s s) _ (state-same.self s)))
+    rests a s = or_left (and (same_individual a a) _) _ (and_both (same_individual a a) _ (individual-same.self a) (or_left (same_state s s) _ (state-same.self s)))
 
-    walk→chain : {a b : Individual} {s t : State} → IndividualsWalk 𝓒 ok a s b t → s ∈ declaredStates 𝓒.counts → Chain Links (a, s) (b, t)
+    walk→chain : {a b : Individual} {s t : State} → IndividualsWalk 𝓒 ok a s b t → s ∈ declared_states 𝓒.counts → Chain Links (a, s) (b, t)
     unfolding stride marked
     walk→chain (stop {x = a} {s = s}) m = link (rests a s)
     walk→chain (go (along {a = a} {b = b} {s = s} {t = t} e) w) m =
-        chain {y = (b, t)} (link (or_right (and (sameIndividual a b) _) _ (role-step-in 𝓒 s t (λ S. factEdge 𝓒 a S b) e.0 e.1 (edge_in e.2))))
+        chain {y = (b, t)} (link (or_right (and (same_individual a b) _) _ (role-step-in 𝓒 s t (λ S. fact_edge 𝓒 a S b) e.0 e.1 (edge_in e.2))))
         (walk→chain w (role-step-to 𝓒 ok.numbers s e.0 t e.1))
     walk→chain (go (by {a = a} {s = s} {t = t} B e l) w) m =
         let d = concept-in 𝓒.counts B (has-declared a B e) in
-        chain {y = (a, t)} (link (or_left (and (sameIndividual a a) _) _ (and_both (sameIndividual a a) _ (individual-same.self a) (or_right (sameState s t) _
-        (any-in (validConcepts 𝓒.counts) (marked 𝓒 f a s t) d (and_both (f s t B) (individualHas 𝓒 a B) (mark-in s t B m d l) (individualHas-in a B e)))))))
+        chain {y = (a, t)} (link (or_left (and (same_individual a a) _) _ (and_both (same_individual a a) _ (individual-same.self a) (or_right (same_state s t) _
+        (any-in (valid_concepts 𝓒.counts) (marked 𝓒 f a s t) d (and_both (f s t B) (individual_has 𝓒 a B) (mark-in s t B m d l) (individual_has-in a B e)))))))
         (walk→chain w (loop-state l m))
 
     stride-to : (p q : Individual × State) → p ∈ nodes → Links p q → q ∈ nodes
     stride-to p q m h = (stride-out p q m h).0
 
-    walks-is : (a b : Individual) (s t : State) → a ∈ declaredIndividuals 𝓒.counts → s ∈ declaredStates 𝓒.counts
+    walks-is : (a b : Individual) (s t : State) → a ∈ declared_individuals 𝓒.counts → s ∈ declared_states 𝓒.counts
         → T (walks 𝓒 f (a, s) (b, t)) ↔ IndividualsWalk 𝓒 ok a s b t
     unfolding walks
     walks-is a b s t i m =
-        let same = both-same sameIndividual sameState individual-same state-same in (
-          λ k. (chain→walk (closed-out (both sameIndividual sameState) nodes (stride 𝓒 f) same.is stride-to (a, s) (b, t) k) (pairs-in i m)).1,
-          λ w. closed_in (both sameIndividual sameState) nodes (stride 𝓒 f) same.is stride-to (a, s) (b, t) (pairs-in i m) (walk→chain w m),
+        let same = both-same same_individual same_state individual-same state-same in (
+          λ k. (chain→walk (closed-out (both same_individual same_state) nodes (stride 𝓒 f) same.is stride-to (a, s) (b, t) k) (pairs-in i m)).1,
+          λ w. closed_in (both same_individual same_state) nodes (stride 𝓒 f) same.is stride-to (a, s) (b, t) (pairs-in i m) (walk→chain w m),
         )
 
     -- what is computed as yes is yes in the canonical model
     pub reaches-is : (a b : Individual) → IndividualDeclared 𝓒.counts a → T (reaches 𝓒 f a b) ↔ Yes 𝓒 a b
-    unfolding reaches reachesIn
+    unfolding reaches reaches_in
     reaches-is a b i =
         let start = 𝓒.counts.start in
         let m = state-in 𝓒.counts start ok.counts.start in
         let n = individual-in 𝓒.counts a i in (
           λ h.
-              let w = any_out 𝓒.finals (reachesIn 𝓒 f a b) h in
+              let w = any_out 𝓒.finals (reaches_in 𝓒 f a b) h in
               (w.0, w.1, (path↔individuals-walk 𝓒 ok a b start w.0 i).1 ((walks-is a b start w.0 n m).0 w.2)),
-          λ p. any-in 𝓒.finals (reachesIn 𝓒 f a b) p.1 ((walks-is a b start p.0 n m).1 ((path↔individuals-walk 𝓒 ok a b start p.0 i).0 p.2)),
+          λ p. any-in 𝓒.finals (reaches_in 𝓒 f a b) p.1 ((walks-is a b start p.0 n m).1 ((path↔individuals-walk 𝓒 ok a b start p.0 i).0 p.2)),
         )

@@ -1,5 +1,5 @@
 -- Leaving out the child that goes straight back changes no answer.
-use Rattle.std.specs.Prelude.{◌≡◌, refl, Bool, true, false, ◌↔◌}
+use Rattle.std.specs.Prelude.{IsTrue, ◌≡◌, refl, Bool, true, false, ◌↔◌}
 use Rattle.kinds.specs.declared.Individual.{Individual}
 use Rattle.kinds.specs.declared.State.{State}
 use Rattle.kinds.specs.declared.SignedRole.{SignedRole}
@@ -7,18 +7,17 @@ use Rattle.kinds.specs.declared.Concept.{Concept}
 use Rattle.kinds.specs.declared.Concept.TheVariants.{Name, Exists}
 use Rattle.kinds.specs.Kinds.{inverse, inverse-inverse, IndividualDeclared}
 use Rattle.laws.specs.Member.{◌∈◌}
-use Rattle.laws.specs.Exactly.{Exactly}
-use Rattle.laws.specs.Decide.{exactly-not, same-exactly}
+use Rattle.laws.specs.Truth.{test-equals, test-false}
 use Rattle.meaning.specs.Collection.{Collection, WellFormed}
 use Rattle.meaning.specs.Orders.{RoleLe, ConceptLe}
 use Rattle.meaning.specs.Run.{stop, go, one, carry}
 use Rattle.meaning.specs.Tree.{root, ◌▹◌}
-use Rattle.meaning.specs.Model.{Structure, Has, Belongs, Edge, individuals, Element, FactEdge, canonical, Contradiction}
+use Rattle.meaning.specs.Model.{Structure, Has, Belongs, ModelEdge, individuals, Element, FactEdge, canonical, Contradiction}
 use Rattle.meaning.proofs.ModelLaws.{born, has_above}
 use Rattle.meaning.proofs.RoleTurned.{turn}
 use Rattle.meaning.proofs.ModelWalk.{edge-declared}
 use Rattle.meaning.specs.Question.{Going, along-role, at_name, PathIn, Yes}
-use Rattle.meaning.proofs.LiteTests.{sameRole, role_same}
+use Rattle.meaning.proofs.LiteTests.{same_role, role_same}
 
 module _ (𝓒 : Collection) where
   -- S goes straight back from an element: it is the inverse of the role that the element ends in
@@ -31,14 +30,14 @@ module _ (𝓒 : Collection) where
     bare : {a : Individual} → IndividualDeclared 𝓒.counts a → Lean (root a)
     grown : {x : Element 𝓒} {R : SignedRole} → Lean x → Has 𝓒 (individuals 𝓒) x (Exists R) → (GoesBack x R → ⊥) → Lean (x ▹ R)
 
-  -- as `Edge`, between elements that are left
+  -- as `ModelEdge`, between elements that are left
   pub data LeanEdge : Element 𝓒 → SignedRole → Element 𝓒 → Type 0 where
     fact : {a b : Individual} {S : SignedRole} → FactEdge 𝓒 a S b → LeanEdge (root a) S (root b)
     child : {x : Element 𝓒} {R S : SignedRole} → Lean (x ▹ R) → RoleLe 𝓒 R S → LeanEdge x S (x ▹ R)
     parent : {x : Element 𝓒} {R S : SignedRole} → Lean (x ▹ R) → RoleLe 𝓒 R S → LeanEdge (x ▹ R) (inverse S) x
 
-  abbrev pub leanModel : Structure
-  leanModel = record { Thing = Element 𝓒; name = λ x A. Has 𝓒 (individuals 𝓒) x (Name A); edge = LeanEdge }
+  abbrev pub lean_model : Structure
+  lean_model = record { Thing = Element 𝓒; name = λ x A. Has 𝓒 (individuals 𝓒) x (Name A); edge = LeanEdge }
 
   pub data LeanContradiction : Type 0 where
     at-element : (x : Element 𝓒) (C D : Concept) → (C, D) ∈ 𝓒.concept-exclusions → Lean x → Has 𝓒 (individuals 𝓒) x C → Has 𝓒 (individuals 𝓒) x D
@@ -46,19 +45,19 @@ module _ (𝓒 : Collection) where
     at_pair : (x y : Element 𝓒) (R S : SignedRole) → (R, S) ∈ 𝓒.role-exclusions → LeanEdge x R y → LeanEdge x S y → LeanContradiction
 
   abbrev pub LeanYes : Individual → Individual → Type 0
-  LeanYes a b = (t : State) × (t ∈ 𝓒.finals) × PathIn 𝓒 leanModel (root a) 𝓒.counts.start (root b) t
+  LeanYes a b = (t : State) × (t ∈ 𝓒.finals) × PathIn 𝓒 lean_model (root a) 𝓒.counts.start (root b) t
 
   -- what is left was there before
   lean-belongs : {x : Element 𝓒} → Lean x → Belongs 𝓒 (individuals 𝓒) x
   lean-belongs (bare i) = Belongs.bare i
   lean-belongs (grown l h n) = Belongs.grown (lean-belongs l) h
 
-  lean-edge : {x y : Element 𝓒} {S : SignedRole} → LeanEdge x S y → Edge 𝓒 (individuals 𝓒) x S y
-  lean-edge (fact f) = Edge.fact f
-  lean-edge (child l k) = Edge.child (lean-belongs l) k
-  lean-edge (parent l k) = Edge.parent (lean-belongs l) k
+  lean-edge : {x y : Element 𝓒} {S : SignedRole} → LeanEdge x S y → ModelEdge 𝓒 (individuals 𝓒) x S y
+  lean-edge (fact f) = ModelEdge.fact f
+  lean-edge (child l k) = ModelEdge.child (lean-belongs l) k
+  lean-edge (parent l k) = ModelEdge.parent (lean-belongs l) k
 
-  lean-going : {x y : Element 𝓒} {s t : State} → Going 𝓒 leanModel x s y t → Going 𝓒 (canonical 𝓒) x s y t
+  lean-going : {x y : Element 𝓒} {s t : State} → Going 𝓒 lean_model x s y t → Going 𝓒 (canonical 𝓒) x s y t
   lean-going (along-role S e g) = along-role S e (lean-edge g)
   lean-going (at_name A e h) = at_name A e h
 
@@ -72,11 +71,11 @@ module _ (𝓒 : Collection) where
 
   next : (y : Element 𝓒) (R : SignedRole) → (z : Element 𝓒) × Next y R z
   next (root a) R = (root a ▹ R, on (λ h. h))
-  next (z ▹ Q) R = side (sameRole R (inverse Q)) (same-exactly sameRole role_same R (inverse Q))
+  next (z ▹ Q) R = side (same_role R (inverse Q)) (test-equals same_role role_same R (inverse Q))
     where
-      side : (b : Bool) → Exactly b (R ≡ inverse Q) → (y : Element 𝓒) × Next (z ▹ Q) R y
-      side true h = (z, rw (h.holds refl) back)
-      side false h = (z ▹ Q ▹ R, on (exactly-not h refl))
+      side : (b : Bool) → IsTrue b ↔ (R ≡ inverse Q) → (y : Element 𝓒) × Next (z ▹ Q) R y
+      side true h = (z, rw (h.0 refl) back)
+      side false h = (z ▹ Q ▹ R, on (test-false h refl))
 
   -- every child that goes straight back, taken out again; individuals stay
   abbrev fold : Element 𝓒 → Element 𝓒
@@ -111,10 +110,10 @@ module _ (𝓒 : Collection) where
       let n = next (fold x) R in
       (next-lean n.1 w.0 (w.1 (Exists R) h), λ D k. next-has n.1 w.0 k)
 
-  fold-edge : {x y : Element 𝓒} {S : SignedRole} → Edge 𝓒 (individuals 𝓒) x S y → LeanEdge (fold x) S (fold y)
-  fold-edge (Edge.fact f) = fact f
-  fold-edge (Edge.child {x = x} {R = R} b k) = next-child (next (fold x) R).1 (fold-lean (born 𝓒 (individuals 𝓒) b).0).0 (fold-lean b).0 k
-  fold-edge (Edge.parent {x = x} {R = R} b k) = next-parent (next (fold x) R).1 (fold-lean (born 𝓒 (individuals 𝓒) b).0).0 (fold-lean b).0 k
+  fold-edge : {x y : Element 𝓒} {S : SignedRole} → ModelEdge 𝓒 (individuals 𝓒) x S y → LeanEdge (fold x) S (fold y)
+  fold-edge (ModelEdge.fact f) = fact f
+  fold-edge (ModelEdge.child {x = x} {R = R} b k) = next-child (next (fold x) R).1 (fold-lean (born 𝓒 (individuals 𝓒) b).0).0 (fold-lean b).0 k
+  fold-edge (ModelEdge.parent {x = x} {R = R} b k) = next-parent (next (fold x) R).1 (fold-lean (born 𝓒 (individuals 𝓒) b).0).0 (fold-lean b).0 k
 
   fold-contradiction : Contradiction 𝓒 → LeanContradiction
   fold-contradiction (Contradiction.at-element x C D m b h k) = let w = fold-lean b in at-element (fold x) C D m w.0 (w.1 C h) (w.1 D k)
@@ -130,12 +129,12 @@ module _ (𝓒 : Collection) where
 
   module _ (ok : WellFormed 𝓒) where
     -- a path stays where elements belong, so that it can be folded throughout
-    edge-belongs : {x y : Element 𝓒} {S : SignedRole} → Edge 𝓒 (individuals 𝓒) x S y → Belongs 𝓒 (individuals 𝓒) y
-    edge-belongs (Edge.fact f) = Belongs.bare (edge-declared 𝓒 ok f).1
-    edge-belongs (Edge.child b k) = b
-    edge-belongs (Edge.parent b k) = (born 𝓒 (individuals 𝓒) b).0
+    edge-belongs : {x y : Element 𝓒} {S : SignedRole} → ModelEdge 𝓒 (individuals 𝓒) x S y → Belongs 𝓒 (individuals 𝓒) y
+    edge-belongs (ModelEdge.fact f) = Belongs.bare (edge-declared 𝓒 ok f).1
+    edge-belongs (ModelEdge.child b k) = b
+    edge-belongs (ModelEdge.parent b k) = (born 𝓒 (individuals 𝓒) b).0
 
-    fold-path : {x y : Element 𝓒} {s t : State} → PathIn 𝓒 (canonical 𝓒) x s y t → Belongs 𝓒 (individuals 𝓒) x → PathIn 𝓒 leanModel (fold x) s (fold y) t
+    fold-path : {x y : Element 𝓒} {s t : State} → PathIn 𝓒 (canonical 𝓒) x s y t → Belongs 𝓒 (individuals 𝓒) x → PathIn 𝓒 lean_model (fold x) s (fold y) t
     fold-path stop b = stop
     fold-path (go (along-role S e g) p) b = go (along-role S e (fold-edge g)) (fold-path p (edge-belongs g))
     fold-path (go (at_name A e h) p) b = go (at_name A e ((fold-lean b).1 (Name A) h)) (fold-path p b)

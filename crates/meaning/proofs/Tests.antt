@@ -56,14 +56,14 @@ module _ (𝓚 : Kind) (𝓣 : Tests 𝓚) where
   joins f s t B u = let b = f u t B in and (f s u B) b
 
   -- a child by R, down to u, a loop from u to v at the child, and back up
-  unfoldable pub hangsTo : (State → State → Concept → Bool) → State → Edge → State → State → Bool
-  hangsTo f t R u v = let d = has-up R v t in and (f u v (end R)) d
+  unfoldable pub hangs_to : (State → State → Concept → Bool) → State → Edge → State → State → Bool
+  hangs_to f t R u v = let d = has-up R v t in and (f u v (end R)) d
 
-  unfoldable pub hangsFrom : (State → State → Concept → Bool) → State → State → Edge → State → Bool
-  hangsFrom f s t R u = let c = any states (hangsTo f t R u) in and (has-down R s u) c
+  unfoldable pub hangs_from : (State → State → Concept → Bool) → State → State → Edge → State → Bool
+  hangs_from f s t R u = let c = any states (hangs_to f t R u) in and (has-down R s u) c
 
   unfoldable pub hangs : (State → State → Concept → Bool) → State → State → Concept → Edge → Bool
-  hangs f s t B R = let c = any states (hangsFrom f s t R) in and (has-child B R) c
+  hangs f s t B R = let c = any states (hangs_from f s t R) in and (has-child B R) c
 
   -- one round of the sheet f
   unfoldable pub round : (State → State → Concept → Bool) → State → State → Concept → Bool
@@ -119,32 +119,32 @@ module _ (𝓚 : Kind) (𝓣 : Tests 𝓚) where
     H = any edges (hangs f s t B)
 
     round-in : Next f s t B → T (round f s t B)
-    unfolding round J H joins hangs hangsFrom hangsTo
+    unfolding round J H joins hangs hangs_from hangs_to
     round-in (keeps h) = or_left (f s t B) _ h
     round-in (passes h) = or_right (f s t B) _ (or_left (has-test B s t) _ h)
     round-in (through u m h k) = or_right (f s t B) _ (or_right (has-test B s t) _ (or_left J H (any-in states (joins f s t B) m (and_both (f s u B) (f u t B) h k))))
     round-in (under R u v mR mu mv k d h p) =
         or_right (f s t B) _ (or_right (has-test B s t) _ (or_right J H
         (any-in edges (hangs f s t B) mR (and_both (has-child B R) _ k
-        (any-in states (hangsFrom f s t R) mu (and_both (has-down R s u) _ d
-        (any-in states (hangsTo f t R u) mv (and_both (f u v (end R)) (has-up R v t) h p))))))))
+        (any-in states (hangs_from f s t R) mu (and_both (has-down R s u) _ d
+        (any-in states (hangs_to f t R u) mv (and_both (f u v (end R)) (has-up R v t) h p))))))))
 
     out-joins : (u : State) × (u ∈ states) × T (joins f s t B u) → Next f s t B
     unfolding joins
     out-joins w = let u = w.0 in through u w.1 (and_left (f s u B) (f u t B) w.2) (and_right (f s u B) (f u t B) w.2)
 
     out-hangs : (R : Edge) × (R ∈ edges) × T (hangs f s t B R) → Next f s t B
-    unfolding hangs hangsFrom hangsTo
+    unfolding hangs hangs_from hangs_to
     out-hangs w =
         let R = w.0 in
-        let x = any_out states (hangsFrom f s t R) (and_right (has-child B R) _ w.2) in
+        let x = any_out states (hangs_from f s t R) (and_right (has-child B R) _ w.2) in
         let u = x.0 in
-        let y = any_out states (hangsTo f t R u) (and_right (has-down R s u) _ x.2) in
+        let y = any_out states (hangs_to f t R u) (and_right (has-down R s u) _ x.2) in
         let v = y.0 in
         under R u v w.1 x.1 y.1 (and_left (has-child B R) _ w.2) (and_left (has-down R s u) _ x.2) (and_left (f u v (end R)) (has-up R v t) y.2) (and_right (f u v (end R)) (has-up R v t) y.2)
 
     round-out : T (round f s t B) → Next f s t B
-    unfolding round J H joins hangs hangsFrom hangsTo
+    unfolding round J H joins hangs hangs_from hangs_to
     round-out h = first (or_case (f s t B) _ h)
       where
         third : T J ⊎ T H → Next f s t B

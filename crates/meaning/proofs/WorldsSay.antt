@@ -2,8 +2,8 @@
 use Rattle.std.specs.Prelude.{◌≡◌, List, ℕ, ◌≤◌}
 use Rattle.std.proofs.Common.{arith}
 use Rattle.kinds.specs.declared.Answer.{Answer}
-use Rattle.kinds.specs.Answer.{answerNumber}
-use Rattle.meaning.specs.Lent.{Call, collectionOf, Sound}
+use Rattle.kinds.specs.Answer.{answer_number}
+use Rattle.meaning.specs.Lent.{Call, collection_of, Sound}
 use Rattle.meaning.specs.Worlds.{Forced, NoWorld}
 use Rattle.meaning.proofs.Forced.{contradiction-no-world, no-world-contradiction, yes-forced, forced-yes}
 use Rattle.meaning.specs.Outcome.{Outcome, bad-count, bad-table, bad-number, equal-ends, bad-ask, contradiction, spent, says-yes, says-no, Breaks}
@@ -11,17 +11,17 @@ use Rattle.meaning.proofs.OutcomeExists.{sound-well-formed}
 
 -- the facts and rules of a call force a path from its first individual to its second
 abbrev pub Forces : Call → Type 1
-Forces c = Forced (collectionOf c) c.first c.second
+Forces c = Forced (collection_of c) c.first c.second
 
 pub record AsWorldsSay (c : Call) (r : Answer) : Type 1 where
-  pub yes : answerNumber r ≡ 1 → Forces c
-  pub no : answerNumber r ≡ 0 → Forces c → ⊥
-  pub contradiction : answerNumber r ≡ 2 → NoWorld (collectionOf c)
+  pub yes : answer_number r ≡ 1 → Forces c
+  pub no : answer_number r ≡ 0 → Forces c → ⊥
+  pub contradiction : answer_number r ≡ 2 → NoWorld (collection_of c)
   -- a yes is not forced for want of a world: a yes, a no and a spent allowance leave one
-  pub some-world : answerNumber r ≤ 3 → (answerNumber r ≡ 2 → ⊥) → NoWorld (collectionOf c) → ⊥
+  pub some-world : answer_number r ≤ 3 → (answer_number r ≡ 2 → ⊥) → NoWorld (collection_of c) → ⊥
 
 module _ (c : Call) where
-  refused : {r : Answer} → 4 ≤ answerNumber r → AsWorldsSay c r
+  refused : {r : Answer} → 4 ≤ answer_number r → AsWorldsSay c r
   refused h = record {
     yes = λ e. absurd (omega arith);
     no = λ e. absurd (omega arith);
@@ -30,8 +30,8 @@ module _ (c : Call) where
   }
 
   module _ (s : Sound c) (sane : Breaks c → ⊥) where
-    world : NoWorld (collectionOf c) → ⊥
-    world none = no-world-contradiction (collectionOf c) (sound-well-formed c s).numbers none sane
+    world : NoWorld (collection_of c) → ⊥
+    world none = no-world-contradiction (collection_of c) (sound-well-formed c s).numbers none sane
 
   -- THEOREM: every outcome says of the worlds what it should
   pub worlds-say : {r : Answer} {x y : List ℕ} → Outcome c r x y → AsWorldsSay c r
@@ -43,7 +43,7 @@ module _ (c : Call) where
   worlds-say (contradiction s h) = record {
     yes = λ e. absurd (omega arith);
     no = λ e. absurd (omega arith);
-    contradiction = λ e. contradiction-no-world (collectionOf c) (sound-well-formed c s).numbers h;
+    contradiction = λ e. contradiction-no-world (collection_of c) (sound-well-formed c s).numbers h;
     some-world = λ l not. absurd (not (omega arith));
   }
   worlds-say (spent s sane need h lays) = record {
@@ -53,14 +53,14 @@ module _ (c : Call) where
     some-world = λ l not. world s sane;
   }
   worlds-say (says-yes s sane need h lays reached) = record {
-    yes = λ e. yes-forced (collectionOf c) (sound-well-formed c s).numbers c.first c.second reached;
+    yes = λ e. yes-forced (collection_of c) (sound-well-formed c s).numbers c.first c.second reached;
     no = λ e. absurd (omega arith);
     contradiction = λ e. absurd (omega arith);
     some-world = λ l not. world s sane;
   }
   worlds-say (says-no s sane need h lays missed) = record {
     yes = λ e. absurd (omega arith);
-    no = λ e f. missed (forced-yes (collectionOf c) (sound-well-formed c s).numbers sane c.first c.second f);
+    no = λ e f. missed (forced-yes (collection_of c) (sound-well-formed c s).numbers sane c.first c.second f);
     contradiction = λ e. absurd (omega arith);
     some-world = λ l not. world s sane;
   }

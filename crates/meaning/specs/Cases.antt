@@ -4,12 +4,13 @@ use Rattle.kinds.specs.declared.Counts.{Counts}
 use Rattle.kinds.specs.declared.Answer.{Answer}
 use Rattle.kinds.specs.declared.Answer.TheVariants.{No, Yes, Contradiction, AllowanceSpent, BadCount, BadTable, BadNumber, EqualEnds, BadAsk}
 use Rattle.kinds.specs.Kinds.{individual, state}
-use Rattle.kinds.specs.Answer.{answerNumber, answerCount}
+use Rattle.kinds.specs.Answer.{answer_number, answer_count}
 use Rattle.meaning.specs.Lent.{Tables, Call}
 use Rattle.meaning.specs.Layout.{Standing}
 use Rattle.meaning.specs.Outcome.{Outcome}
 
--- a row: a whole collection as it is lent, a pair and an allowance; the number and count returned, and the marks that then stand
+-- a row: a whole collection as it is lent, a pair and an allowance; the number and count returned,
+-- and the marks that then stand
 pub record Case : Type 0 where
   pub counts : Counts
   pub tables : Tables
@@ -21,9 +22,16 @@ pub record Case : Type 0 where
   pub marks : ℕ
 
 abbrev pub declares : ℕ → ℕ → ℕ → ℕ → ℕ → Counts
-declares names roles individuals states start = record { names = names; roles = roles; individuals = individuals; states = states; start = state start }
+declares names roles individuals states start = record {
+  names = names;
+  roles = roles;
+  individuals = individuals;
+  states = states;
+  start = state start;
+}
 
--- rules, exclusions, role rules, role exclusions, concept facts, role facts, steps and finals, in the order of docs/RULES.md (section 3)
+-- rules, exclusions, role rules, role exclusions, concept facts, role facts, steps and finals, in
+-- the order of docs/RULES.md (section 3)
 abbrev pub holding : List ℕ → List ℕ → List ℕ → List ℕ → List ℕ → List ℕ → List ℕ → List ℕ → Tables
 holding cr ce rr re cf rf st fi = record {
   concept-rules = cr;
@@ -36,20 +44,21 @@ holding cr ce rr re cf rf st fi = record {
   finals = fi;
 }
 
--- base collection B: Owner ≤ ∃signs, ∃(signs backward) ≤ Deed; signs, test Deed, signs backward, from 0 to 3
-abbrev baseRules : List ℕ
-baseRules = 0 ∷ 64 ∷ 65 ∷ 1 ∷ []
+-- base collection B: Owner ≤ ∃signs, ∃(signs backward) ≤ Deed; signs, test Deed, signs backward,
+-- from 0 to 3
+abbrev base_rules : List ℕ
+base_rules = 0 ∷ 64 ∷ 65 ∷ 1 ∷ []
 
-abbrev baseSteps : List ℕ
-baseSteps = 0 ∷ 0 ∷ 0 ∷ 1 ∷ 1 ∷ 1 ∷ 1 ∷ 2 ∷ 0 ∷ 2 ∷ 1 ∷ 3 ∷ []
+abbrev base_steps : List ℕ
+base_steps = 0 ∷ 0 ∷ 0 ∷ 1 ∷ 1 ∷ 1 ∷ 1 ∷ 2 ∷ 0 ∷ 2 ∷ 1 ∷ 3 ∷ []
 
 -- Owner(0)
 abbrev owner : List ℕ
 owner = 0 ∷ 0 ∷ []
 
 -- signs, then holds backward
-abbrev signsHolds : List ℕ
-signsHolds = 0 ∷ 0 ∷ 0 ∷ 1 ∷ 0 ∷ 1 ∷ 3 ∷ 2 ∷ []
+abbrev signs_holds : List ℕ
+signs_holds = 0 ∷ 0 ∷ 0 ∷ 1 ∷ 0 ∷ 1 ∷ 3 ∷ 2 ∷ []
 
 -- counts, tables; first and second individual, allowance; number, count, marks
 abbrev row : Counts → Tables → ℕ → ℕ → ℕ → ℕ → ℕ → ℕ → Case
@@ -67,28 +76,44 @@ row counts tables first second allowance number count marks = record {
 unfoldable pub cases : List Case
 cases =
     -- 1. B, (0, 0): yes, 2 rounds, 28 marks
-    row (declares 2 2 2 4 0) (holding baseRules [] [] [] owner [] baseSteps (3 ∷ [])) 0 0 64 1 2 28
+    row (declares 2 2 2 4 0)
+    (holding base_rules [] [] [] owner [] base_steps (3 ∷ [])) 0 0 64 1 2 28
     -- 2. B, (0, 1): no
-    ∷ row (declares 2 2 2 4 0) (holding baseRules [] [] [] owner [] baseSteps (3 ∷ [])) 0 1 64 0 2 28
+    ∷ row (declares 2 2 2 4 0)
+    (holding base_rules [] [] [] owner [] base_steps (3 ∷ [])) 0 1 64 0 2 28
     -- 3. B with allowance 1: number 3, count 1
-    ∷ row (declares 2 2 2 4 0) (holding baseRules [] [] [] owner [] baseSteps (3 ∷ [])) 0 0 1 3 1 26
+    ∷ row (declares 2 2 2 4 0)
+    (holding base_rules [] [] [] owner [] base_steps (3 ∷ [])) 0 0 1 3 1 26
     -- 4. B plus Deed excludes ∃(signs backward): contradiction, on an unnamed deed
-    ∷ row (declares 2 2 2 4 0) (holding baseRules (1 ∷ 65 ∷ []) [] [] owner [] baseSteps (3 ∷ [])) 0 0 64 2 0 0
+    ∷ row (declares 2 2 2 4 0)
+    (holding base_rules (1 ∷ 65 ∷ []) [] [] owner [] base_steps (3 ∷ [])) 0 0 64 2 0 0
     -- 5. case 4 without Owner(0): no
-    ∷ row (declares 2 2 2 4 0) (holding baseRules (1 ∷ 65 ∷ []) [] [] [] [] baseSteps (3 ∷ [])) 0 0 64 0 2 28
+    ∷ row (declares 2 2 2 4 0)
+    (holding base_rules (1 ∷ 65 ∷ []) [] [] [] [] base_steps (3 ∷ [])) 0 0 64 0 2 28
     -- 6. B plus signs ≤ holds and signs excludes holds: contradiction with no role fact typed
-    ∷ row (declares 2 2 2 4 0) (holding baseRules [] (0 ∷ 2 ∷ []) (0 ∷ 2 ∷ []) owner [] baseSteps (3 ∷ [])) 0 0 64 2 0 0
+    ∷ row (declares 2 2 2 4 0)
+    (holding base_rules [] (0 ∷ 2 ∷ []) (0 ∷ 2 ∷ []) owner [] base_steps (3 ∷ [])) 0 0 64 2 0 0
     -- 7. holds(0, 1), holds(1, 0), holds excludes holds backward: contradiction
-    ∷ row (declares 2 2 2 4 0) (holding [] [] [] (2 ∷ 3 ∷ []) [] (1 ∷ 0 ∷ 1 ∷ 1 ∷ 1 ∷ 0 ∷ []) baseSteps (3 ∷ [])) 0 0 64 2 0 0
+    ∷ row (declares 2 2 2 4 0)
+    (holding [] [] [] (2 ∷ 3 ∷ []) [] (1 ∷ 0 ∷ 1 ∷ 1 ∷ 1 ∷ 0 ∷ []) base_steps (3 ∷ []))
+    0 0 64 2 0 0
     -- 8. start state final, no steps: (0, 0) yes, (0, 1) no, 0 rounds
     ∷ row (declares 2 2 2 1 0) (holding [] [] [] [] [] [] [] (0 ∷ [])) 0 0 64 1 0 6
     ∷ row (declares 2 2 2 1 0) (holding [] [] [] [] [] [] [] (0 ∷ [])) 0 1 64 0 0 6
-    -- 9. Owner ≤ ∃signs, ∃(signs backward) ≤ ∃signs, Owner(0); signs twice, then signs backward twice: yes, 2 rounds
-    ∷ row (declares 2 2 2 5 0) (holding (0 ∷ 64 ∷ 65 ∷ 64 ∷ []) [] [] [] owner [] (0 ∷ 0 ∷ 0 ∷ 1 ∷ 0 ∷ 1 ∷ 0 ∷ 2 ∷ 0 ∷ 2 ∷ 1 ∷ 3 ∷ 0 ∷ 3 ∷ 1 ∷ 4 ∷ []) (4 ∷ [])) 0 0 64 1 2 36
+    -- 9. Owner ≤ ∃signs, ∃(signs backward) ≤ ∃signs, Owner(0); signs twice, then signs backward
+    -- twice: yes, 2 rounds
+    ∷ row (declares 2 2 2 5 0)
+    (holding (0 ∷ 64 ∷ 65 ∷ 64 ∷ []) [] [] [] owner []
+    (0 ∷ 0 ∷ 0 ∷ 1 ∷ 0 ∷ 1 ∷ 0 ∷ 2 ∷ 0 ∷ 2 ∷ 1 ∷ 3 ∷ 0 ∷ 3 ∷ 1 ∷ 4 ∷ []) (4 ∷ []))
+    0 0 64 1 2 36
     -- 10. Owner ≤ ∃signs, Owner ≤ ∃holds, Owner(0); signs then holds backward: no
-    ∷ row (declares 2 2 2 3 0) (holding (0 ∷ 64 ∷ 0 ∷ 66 ∷ []) [] [] [] owner [] signsHolds (2 ∷ [])) 0 0 64 0 0 18
+    ∷ row (declares 2 2 2 3 0)
+    (holding (0 ∷ 64 ∷ 0 ∷ 66 ∷ []) [] [] [] owner [] signs_holds (2 ∷ [])) 0 0 64 0 0 18
     -- 11. case 10 plus a third role, Owner ≤ ∃third, third ≤ signs, third ≤ holds: yes
-    ∷ row (declares 2 3 2 3 0) (holding (0 ∷ 64 ∷ 0 ∷ 66 ∷ 0 ∷ 68 ∷ []) [] (4 ∷ 0 ∷ 4 ∷ 2 ∷ []) [] owner [] signsHolds (2 ∷ [])) 0 0 64 1 1 26
+    ∷ row (declares 2 3 2 3 0)
+    (holding (0 ∷ 64 ∷ 0 ∷ 66 ∷ 0 ∷ 68 ∷ []) [] (4 ∷ 0 ∷ 4 ∷ 2 ∷ []) [] owner []
+    signs_holds (2 ∷ []))
+    0 0 64 1 1 26
     ∷ []
 
 module _ (area spare : List ℕ) where
@@ -122,6 +147,6 @@ module _ (area spare : List ℕ) where
     pub area-after : List ℕ
     pub spare-after : List ℕ
     pub outcome : Outcome (lend k) answer area-after spare-after
-    pub number : answerNumber answer ≡ k.number
-    pub count : answerCount answer ≡ k.count
+    pub number : answer_number answer ≡ k.number
+    pub count : answer_count answer ≡ k.count
     pub marks : MarksStand answer area-after k.marks

@@ -1,4 +1,5 @@
--- A collection: five counts and eight lists of records. It is well-formed when its counts fit and its numbers are declared.
+-- A collection: five counts and eight lists of records. It is well-formed when its counts fit and
+-- its numbers are declared.
 use Rattle.std.specs.Prelude.{List}
 use Rattle.kinds.specs.declared.ConceptName.{ConceptName}
 use Rattle.kinds.specs.declared.RoleName.{RoleName}

@@ -1,5 +1,6 @@
--- What a library call is lent: five counts, eight tables of 16-bit numbers, a pair, an allowance and two areas; and its tests 4 to 8.
-use Rattle.std.specs.Prelude.{◌≡◌, List, ℕ, zero, suc, ◌+◌, ◌*◌, ◌/◌, ◌%◌, ◌≤◌, length, get_or}
+-- What a library call is lent: five counts, eight tables of 16-bit numbers, a pair, an allowance
+-- and two areas; and its tests 4 to 8.
+use Rattle.std.specs.Prelude.{◌≡◌, List, ℕ, zero, suc, ◌+◌, ◌*◌, ◌/◌, ◌%◌, ◌≤◌, length, slice_index}
 use Rattle.kinds.specs.declared.ConceptName.{ConceptName}
 use Rattle.kinds.specs.declared.RoleName.{RoleName}
 use Rattle.kinds.specs.declared.Individual.{Individual}
@@ -7,10 +8,10 @@ use Rattle.kinds.specs.declared.State.{State}
 use Rattle.kinds.specs.declared.SignedRole.{SignedRole}
 use Rattle.kinds.specs.declared.Concept.{Concept}
 use Rattle.kinds.specs.declared.Counts.{Counts}
-use Rattle.kinds.specs.Kinds.{conceptName, roleName, individual, state, signed, conceptOf, CountsFit, IndividualDeclared}
+use Rattle.kinds.specs.Kinds.{concept_name, role_name, individual, state, signed, concept_of, CountsFit, IndividualDeclared}
 use Rattle.laws.specs.Numbers.{numbered}
 use Rattle.meaning.specs.Collection.{Collection, Letter, role, test, Step, step, NumbersDeclared, Each}
-use Rattle.meaning.specs.Layout.{areaLength}
+use Rattle.meaning.specs.Layout.{area_length}
 
 -- the tables as they are lent
 pub record Tables : Type 0 where
@@ -24,89 +25,99 @@ pub record Tables : Type 0 where
   pub finals : List ℕ
 
 -- the numbers in a record of each table
-abbrev pub ruleWidth : ℕ
-ruleWidth = 2
+abbrev pub rule_width : ℕ
+rule_width = 2
 
-abbrev pub conceptFactWidth : ℕ
-conceptFactWidth = 2
+abbrev pub concept_fact_width : ℕ
+concept_fact_width = 2
 
-abbrev pub roleFactWidth : ℕ
-roleFactWidth = 3
+abbrev pub role_fact_width : ℕ
+role_fact_width = 3
 
-abbrev pub stepWidth : ℕ
-stepWidth = 4
+abbrev pub step_width : ℕ
+step_width = 4
 
-abbrev pub finalWidth : ℕ
-finalWidth = 1
+abbrev pub final_width : ℕ
+final_width = 1
 
 -- the most records of each table
-abbrev pub mostConceptRules : ℕ
-mostConceptRules = 512
+abbrev pub most_concept_rules : ℕ
+most_concept_rules = 512
 
-abbrev pub mostConceptExclusions : ℕ
-mostConceptExclusions = 512
+abbrev pub most_concept_exclusions : ℕ
+most_concept_exclusions = 512
 
-abbrev pub mostRoleRules : ℕ
-mostRoleRules = 128
+abbrev pub most_role_rules : ℕ
+most_role_rules = 128
 
-abbrev pub mostRoleExclusions : ℕ
-mostRoleExclusions = 128
+abbrev pub most_role_exclusions : ℕ
+most_role_exclusions = 128
 
-abbrev pub mostConceptFacts : ℕ
-mostConceptFacts = 1024
+abbrev pub most_concept_facts : ℕ
+most_concept_facts = 1024
 
-abbrev pub mostRoleFacts : ℕ
-mostRoleFacts = 4096
+abbrev pub most_role_facts : ℕ
+most_role_facts = 4096
 
-abbrev pub mostSteps : ℕ
-mostSteps = 512
+abbrev pub most_steps : ℕ
+most_steps = 512
 
-abbrev pub mostFinals : ℕ
-mostFinals = 16
+abbrev pub most_finals : ℕ
+most_finals = 16
 
 -- field j of record k, in a table of a width
 abbrev pub field : ℕ → List ℕ → ℕ → ℕ → ℕ
-field width t j k = get_or t (width * k + j) 0
+field width t j k = slice_index t (width * k + j)
 
 -- the whole records of a table, each read as its kind
 unfoldable pub records : {A : Type 0} → ℕ → (List ℕ → ℕ → A) → List ℕ → List A
 records width read t = numbered (read t) (length t / width)
 
-abbrev pub conceptPair : List ℕ → ℕ → Concept × Concept
-conceptPair t k = (conceptOf (field ruleWidth t 0 k), conceptOf (field ruleWidth t 1 k))
+abbrev pub concept_pair : List ℕ → ℕ → Concept × Concept
+concept_pair t k = (concept_of (field rule_width t 0 k), concept_of (field rule_width t 1 k))
 
-abbrev pub rolePair : List ℕ → ℕ → SignedRole × SignedRole
-rolePair t k = (signed (field ruleWidth t 0 k), signed (field ruleWidth t 1 k))
+abbrev pub role_pair : List ℕ → ℕ → SignedRole × SignedRole
+role_pair t k = (signed (field rule_width t 0 k), signed (field rule_width t 1 k))
 
-abbrev pub conceptFact : List ℕ → ℕ → ConceptName × Individual
-conceptFact t k = (conceptName (field conceptFactWidth t 0 k), individual (field conceptFactWidth t 1 k))
+abbrev pub concept_fact : List ℕ → ℕ → ConceptName × Individual
+concept_fact t k = (
+  concept_name (field concept_fact_width t 0 k),
+  individual (field concept_fact_width t 1 k),
+)
 
-abbrev pub roleFact : List ℕ → ℕ → RoleName × Individual × Individual
-roleFact t k = (roleName (field roleFactWidth t 0 k), individual (field roleFactWidth t 1 k), individual (field roleFactWidth t 2 k))
+abbrev pub role_fact : List ℕ → ℕ → RoleName × Individual × Individual
+role_fact t k = (
+  role_name (field role_fact_width t 0 k),
+  individual (field role_fact_width t 1 k),
+  individual (field role_fact_width t 2 k),
+)
 
 -- the kind of a step is 0 for a role, 1 for a test
-abbrev pub letterOf : ℕ → ℕ → Letter
-letterOf zero x = role (signed x)
-letterOf (suc kind) x = test (conceptName x)
+abbrev pub letter_of : ℕ → ℕ → Letter
+letter_of zero x = role (signed x)
+letter_of (suc kind) x = test (concept_name x)
 
-abbrev pub stepAt : List ℕ → ℕ → Step
-stepAt t k = step (state (field stepWidth t 1 k)) (letterOf (field stepWidth t 0 k) (field stepWidth t 2 k)) (state (field stepWidth t 3 k))
+abbrev pub step_at : List ℕ → ℕ → Step
+step_at t k =
+    step (state (field step_width t 1 k))
+    (letter_of (field step_width t 0 k) (field step_width t 2 k))
+    (state (field step_width t 3 k))
 
-abbrev pub finalAt : List ℕ → ℕ → State
-finalAt t k = state (field finalWidth t 0 k)
+abbrev pub final_at : List ℕ → ℕ → State
+final_at t k = state (field final_width t 0 k)
 
 -- the collection that is lent
 abbrev pub collection : Counts → Tables → Collection
 collection c t = record {
   counts = c;
-  concept-rules = records ruleWidth conceptPair t.concept-rules;
-  concept-exclusions = records ruleWidth conceptPair t.concept-exclusions;
-  role-rules = records ruleWidth rolePair t.role-rules;
-  role-exclusions = records ruleWidth rolePair t.role-exclusions;
-  concept-facts = records conceptFactWidth conceptFact t.concept-facts;
-  role-facts = records roleFactWidth roleFact t.role-facts;
-  steps = records stepWidth stepAt t.steps;
-  finals = records finalWidth finalAt t.finals;
+  concept-rules = records rule_width concept_pair t.concept-rules;
+  concept-exclusions = records rule_width concept_pair t.concept-exclusions;
+  role-rules = records rule_width role_pair t.role-rules;
+  role-exclusions = records rule_width role_pair t.role-exclusions;
+  concept-facts = records concept_fact_width concept_fact t.concept-facts;
+  role-facts = records role_fact_width role_fact t.role-facts;
+  steps = records step_width step_at t.steps;
+  finals = records final_width final_at t.finals;
 }
 
 pub record Call : Type 0 where
@@ -118,8 +129,8 @@ pub record Call : Type 0 where
   pub area : List ℕ
   pub spare : List ℕ
 
-abbrev pub collectionOf : Call → Collection
-collectionOf c = collection c.counts c.tables
+abbrev pub collection_of : Call → Collection
+collection_of c = collection c.counts c.tables
 
 -- test 4: each count in its range, and the start state below the count of states
 abbrev pub CountsOk : Call → Type 0
@@ -131,26 +142,26 @@ pub record Whole (width most : ℕ) (t : List ℕ) : Type 0 where
   pub few : length t / width ≤ most
 
 pub record ShapesOk (t : Tables) : Type 0 where
-  pub concept-rules : Whole ruleWidth mostConceptRules t.concept-rules
-  pub concept-exclusions : Whole ruleWidth mostConceptExclusions t.concept-exclusions
-  pub role-rules : Whole ruleWidth mostRoleRules t.role-rules
-  pub role-exclusions : Whole ruleWidth mostRoleExclusions t.role-exclusions
-  pub concept-facts : Whole conceptFactWidth mostConceptFacts t.concept-facts
-  pub role-facts : Whole roleFactWidth mostRoleFacts t.role-facts
-  pub steps : Whole stepWidth mostSteps t.steps
-  pub finals : Whole finalWidth mostFinals t.finals
+  pub concept-rules : Whole rule_width most_concept_rules t.concept-rules
+  pub concept-exclusions : Whole rule_width most_concept_exclusions t.concept-exclusions
+  pub role-rules : Whole rule_width most_role_rules t.role-rules
+  pub role-exclusions : Whole rule_width most_role_exclusions t.role-exclusions
+  pub concept-facts : Whole concept_fact_width most_concept_facts t.concept-facts
+  pub role-facts : Whole role_fact_width most_role_facts t.role-facts
+  pub steps : Whole step_width most_steps t.steps
+  pub finals : Whole final_width most_finals t.finals
 
 pub record TablesFit (t : Tables) (long long' : ℕ) : Type 0 where
   pub tables : ShapesOk t
-  pub area : long ≡ areaLength
-  pub spare : long' ≡ areaLength
+  pub area : long ≡ area_length
+  pub spare : long' ≡ area_length
 
 abbrev pub TablesOk : Call → Type 0
 TablesOk c = TablesFit c.tables (length c.area) (length c.spare)
 
 -- test 6: every number in a record is declared, and no step kind is above 1
 abbrev pub kinds : List ℕ → List ℕ
-kinds t = records stepWidth (λ t k. field stepWidth t 0 k) t
+kinds t = records step_width (λ t k. field step_width t 0 k) t
 
 pub record NumbersFit (c : Counts) (t : Tables) : Type 0 where
   pub declared : NumbersDeclared (collection c t)
@@ -164,7 +175,7 @@ abbrev pub EndsDiffer : RoleName × Individual × Individual → Type 0
 EndsDiffer f = f.1 ≡ f.2 → ⊥
 
 abbrev pub EndsFit : Tables → Type 0
-EndsFit t = Each (records roleFactWidth roleFact t.role-facts) EndsDiffer
+EndsFit t = Each (records role_fact_width role_fact t.role-facts) EndsDiffer
 
 abbrev pub EndsOk : Call → Type 0
 EndsOk c = EndsFit c.tables

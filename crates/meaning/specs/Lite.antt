@@ -1,4 +1,5 @@
--- DL-Lite as a rules' kind: an edge is a signed role. The loop sheet's three rules are those of docs/RULES.md (section 6) here.
+-- DL-Lite as a rules' kind: an edge is a signed role. The loop sheet's three rules are those of
+-- docs/RULES.md (section 6) here.
 use Rattle.std.specs.Prelude.{List, ◌++◌, map, ◌*◌}
 use Rattle.kinds.specs.declared.ConceptName.{ConceptName}
 use Rattle.kinds.specs.declared.State.{State}
@@ -6,21 +7,21 @@ use Rattle.kinds.specs.declared.SignedRole.{SignedRole}
 use Rattle.kinds.specs.declared.Concept.{Concept}
 use Rattle.kinds.specs.declared.Concept.TheVariants.{Name, Exists}
 use Rattle.kinds.specs.declared.Counts.{Counts}
-use Rattle.kinds.specs.Kinds.{inverse, conceptName, signed, state}
+use Rattle.kinds.specs.Kinds.{inverse, concept_name, signed, state}
 use Rattle.laws.specs.Numbers.{numbered}
 use Rattle.meaning.specs.Collection.{Collection, RoleStep, TestStep}
 use Rattle.meaning.specs.Orders.{RoleLe, ConceptLe}
 use Rattle.meaning.specs.Kind.{Kind}
 
 -- what is declared, in order
-unfoldable pub signedRoles : Counts → List SignedRole
-signedRoles c = numbered signed (2 * c.roles)
+unfoldable pub signed_roles : Counts → List SignedRole
+signed_roles c = numbered signed (2 * c.roles)
 
-unfoldable pub validConcepts : Counts → List Concept
-validConcepts c = map Name (numbered conceptName c.names) ++ map Exists (signedRoles c)
+unfoldable pub valid_concepts : Counts → List Concept
+valid_concepts c = map Name (numbered concept_name c.names) ++ map Exists (signed_roles c)
 
-unfoldable pub declaredStates : Counts → List State
-declaredStates c = numbered state c.states
+unfoldable pub declared_states : Counts → List State
+declared_states c = numbered state c.states
 
 module _ (𝓒 : Collection) where
   -- a test step from s to t on A with B ≤ A
@@ -40,8 +41,8 @@ module _ (𝓒 : Collection) where
     Concept = Concept;
     State = State;
     Edge = SignedRole;
-    concepts = validConcepts 𝓒.counts;
-    states = declaredStates 𝓒.counts;
+    concepts = valid_concepts 𝓒.counts;
+    states = declared_states 𝓒.counts;
     end = λ R. Exists (inverse R);
     child = λ B R. ConceptLe 𝓒 B (Exists R);
     test = TestAt;

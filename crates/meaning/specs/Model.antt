@@ -1,4 +1,4 @@
--- The canonical model: its elements, their concepts, its edges and its contradictions, to any depth.
+-- The canonical model to any depth: its elements, their concepts, its edges and contradictions.
 use Rattle.kinds.specs.declared.ConceptName.{ConceptName}
 use Rattle.kinds.specs.declared.RoleName.{RoleName}
 use Rattle.kinds.specs.declared.Individual.{Individual}
@@ -17,7 +17,8 @@ pub record Structure : Type 1 where
   pub name : Thing → ConceptName → Type 0
   pub edge : Thing → SignedRole → Thing → Type 0
 
--- what trees grow from: which roots belong, their concepts, and the signed roles of an ordered pair of roots
+-- what trees grow from: which roots belong, their concepts, and the signed roles of an ordered pair
+-- of roots
 pub record Roots : Type 1 where
   pub Root : Type 0
   pub belongs : Root → Type 0
@@ -25,7 +26,8 @@ pub record Roots : Type 1 where
   pub edge : Root → SignedRole → Root → Type 0
 
 module _ (𝓒 : Collection) (𝓡 : Roots) where
-  -- the concepts of an element: a root's own; of an unnamed element ending in R, all D with ∃(inverse of R) ≤ D
+  -- the concepts of an element: a root's own; of an unnamed element ending in R, all D with
+  -- ∃(inverse of R) ≤ D
   abbrev pub Has : Elem 𝓡.Root SignedRole → Concept → Type 0
   Has (root a) D = 𝓡.has a D
   Has (x ▹ R) D = ConceptLe 𝓒 (Exists (inverse R)) D
@@ -33,23 +35,34 @@ module _ (𝓒 : Collection) (𝓡 : Roots) where
   -- the elements that belong: the bare roots, and x followed by R when x belongs and has ∃R
   pub data Belongs : Elem 𝓡.Root SignedRole → Type 0 where
     bare : {a : 𝓡.Root} → 𝓡.belongs a → Belongs (root a)
-    grown : {x : Elem 𝓡.Root SignedRole} {R : SignedRole} → Belongs x → Has x (Exists R) → Belongs (x ▹ R)
+    grown : {x : Elem 𝓡.Root SignedRole} {R : SignedRole} → Belongs x → Has x (Exists R)
+        → Belongs (x ▹ R)
 
-  -- roots are joined as said; an element and its child by R have every S with R ≤ S, and back the inverses
-  pub data Edge : Elem 𝓡.Root SignedRole → SignedRole → Elem 𝓡.Root SignedRole → Type 0 where
-    fact : {a b : 𝓡.Root} {S : SignedRole} → 𝓡.edge a S b → Edge (root a) S (root b)
-    child : {x : Elem 𝓡.Root SignedRole} {R S : SignedRole} → Belongs (x ▹ R) → RoleLe 𝓒 R S → Edge x S (x ▹ R)
-    parent : {x : Elem 𝓡.Root SignedRole} {R S : SignedRole} → Belongs (x ▹ R) → RoleLe 𝓒 R S → Edge (x ▹ R) (inverse S) x
+  -- roots are joined as said; an element and its child by R have every S with R ≤ S, and back
+  -- the inverses
+  pub data ModelEdge : Elem 𝓡.Root SignedRole → SignedRole → Elem 𝓡.Root SignedRole → Type 0 where
+    fact : {a b : 𝓡.Root} {S : SignedRole} → 𝓡.edge a S b → ModelEdge (root a) S (root b)
+    child : {x : Elem 𝓡.Root SignedRole} {R S : SignedRole} → Belongs (x ▹ R) → RoleLe 𝓒 R S
+        → ModelEdge x S (x ▹ R)
+    parent : {x : Elem 𝓡.Root SignedRole} {R S : SignedRole} → Belongs (x ▹ R) → RoleLe 𝓒 R S
+        → ModelEdge (x ▹ R) (inverse S) x
 
-  abbrev pub grownFrom : Structure
-  grownFrom = record { Thing = Elem 𝓡.Root SignedRole; name = λ x A. Has x (Name A); edge = Edge }
+  abbrev pub grown_from : Structure
+  grown_from = record {
+    Thing = Elem 𝓡.Root SignedRole;
+    name = λ x A. Has x (Name A);
+    edge = ModelEdge;
+  }
 
 module _ (𝓒 : Collection) where
-  -- what is typed of an individual: a name fact, or ∃r for the first and ∃r backward for the second of a role fact on r
+  -- what is typed of an individual: a name fact, or ∃r for the first and ∃r backward for the second
+  -- of a role fact on r
   pub data Typed : Individual → Concept → Type 0 where
     named : {A : ConceptName} {a : Individual} → (A, a) ∈ 𝓒.concept-facts → Typed a (Name A)
-    first : {r : RoleName} {a b : Individual} → (r, a, b) ∈ 𝓒.role-facts → Typed a (Exists (forward r))
-    second : {r : RoleName} {a b : Individual} → (r, a, b) ∈ 𝓒.role-facts → Typed b (Exists (backward r))
+    first : {r : RoleName} {a b : Individual} → (r, a, b) ∈ 𝓒.role-facts
+        → Typed a (Exists (forward r))
+    second : {r : RoleName} {a b : Individual} → (r, a, b) ∈ 𝓒.role-facts
+        → Typed b (Exists (backward r))
 
   -- an individual's concepts: all D with C ≤ D, for C typed of it
   abbrev pub IndividualHas : Individual → Concept → Type 0
@@ -57,8 +70,10 @@ module _ (𝓒 : Collection) where
 
   -- a role fact r(a, b) gives (a, b) every S with r ≤ S, and (b, a) the inverses
   pub data FactEdge : Individual → SignedRole → Individual → Type 0 where
-    ahead : {r : RoleName} {a b : Individual} {S : SignedRole} → (r, a, b) ∈ 𝓒.role-facts → RoleLe 𝓒 (forward r) S → FactEdge a S b
-    behind : {r : RoleName} {a b : Individual} {S : SignedRole} → (r, a, b) ∈ 𝓒.role-facts → RoleLe 𝓒 (forward r) S → FactEdge b (inverse S) a
+    ahead : {r : RoleName} {a b : Individual} {S : SignedRole} → (r, a, b) ∈ 𝓒.role-facts
+        → RoleLe 𝓒 (forward r) S → FactEdge a S b
+    behind : {r : RoleName} {a b : Individual} {S : SignedRole} → (r, a, b) ∈ 𝓒.role-facts
+        → RoleLe 𝓒 (forward r) S → FactEdge b (inverse S) a
 
   -- the roots of the canonical model are the declared individuals
   abbrev pub individuals : Roots
@@ -74,13 +89,15 @@ module _ (𝓒 : Collection) where
   Element = Elem Individual SignedRole
 
   abbrev pub canonical : Structure
-  canonical = grownFrom 𝓒 individuals
+  canonical = grown_from 𝓒 individuals
 
-  -- the canonical model breaks an exclusion: at an element, or at an ordered pair; unnamed ones count
+  -- the canonical model breaks an exclusion, at an element or an ordered pair; unnamed ones count
   pub data Contradiction : Type 0 where
-    at-element : (x : Element) (C D : Concept) → (C, D) ∈ 𝓒.concept-exclusions → Belongs 𝓒 individuals x → Has 𝓒 individuals x C
+    at-element : (x : Element) (C D : Concept) → (C, D) ∈ 𝓒.concept-exclusions
+        → Belongs 𝓒 individuals x → Has 𝓒 individuals x C
         → Has 𝓒 individuals x D → Contradiction
-    at_pair : (x y : Element) (R S : SignedRole) → (R, S) ∈ 𝓒.role-exclusions → Edge 𝓒 individuals x R y → Edge 𝓒 individuals x S y → Contradiction
+    at_pair : (x y : Element) (R S : SignedRole) → (R, S) ∈ 𝓒.role-exclusions
+        → ModelEdge 𝓒 individuals x R y → ModelEdge 𝓒 individuals x S y → Contradiction
 
   -- the tree grown from one element whose only concept is B, and what follows from B
   abbrev pub only : Concept → Roots
@@ -92,4 +109,4 @@ module _ (𝓒 : Collection) where
   }
 
   abbrev pub tree_of : Concept → Structure
-  tree_of B = grownFrom 𝓒 (only B)
+  tree_of B = grown_from 𝓒 (only B)

@@ -6,37 +6,42 @@ use Rattle.meaning.specs.Sheet.{Mark, Needed}
 use Rattle.meaning.specs.Model as model
 use Rattle.meaning.specs.Question as question
 use Rattle.meaning.specs.Lite.{lite}
-use Rattle.meaning.specs.Lent.{Call, collectionOf, CountsOk, TablesOk, NumbersOk, EndsOk, AskOk, Sound}
+use Rattle.meaning.specs.Lent.{Call, collection_of, CountsOk, TablesOk, NumbersOk, EndsOk, AskOk, Sound}
 use Rattle.meaning.specs.Layout.{Lays, zeros}
 
 module _ (c : Call) where
   -- the canonical model of what is lent breaks an exclusion
   abbrev pub Breaks : Type 0
-  Breaks = model.Contradiction (collectionOf c)
+  Breaks = model.Contradiction (collection_of c)
 
   -- the asked pair is yes in it
   abbrev pub Reached : Type 0
-  Reached = question.Yes (collectionOf c) c.first c.second
+  Reached = question.Yes (collection_of c) c.first c.second
 
   -- the loop sheet's rounds needed
   abbrev pub RoundsNeeded : ℕ → Type 0
-  RoundsNeeded = Needed (lite (collectionOf c))
+  RoundsNeeded = Needed (lite (collection_of c))
 
   -- an area that holds the sheet after n rounds
   abbrev pub HoldsSheet : ℕ → List ℕ → Type 0
-  HoldsSheet n = Lays (Mark (lite (collectionOf c)) n)
+  HoldsSheet n = Lays (Mark (lite (collection_of c)) n)
 
   -- the library's order: 4, 5, 6, 7, 8, 2, 3, then 1 or 0
   pub data Outcome : Answer → List ℕ → List ℕ → Type 0 where
     bad-count : (CountsOk c → ⊥) → Outcome BadCount c.area c.spare
     bad-table : CountsOk c → (TablesOk c → ⊥) → Outcome BadTable c.area c.spare
     bad-number : CountsOk c → TablesOk c → (NumbersOk c → ⊥) → Outcome BadNumber c.area c.spare
-    equal-ends : CountsOk c → TablesOk c → NumbersOk c → (EndsOk c → ⊥) → Outcome EqualEnds c.area c.spare
-    bad-ask : CountsOk c → TablesOk c → NumbersOk c → EndsOk c → (AskOk c → ⊥) → Outcome BadAsk c.area c.spare
+    equal-ends : CountsOk c → TablesOk c → NumbersOk c → (EndsOk c → ⊥)
+        → Outcome EqualEnds c.area c.spare
+    bad-ask : CountsOk c → TablesOk c → NumbersOk c → EndsOk c → (AskOk c → ⊥)
+        → Outcome BadAsk c.area c.spare
     contradiction : Sound c → Breaks → Outcome Contradiction c.area c.spare
-    spent : {n : ℕ} {area : List ℕ} → Sound c → (Breaks → ⊥) → RoundsNeeded n → c.allowance < n → HoldsSheet c.allowance area
+    spent : {n : ℕ} {area : List ℕ} → Sound c → (Breaks → ⊥) → RoundsNeeded n → c.allowance < n
+        → HoldsSheet c.allowance area
         → Outcome (AllowanceSpent c.allowance) area zeros
-    says-yes : {n : ℕ} {area : List ℕ} → Sound c → (Breaks → ⊥) → RoundsNeeded n → n ≤ c.allowance → HoldsSheet n area → Reached
+    says-yes : {n : ℕ} {area : List ℕ} → Sound c → (Breaks → ⊥) → RoundsNeeded n → n ≤ c.allowance
+        → HoldsSheet n area → Reached
         → Outcome (Yes n) area zeros
-    says-no : {n : ℕ} {area : List ℕ} → Sound c → (Breaks → ⊥) → RoundsNeeded n → n ≤ c.allowance → HoldsSheet n area → (Reached → ⊥)
+    says-no : {n : ℕ} {area : List ℕ} → Sound c → (Breaks → ⊥) → RoundsNeeded n → n ≤ c.allowance
+        → HoldsSheet n area → (Reached → ⊥)
         → Outcome (No n) area zeros

@@ -1,4 +1,5 @@
--- A run: finitely many moves, things and states in step. One notion serves the canonical model, its trees and every world.
+-- A run: finitely many moves, things and states in step. One notion serves the canonical model, its
+-- trees and every world.
 
 pub data Run {X S : Type 0} (Move : X → S → X → S → Type 0) : X → S → X → S → Type 0 where
   stop : {x : X} {s : S} → Run Move x s x s
@@ -14,6 +15,7 @@ module _ {X S : Type 0} {Move : X → S → X → S → Type 0} where
 
 -- a run is carried over by any map of things that keeps the moves
 pub carry : {X Y S : Type 0} {M : X → S → X → S → Type 0} {N : Y → S → Y → S → Type 0} (f : X → Y)
-    → ((x y : X) (s t : S) → M x s y t → Run N (f x) s (f y) t) → {x y : X} {s t : S} → Run M x s y t → Run N (f x) s (f y) t
+    → ((x y : X) (s t : S) → M x s y t → Run N (f x) s (f y) t) → {x y : X} {s t : S}
+    → Run M x s y t → Run N (f x) s (f y) t
 carry f h stop = stop
 carry f h (go m p) = join (h _ _ _ _ m) (carry f h p)

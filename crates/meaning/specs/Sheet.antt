@@ -21,7 +21,8 @@ module _ (𝓚 : Kind) where
     -- where two marks of f meet,
     joined : {u : State} → f s u B → f u t B → Round f s t B
     -- and where a step leads down to a child, a mark of f along at the child, and a step back up
-    hung : {R : Edge} {u v : State} → child B R → down R s u → f u v (end R) → up R v t → Round f s t B
+    hung : {R : Edge} {u v : State} → child B R → down R s u → f u v (end R) → up R v t
+        → Round f s t B
 
   -- (s, t, B) stands in the sheet after n rounds; round 0 has (s, s, B) for every state and concept
   abbrev pub Mark : ℕ → State → State → Concept → Type 0

@@ -17,7 +17,8 @@ module _ (𝓚 : Kind) where
     here : {B : Concept} {s : State} → Loop B s s
     tested : {B : Concept} {s t : State} → test B s t → Loop B s t
     twice : {B : Concept} {s t u : State} → Loop B s t → Loop B t u → Loop B s u
-    below : {B : Concept} {R : Edge} {s t u v : State} → child B R → down R s t → Loop (end R) t u → up R u v → Loop B s v
+    below : {B : Concept} {R : Edge} {s t u v : State} → child B R → down R s t → Loop (end R) t u
+        → up R u v → Loop B s v
 
   -- roots, the concepts that a root has, and the role steps along edges between roots
   module _ {I : Type 0} (has : I → Concept → Type 0) (near : I → State → I → State → Type 0) where
@@ -28,7 +29,8 @@ module _ (𝓚 : Kind) where
 
     pub data Move : Elem I Edge → State → Elem I Edge → State → Type 0 where
       tests : {x : Elem I Edge} {s t : State} (B : Concept) → Holds x B → test B s t → Move x s x t
-      downs : {x : Elem I Edge} {s t : State} (B : Concept) (R : Edge) → Holds x B → child B R → down R s t → Move x s (x ▹ R) t
+      downs : {x : Elem I Edge} {s t : State} (B : Concept) (R : Edge) → Holds x B → child B R
+          → down R s t → Move x s (x ▹ R) t
       ups : {x : Elem I Edge} {R : Edge} {s t : State} → up R s t → Move (x ▹ R) s x t
       hops : {a b : I} {s t : State} → near a s b t → Move (root a) s (root b) t
 
@@ -38,11 +40,13 @@ module _ (𝓚 : Kind) where
       by : {a : I} {s t : State} (B : Concept) → has a B → Loop B s t → Stride a s a t
 
     -- a loop is a path at any element that has its concept
-    pub loop→path : {B : Concept} {s t : State} → Loop B s t → (x : Elem I Edge) → Holds x B → Run Move x s x t
+    pub loop→path : {B : Concept} {s t : State} → Loop B s t → (x : Elem I Edge) → Holds x B
+        → Run Move x s x t
     loop→path here x h = stop
     loop→path (tested {B = B} e) x h = one (tests B h e)
     loop→path (twice l m) x h = join (loop→path l x h) (loop→path m x h)
-    loop→path (below {B = B} {R = R} k d l u) x h = go (downs B R h k d) (join (loop→path l (x ▹ R) refl) (one (ups u)))
+    loop→path (below {B = B} {R = R} k d l u) x h =
+        go (downs B R h k d) (join (loop→path l (x ▹ R) refl) (one (ups u)))
 
     walk→path : {a b : I} {s t : State} → Run Stride a s b t → Run Move (root a) s (root b) t
     walk→path stop = stop
@@ -50,12 +54,14 @@ module _ (𝓚 : Kind) where
     walk→path (go (by {a = a} B h l) w) = join (loop→path l (root a) h) (walk→path w)
 
     module _ (b : I) (t : State) where
-      -- what is left of a path that ends at the root b in t: at each element on the way up a loop, then the step up
+      -- what is left of a path that ends at the root b in t: at each element on the way up a loop,
+      -- then the step up
       abbrev Left : Elem I Edge → State → Type 0
       Left (root a) s = Run Stride a s b t
       Left (x ▹ R) s = (u v : State) × Loop (end R) s u × up R u v × Left x v
 
-      before : (x : Elem I Edge) {s u : State} (B : Concept) → Holds x B → Loop B s u → Left x u → Left x s
+      before : (x : Elem I Edge) {s u : State} (B : Concept) → Holds x B → Loop B s u → Left x u
+          → Left x s
       before (root a) B h l w = go (by B h l) w
       before (x ▹ R) B h l w = (w.0, w.1, twice (rw (← h) at l) w.2, w.3, w.4)
 
@@ -72,7 +78,8 @@ module _ (𝓚 : Kind) where
     pub path↔walk : {a b : I} {s t : State} → Run Move (root a) s (root b) t ↔ Run Stride a s b t
     path↔walk {b = b} {t = t} = (path→left b t, walk→path)
 
-  -- the tree grown from one element: each concept is a root that has itself alone, and nothing leads from root to root
+  -- the tree grown from one element: each concept is a root that has itself alone, and nothing
+  -- leads from root to root
   abbrev pub alone : Concept → State → Concept → State → Type 0
   alone B s C t = ⊥
 
@@ -84,6 +91,10 @@ module _ (𝓚 : Kind) where
   walk→loop (go (along h) w) = absurd h
   walk→loop (go (by C e l) w) = twice (rw (← e) at l) (walk→loop w)
 
-  -- there is a loop exactly when a path leads, in the tree grown from its concept, from the root back to the root
+  -- there is a loop exactly when a path leads, in the tree grown from its concept, from the root
+  -- back to the root
   pub loop↔tree : {B : Concept} {s t : State} → Loop B s t ↔ Tree (root B) s (root B) t
-  loop↔tree {B} {t = t} = (λ l. loop→path (λ B C. B ≡ C) alone l (root B) refl, λ p. walk→loop (path→left (λ B C. B ≡ C) alone B t p))
+  loop↔tree {B} {t = t} = (
+    λ l. loop→path (λ B C. B ≡ C) alone l (root B) refl,
+    λ p. walk→loop (path→left (λ B C. B ≡ C) alone B t p),
+  )

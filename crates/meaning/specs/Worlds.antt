@@ -1,4 +1,5 @@
--- The worlds that a collection may speak of, and what its facts and rules force: what holds in each world that has the facts and keeps the rules.
+-- The worlds that a collection may speak of, and what its facts and rules force: what holds in each
+-- world that has the facts and keeps the rules.
 use Rattle.kinds.specs.declared.ConceptName.{ConceptName}
 use Rattle.kinds.specs.declared.RoleName.{RoleName}
 use Rattle.kinds.specs.declared.Individual.{Individual}
@@ -12,7 +13,8 @@ use Rattle.meaning.specs.Collection.{Collection}
 use Rattle.meaning.specs.Model.{Structure}
 use Rattle.meaning.specs.Question.{PathIn}
 
--- a world: a structure, and the thing that each individual is. Different individuals may be one thing
+-- a world: a structure, and the thing that each individual is. Different individuals may be one
+-- thing
 pub record World : Type 1 where
   pub structure : Structure
   pub person : Individual → structure.Thing
@@ -25,22 +27,31 @@ In 𝓢 x (Exists R) = (y : 𝓢.Thing) × 𝓢.edge x R y
 module _ (𝓒 : Collection) (𝓦 : World) where
   open 𝓦 use {structure, person}
 
-  -- the world has the facts and keeps the rules; a role and its inverse are one relation, read both ways
+  -- the world has the facts and keeps the rules; a role and its inverse are one relation, read both
+  -- ways
   pub record Keeps : Type 0 where
-    pub back : {x y : structure.Thing} {S : SignedRole} → structure.edge x S y → structure.edge y (inverse S) x
-    pub concept-fact : {A : ConceptName} {a : Individual} → (A, a) ∈ 𝓒.concept-facts → structure.name (person a) A
-    pub role-fact : {r : RoleName} {a b : Individual} → (r, a, b) ∈ 𝓒.role-facts → structure.edge (person a) (forward r) (person b)
-    pub concept-rule : {C D : Concept} → (C, D) ∈ 𝓒.concept-rules → (x : structure.Thing) → In structure x C → In structure x D
-    pub role-rule : {R S : SignedRole} → (R, S) ∈ 𝓒.role-rules → {x y : structure.Thing} → structure.edge x R y → structure.edge x S y
+    pub back : {x y : structure.Thing} {S : SignedRole} → structure.edge x S y
+        → structure.edge y (inverse S) x
+    pub concept-fact : {A : ConceptName} {a : Individual} → (A, a) ∈ 𝓒.concept-facts
+        → structure.name (person a) A
+    pub role-fact : {r : RoleName} {a b : Individual} → (r, a, b) ∈ 𝓒.role-facts
+        → structure.edge (person a) (forward r) (person b)
+    pub concept-rule : {C D : Concept} → (C, D) ∈ 𝓒.concept-rules → (x : structure.Thing)
+        → In structure x C → In structure x D
+    pub role-rule : {R S : SignedRole} → (R, S) ∈ 𝓒.role-rules → {x y : structure.Thing}
+        → structure.edge x R y → structure.edge x S y
 
   -- and breaks no exclusion
   pub record Respects : Type 0 where
-    pub concepts : {C D : Concept} → (C, D) ∈ 𝓒.concept-exclusions → (x : structure.Thing) → In structure x C → In structure x D → ⊥
-    pub roles : {R S : SignedRole} → (R, S) ∈ 𝓒.role-exclusions → {x y : structure.Thing} → structure.edge x R y → structure.edge x S y → ⊥
+    pub concepts : {C D : Concept} → (C, D) ∈ 𝓒.concept-exclusions → (x : structure.Thing)
+        → In structure x C → In structure x D → ⊥
+    pub roles : {R S : SignedRole} → (R, S) ∈ 𝓒.role-exclusions → {x y : structure.Thing}
+        → structure.edge x R y → structure.edge x S y → ⊥
 
   -- a path of the question leads in it from one individual to the other
   abbrev pub YesIn : Individual → Individual → Type 0
-  YesIn a b = (t : State) × (t ∈ 𝓒.finals) × PathIn 𝓒 structure (person a) 𝓒.counts.start (person b) t
+  YesIn a b =
+      (t : State) × (t ∈ 𝓒.finals) × PathIn 𝓒 structure (person a) 𝓒.counts.start (person b) t
 
 module _ (𝓒 : Collection) where
   -- the facts and rules together force a path: every world has one

@@ -1,5 +1,5 @@
 -- A file that is read whole is accepted: for each of its asks the library is lent a call that none of its tests 4 to 8 refuses.
-use Rattle.std.specs.Prelude.{ℕ, zero, suc, ◌+◌, ◌*◌, ◌/◌, ◌%◌, ◌<◌, ◌≡◌, ◌≢◌, ◌⊎◌, Option, None, Some, IfSome, is_some, cond, unwrap_or, length, get_or, drop}
+use Rattle.std.specs.Prelude.{ℕ, zero, suc, ◌+◌, ◌*◌, ◌/◌, ◌%◌, ◌<◌, ◌≤◌, ◌≡◌, ◌≢◌, ◌⊎◌, Option, None, Some, IfSome, is_some, cond, unwrap_or, length, get_or, drop}
 use Rattle.std.proofs.Math.Path.{refl}
 use Rattle.std.proofs.Common.{ap, sym, ◌∙◌, subst, inl, inr, get_or-drop, mul-zero, mul-suc, arith}
 use mathlib.Core.List.Memᴰ
@@ -10,15 +10,16 @@ use Rattle.std.proofs.Math.Nat.{mul-div_cancel_left, mul-mod_right}
 use Rattle.laws.specs.Member.{◌∈◌}
 use Rattle.kinds.specs.declared.Concept.{Concept}
 use Rattle.kinds.specs.declared.Counts.{Counts}
-use Rattle.kinds.specs.Kinds.{conceptName, roleName, individual, state, signed, conceptOf, number_of, concept-number, CountsFit, IndividualDeclared, StateDeclared}
+use Rattle.kinds.specs.Kinds.{concept_name, role_name, individual, state, signed, concept_of, number_of, concept-number, CountsFit, IndividualDeclared, StateDeclared}
 use Rattle.meaning.specs.Collection.{Each, step, ConceptsDeclared, RolesDeclared, ConceptFactDeclared, RoleFactDeclared, StepDeclared}
-use Rattle.meaning.specs.Layout.{areaLength}
-use Rattle.meaning.specs.Lent.{field, records, conceptPair, rolePair, conceptFact, roleFact, letterOf, stepAt, finalAt, Whole, TablesOk, NumbersOk, EndsDiffer, EndsOk, Sound}
-use Rattle.tables.specs.Records.{Low, kind_at, each_in}
+use Rattle.meaning.specs.Layout.{area_length}
+use Rattle.meaning.specs.Lent.{field, step_width, records, concept_pair, role_pair, concept_fact, role_fact, letter_of, step_at, final_at, Whole, TablesOk, NumbersOk, EndsDiffer, EndsOk, Sound}
+use Rattle.tables.proofs.Meant.{each_in}
 use Rattle.streams.specs.Lines.{lines}
 use Rattle.frames.specs.declared.Frame.{Frame}
 use Rattle.frames.specs.declared.Frame.TheVariants.{Declared, ConceptRule, ConceptExclusion, RoleRule, RoleExclusion, ConceptFact, RoleFact, RoleStep, TestStep, Final, Ask, Allowance}
-use Rattle.reading.specs.Tables.{Kind, concept_rules, concept_exclusions, role_rules, role_exclusions, concept_facts, role_facts, steps, finals, asks, record_in, width, most, entries, table, declared_by, asked}
+use Rattle.reading.specs.Tables.{Kind, concept_rules, concept_exclusions, role_rules, role_exclusions, concept_facts, role_facts, steps, finals, asks, record_in, width, most, entries, table, declared_by}
+use Rattle.reading.specs.File.{file_of, asked}
 use Rattle.reading.specs.Reading.{Verdict, sound, frames_of, Reading, empty, whole, stopped, onward, Taken, none, more}
 use Rattle.reading.proofs.TableLaws.{record-width, entries-cons, table-length}
 use Rattle.reading.proofs.Passed.{Passed, judged_ok, taken-keeps}
@@ -29,15 +30,15 @@ use Rattle.reading.proofs.Turns.{fitting}
 -- what is demanded of a record whose numbers are n 0, n 1 and so on, in each table
 module _ (c : Counts) (n : ℕ → ℕ) where
   abbrev Passes : Kind → Type 0
-  Passes concept_rules = ConceptsDeclared c (conceptOf (n 0), conceptOf (n 1))
-  Passes concept_exclusions = ConceptsDeclared c (conceptOf (n 0), conceptOf (n 1))
+  Passes concept_rules = ConceptsDeclared c (concept_of (n 0), concept_of (n 1))
+  Passes concept_exclusions = ConceptsDeclared c (concept_of (n 0), concept_of (n 1))
   Passes role_rules = RolesDeclared c (signed (n 0), signed (n 1))
   Passes role_exclusions = RolesDeclared c (signed (n 0), signed (n 1))
-  Passes concept_facts = ConceptFactDeclared c (conceptName (n 0), individual (n 1))
+  Passes concept_facts = ConceptFactDeclared c (concept_name (n 0), individual (n 1))
   Passes role_facts =
-      RoleFactDeclared c (roleName (n 0), individual (n 1), individual (n 2))
-      × EndsDiffer (roleName (n 0), individual (n 1), individual (n 2))
-  Passes steps = Low (n 0) × StepDeclared c (step (state (n 1)) (letterOf (n 0) (n 2)) (state (n 3)))
+      RoleFactDeclared c (role_name (n 0), individual (n 1), individual (n 2))
+      × EndsDiffer (role_name (n 0), individual (n 1), individual (n 2))
+  Passes steps = (n 0 ≤ 1) × StepDeclared c (step (state (n 1)) (letter_of (n 0) (n 2)) (state (n 3)))
   Passes finals = StateDeclared c (state (n 0))
   Passes asks = IndividualDeclared c (individual (n 0)) × IndividualDeclared c (individual (n 1))
 
@@ -50,7 +51,7 @@ abbrev FramePasses : Counts → Frame → Kind → List ℕ → Type 0
 FramePasses c f kind l = IfSome (record_in kind f) (λ r. Passes c (numbers (r ++ l)) kind)
 
 -- a declared concept is read back from its number
-concepts-pass : (c : Counts) → CountsFit c → (C D : Concept) → ConceptsDeclared c (C, D) → ConceptsDeclared c (conceptOf (number_of C), conceptOf (number_of D))
+concepts-pass : (c : Counts) → CountsFit c → (C D : Concept) → ConceptsDeclared c (C, D) → ConceptsDeclared c (concept_of (number_of C), concept_of (number_of D))
 concepts-pass c k C D h = rw (concept-number c k.names C h.0, concept-number c k.names D h.1) h
 
 module _ (before : List Frame) (t : Taken before) (l : List ℕ) where
@@ -110,7 +111,7 @@ passing : (fs : List Frame) → Taken fs → Passing fs
 passing = taken-keeps Passing (λ f m. absurd (Memᴰ.not-nil m)) passing-more
 
 -- a frame's record stands first in a list
-record Leads (kind : Kind) (fs : List Frame) (l : List ℕ) : Type 0 where
+record RecordLeads (kind : Kind) (fs : List Frame) (l : List ℕ) : Type 0 where
   frame : Frame
   among : frame ∈ fs
   record-of : List ℕ
@@ -119,12 +120,12 @@ record Leads (kind : Kind) (fs : List Frame) (l : List ℕ) : Type 0 where
   is : l ≡ record-of ++ rest
 
 module _ (kind : Kind) where
-  leads-still : (f : Frame) {fs : List Frame} {l m : List ℕ} → m ≡ l → Leads kind fs l → Leads kind (f ∷ fs) m
+  leads-still : (f : Frame) {fs : List Frame} {l m : List ℕ} → m ≡ l → RecordLeads kind fs l → RecordLeads kind (f ∷ fs) m
   leads-still f e w = record { frame = w.frame; among = Memᴰ.tail w.among; record-of = w.record-of; of = w.of; rest = w.rest; is = e ∙ w.is }
 
   leads-more : (f : Frame) (fs : List Frame) (o : Option (List ℕ)) → record_in kind f ≡ o → (k : ℕ) → k < cond (is_some o) 1 0 + entries kind fs
-      → ((i : ℕ) → i < entries kind fs → Leads kind fs (drop (width kind * i) (table kind fs)))
-      → Leads kind (f ∷ fs) (drop (width kind * k) (unwrap_or o [] ++ table kind fs))
+      → ((i : ℕ) → i < entries kind fs → RecordLeads kind fs (drop (width kind * i) (table kind fs)))
+      → RecordLeads kind (f ∷ fs) (drop (width kind * k) (unwrap_or o [] ++ table kind fs))
   leads-more f fs (Some r) e zero h on =
       record { frame = f; among = Memᴰ.head refl; record-of = r; of = e; rest = table kind fs; is = rw (mul-zero (width kind)) refl }
   leads-more f fs (Some r) e (suc k) h on =
@@ -134,7 +135,7 @@ module _ (kind : Kind) where
   leads-more f fs None e k h on = leads-still f refl (on k (omega arith))
 
   -- record k of a table is that of a frame
-  leads : (fs : List Frame) (k : ℕ) → k < entries kind fs → Leads kind fs (drop (width kind * k) (table kind fs))
+  leads : (fs : List Frame) (k : ℕ) → k < entries kind fs → RecordLeads kind fs (drop (width kind * k) (table kind fs))
   unfolding entries table
   leads [] k h = absurd (omega arith)
   leads (f ∷ fs) k h = leads-more f fs (record_in kind f) refl k (omega (arith, entries-cons kind f fs)) (leads fs)
@@ -167,7 +168,7 @@ module _ {fs : List Frame} (t : Taken fs) where
 
   -- the tests 5 to 8; line 1's counts have passed test 4
   module _ (k : ℕ) where
-    tables-ok : TablesOk (asked fs k)
+    tables-ok : TablesOk (asked (file_of fs) k)
     tables-ok = record {
       tables = record {
         concept-rules = whole-table concept_rules (omega arith);
@@ -179,27 +180,27 @@ module _ {fs : List Frame} (t : Taken fs) where
         steps = whole-table steps (omega arith);
         finals = whole-table finals (omega arith);
       };
-      area = length-replicate {A = ℕ} areaLength 0;
-      spare = length-replicate {A = ℕ} areaLength 0;
+      area = length-replicate {A = ℕ} area_length 0;
+      spare = length-replicate {A = ℕ} area_length 0;
     }
 
-    numbers-ok : NumbersOk (asked fs k)
+    numbers-ok : NumbersOk (asked (file_of fs) k)
     numbers-ok = record {
       declared = record {
-        concept-rules = each concept_rules (omega arith) conceptPair (ConceptsDeclared (declared_by fs)) (record-passes concept_rules);
-        concept-exclusions = each concept_exclusions (omega arith) conceptPair (ConceptsDeclared (declared_by fs)) (record-passes concept_exclusions);
-        role-rules = each role_rules (omega arith) rolePair (RolesDeclared (declared_by fs)) (record-passes role_rules);
-        role-exclusions = each role_exclusions (omega arith) rolePair (RolesDeclared (declared_by fs)) (record-passes role_exclusions);
-        concept-facts = each concept_facts (omega arith) conceptFact (ConceptFactDeclared (declared_by fs)) (record-passes concept_facts);
-        role-facts = each role_facts (omega arith) roleFact (RoleFactDeclared (declared_by fs)) (λ i h. (record-passes role_facts i h).0);
-        steps = each steps (omega arith) stepAt (StepDeclared (declared_by fs)) (λ i h. (record-passes steps i h).1);
-        finals = each finals (omega arith) finalAt (StateDeclared (declared_by fs)) (record-passes finals);
+        concept-rules = each concept_rules (omega arith) concept_pair (ConceptsDeclared (declared_by fs)) (record-passes concept_rules);
+        concept-exclusions = each concept_exclusions (omega arith) concept_pair (ConceptsDeclared (declared_by fs)) (record-passes concept_exclusions);
+        role-rules = each role_rules (omega arith) role_pair (RolesDeclared (declared_by fs)) (record-passes role_rules);
+        role-exclusions = each role_exclusions (omega arith) role_pair (RolesDeclared (declared_by fs)) (record-passes role_exclusions);
+        concept-facts = each concept_facts (omega arith) concept_fact (ConceptFactDeclared (declared_by fs)) (record-passes concept_facts);
+        role-facts = each role_facts (omega arith) role_fact (RoleFactDeclared (declared_by fs)) (λ i h. (record-passes role_facts i h).0);
+        steps = each steps (omega arith) step_at (StepDeclared (declared_by fs)) (λ i h. (record-passes steps i h).1);
+        finals = each finals (omega arith) final_at (StateDeclared (declared_by fs)) (record-passes finals);
       };
-      step-kinds = each steps (omega arith) kind_at Low (λ i h. (record-passes steps i h).0);
+      step-kinds = each steps (omega arith) (λ t k. field step_width t 0 k) (λ n. n ≤ 1) (λ i h. (record-passes steps i h).0);
     }
 
-    ends-ok : EndsOk (asked fs k)
-    ends-ok = each role_facts (omega arith) roleFact EndsDiffer (λ i h. (record-passes role_facts i h).1)
+    ends-ok : EndsOk (asked (file_of fs) k)
+    ends-ok = each role_facts (omega arith) role_fact EndsDiffer (λ i h. (record-passes role_facts i h).1)
 
 -- a file with a record in some table has its line 1
 some-begun : (kind : Kind) (k : ℕ) (fs : List Frame) → k < entries kind fs → fs ≢ []
@@ -208,7 +209,7 @@ some-begun kind k [] h e = omega arith
 some-begun kind k (f ∷ fs) h e = cc
 
 -- THEOREM: where frames are taken, the call of each ask among them passes the library's tests 4 to 8
-pub accepted : (fs : List Frame) → Taken fs → (k : ℕ) → k < entries asks fs → Sound (asked fs k)
+pub accepted : (fs : List Frame) → Taken fs → (k : ℕ) → k < entries asks fs → Sound (asked (file_of fs) k)
 accepted fs t k h =
     record {
       counts = fitting fs t (some-begun asks k fs h);
@@ -226,5 +227,5 @@ reading-taken (stopped before l ls r h) t = t
 reading-taken (onward before l ls f v h rest) t = reading-taken rest (more before f t (judged_ok h))
 
 -- THEOREM: a file that is read whole is accepted
-pub whole-accepted : (input : List ℕ) (fs : List Frame) → Reading [] (lines input) (sound fs) → (k : ℕ) → k < entries asks fs → Sound (asked fs k)
+pub whole-accepted : (input : List ℕ) (fs : List Frame) → Reading [] (lines input) (sound fs) → (k : ℕ) → k < entries asks fs → Sound (asked (file_of fs) k)
 whole-accepted input fs r = accepted fs (reading-taken r none)

@@ -1,7 +1,7 @@
 -- Frames that are taken stay within the most of each table, so that there are at most 7,186 of them.
 use Rattle.std.specs.Prelude.{ℕ, ◌+◌, ◌≤◌, ◌≡◌, Bool, true, false, List, [], ◌∷◌, ◌++◌, Option, None, Some, cond, is_some, IsSome, length}
 use Rattle.std.proofs.Common.{refl, ap, ◌∙◌, arith, length-append}
-use Rattle.meaning.specs.Lent.{mostConceptRules, mostConceptExclusions, mostRoleRules, mostRoleExclusions, mostConceptFacts, mostRoleFacts, mostSteps, mostFinals}
+use Rattle.meaning.specs.Lent.{most_concept_rules, most_concept_exclusions, most_role_rules, most_role_exclusions, most_concept_facts, most_role_facts, most_steps, most_finals}
 use Rattle.frames.specs.declared.Frame.{Frame}
 use Rattle.frames.specs.declared.Frame.TheVariants.{Declared, ConceptRule, ConceptExclusion, RoleRule, RoleExclusion, ConceptFact, RoleFact, RoleStep, TestStep, Final, Ask, Allowance}
 use Rattle.reading.specs.Tables.{Kind, concept_rules, concept_exclusions, role_rules, role_exclusions, concept_facts, role_facts, steps, finals, asks, record_in, most, most_asks, entries, allowance_given}
@@ -96,7 +96,7 @@ module _ (before : List Frame) where
 
 -- the most lines of a sound file: line 1, the allowance, and as many as the tables have records; 7,186
 abbrev pub most_lines : ℕ
-most_lines = 2 + mostConceptRules + mostConceptExclusions + mostRoleRules + mostRoleExclusions + mostConceptFacts + mostRoleFacts + mostSteps + mostFinals + most_asks
+most_lines = 2 + most_concept_rules + most_concept_exclusions + most_role_rules + most_role_exclusions + most_concept_facts + most_role_facts + most_steps + most_finals + most_asks
 
 given-most : (o : Option ℕ) → cond (is_some o) 1 0 ≤ 1
 given-most None = omega arith

@@ -15,7 +15,7 @@ use Rattle.reading.specs.declared.Refusal.{Refusal}
 use Rattle.reading.specs.declared.Refusal.TheVariants.{BadLine, OutOfPlace}
 use Rattle.reading.specs.File.{file_of}
 use Rattle.reading.specs.Reading.{Finds, unread, Verdict, faulty, sound, frames_of, Reading, empty, whole, stopped, onward, Taken, none, more}
-use Rattle.reading.specs.Reads.{Reads, IsRead, told_of, told_at_end}
+use Rattle.reading.specs.Reads.{ReadsFile, IsRead, told_of, told_at_end}
 use Rattle.reading.specs.Turns as turns
 use Rattle.reading.proofs.Passed.{judged_ok}
 
@@ -72,7 +72,7 @@ ends-some n = let e : (suc n == 0) ≡ false = grind (arith, nat_tests) in rw e 
 
 -- what reading comes to is what is told and held
 reads : (a : Option (List ℕ)) (v : Verdict) {found : Result (Unit {0}) Fault} {file : File} → ReadingOf a v → found ≡ told_of v → file ≡ file_of (frames_of v)
-    → IfSome a (λ xs. Reads (lines xs) found file)
+    → IfSome a (λ xs. ReadsFile (lines xs) found file)
 reads None v r t k = tt
 reads (Some xs) v r t k = record { verdict = v; reading = r; told = t; kept = k }
 
@@ -115,21 +115,21 @@ module _ {input left : Option (List ℕ)} {file : File} (w : Begun input left fi
             record { before = w.before ++ f ∷ []; taken = more w.before f w.taken (judged_ok h); kept = refl; goes = goes_line input left next w.before line f w.goes t h }
 
     pub stops : {new : File} {r : Refusal} {fault : Fault} → turns.TakesLine file line (Err r) new → fault ≡ record { line = new.lines + 1; refusal = r }
-        → IfSome input (λ xs. Reads (lines xs) (Err fault) new)
+        → IfSome input (λ xs. ReadsFile (lines xs) (Err fault) new)
     stops {new} {r} {fault} h e = by new (h.by w.before w.taken w.kept) e
       where
-        by : (new : File) → turns.Turn w.before line (Err r) new → fault ≡ record { line = new.lines + 1; refusal = r } → IfSome input (λ xs. Reads (lines xs) (Err fault) new)
+        by : (new : File) → turns.Turn w.before line (Err r) new → fault ≡ record { line = new.lines + 1; refusal = r } → IfSome input (λ xs. ReadsFile (lines xs) (Err fault) new)
         by new (turns.refused r i) e = reads input (faulty w.before r) (goes_stop input left next w.before line r w.goes t i) (ap Err e) refl
 
   pub stops_long : {n : ℕ} {fault : Fault} → line_length ≤ n → BeginsLonger left n → fault ≡ record { line = file.lines + 1; refusal = BadLine }
-      → IfSome input (λ xs. Reads (lines xs) (Err fault) file)
+      → IfSome input (λ xs. ReadsFile (lines xs) (Err fault) file)
   stops_long {n} m h e =
       reads input (faulty w.before BadLine) (goes_long input left w.before n m w.goes h)
       (ap Err (e ∙ ap (λ (f : File). record { line = f.lines + 1; refusal = BadLine }) w.kept)) w.kept
 
-  pub ends : {found : Result (Unit {0}) Fault} → IsAtEnd left → found ≡ told_at_end file → IfSome input (λ xs. Reads (lines xs) found file)
+  pub ends : {found : Result (Unit {0}) Fault} → IsAtEnd left → found ≡ told_at_end file → IfSome input (λ xs. ReadsFile (lines xs) found file)
   ends {found} h e = by w.before (goes_end input left w.before w.goes h) w.kept
     where
-      by : (fs : List Frame) → ReadingOf input (ended fs) → file ≡ file_of fs → IfSome input (λ xs. Reads (lines xs) found file)
+      by : (fs : List Frame) → ReadingOf input (ended fs) → file ≡ file_of fs → IfSome input (λ xs. ReadsFile (lines xs) found file)
       by [] r k = reads input (ended []) r (e ∙ ap told_at_end k) k
       by (f ∷ fs) r k = reads input (ended (f ∷ fs)) r (e ∙ ap told_at_end k ∙ ends-some (length fs)) k

@@ -7,5 +7,4 @@ pub mod Turns
 pub mod GoingOn
 pub mod Once
 pub mod Accepted
-pub mod Asks
 pub mod Prefix

@@ -10,7 +10,7 @@ use Rattle.reading.specs.declared.Refusal.{Refusal}
 use Rattle.reading.specs.File.{file_of}
 use Rattle.reading.specs.Judged.{Judged}
 use Rattle.reading.specs.Reading.{Finds, unread, refused, taken, Verdict, frames_of, Reading, empty, whole, stopped, onward}
-use Rattle.reading.specs.Reads.{Reads, told_of}
+use Rattle.reading.specs.Reads.{ReadsFile, told_of}
 
 -- THEOREM: a frame is refused for one reason, or taken
 pub judged-once : (before : List Frame) (f : Frame) (r q : Result (Unit {0}) Refusal) → Judged before f r → Judged before f q → r ≡ q
@@ -53,7 +53,7 @@ reading-once (onward before l ls f v h rest) (onward b m ms g w k rest') =
     reading-once (rw d at rest) rest'
 
 -- THEOREM: two outcomes of reading some lines are equal
-pub reads-once : {ls : List (List ℕ)} {r q : Result (Unit {0}) Fault} {x y : File} → Reads ls r x → Reads ls q y → (r ≡ q) × (x ≡ y)
+pub reads-once : {ls : List (List ℕ)} {r q : Result (Unit {0}) Fault} {x y : File} → ReadsFile ls r x → ReadsFile ls q y → (r ≡ q) × (x ≡ y)
 reads-once a b =
     let e = reading-once a.reading b.reading in
     (a.told ∙ ap told_of e ∙ sym b.told, a.kept ∙ ap (λ v. file_of (frames_of v)) e ∙ sym b.kept)

@@ -1,11 +1,15 @@
--- What is held of the frames that are read: each fact about them in its own field.
-use Rattle.std.specs.Prelude.{ℕ, ◌+◌, ◌*◌, ◌^◌, ◌<◌, ◌≤◌, ◌≡◌, List, [], ◌∷◌, ◌++◌, None, Some, ⊤, length}
+-- What is held of the frames that are read, each fact about them in its own field, and what is
+-- asked of the library.
+use Rattle.std.specs.Prelude.{ℕ, ◌+◌, ◌*◌, ◌^◌, ◌<◌, ◌≤◌, ◌≡◌, List, [], ◌∷◌, ◌++◌, None, Some, ⊤, length, unwrap_or}
 use Rattle.kinds.specs.Kinds.{number_of}
-use Rattle.meaning.specs.Lent.{Tables}
+use Rattle.meaning.specs.Lent.{Tables, Call}
+use Rattle.meaning.specs.Layout.{zeros}
+use Rattle.tables.specs.declared.ask.Ask as tables
+use Rattle.tables.specs.Asks.{read_ask, first_of, second_of}
 use Rattle.frames.specs.declared.Frame.{Frame}
 use Rattle.frames.specs.declared.Frame.TheVariants.{Declared, ConceptRule, ConceptExclusion, RoleRule, RoleExclusion, ConceptFact, RoleFact, RoleStep, TestStep, Final, Ask, Allowance}
 use Rattle.reading.specs.declared.File.{File}
-use Rattle.reading.specs.Tables.{Kind, concept_rules, concept_exclusions, role_rules, role_exclusions, concept_facts, role_facts, steps, finals, asks, width, most, table, declared_by, allowance_given}
+use Rattle.reading.specs.Tables.{Kind, concept_rules, concept_exclusions, role_rules, role_exclusions, concept_facts, role_facts, steps, finals, asks, width, most, table, declared_by, allowance_given, usual_allowance}
 
 abbrev pub file_of : List Frame → File
 file_of fs = record {
@@ -35,6 +39,25 @@ lent_tables file = record {
   steps = file.steps;
   finals = file.finals;
 }
+
+abbrev pub allowance_in : File → ℕ
+allowance_in file = unwrap_or file.allowance usual_allowance
+
+-- ask k, and its call of the library over the whole file
+module _ (file : File) (k : ℕ) where
+  abbrev pub ask_at : tables.Ask
+  ask_at = read_ask file.asks k
+
+  abbrev pub asked : Call
+  asked = record {
+    counts = file.counts;
+    tables = lent_tables file;
+    first = first_of ask_at;
+    second = second_of ask_at;
+    allowance = allowance_in file;
+    area = zeros;
+    spare = zeros;
+  }
 
 -- a frame is in its place: line 1 declares, and no other line does; one allowance is given at most
 abbrev pub IsInPlace : File → Frame → Type 0
@@ -69,10 +92,13 @@ IsSmall other = ⊤
 -- a frame more
 abbrev pub fields_with : Frame → File → File
 fields_with (Declared c) t = record t { counts = c }
-fields_with (ConceptRule C D) t = record t { concept_rules = t.concept_rules ++ (number_of C ∷ number_of D ∷ []) }
-fields_with (ConceptExclusion C D) t = record t { concept_exclusions = t.concept_exclusions ++ (number_of C ∷ number_of D ∷ []) }
+fields_with (ConceptRule C D) t =
+    record t { concept_rules = t.concept_rules ++ (number_of C ∷ number_of D ∷ []) }
+fields_with (ConceptExclusion C D) t =
+    record t { concept_exclusions = t.concept_exclusions ++ (number_of C ∷ number_of D ∷ []) }
 fields_with (RoleRule R S) t = record t { role_rules = t.role_rules ++ (R.0 ∷ S.0 ∷ []) }
-fields_with (RoleExclusion R S) t = record t { role_exclusions = t.role_exclusions ++ (R.0 ∷ S.0 ∷ []) }
+fields_with (RoleExclusion R S) t =
+    record t { role_exclusions = t.role_exclusions ++ (R.0 ∷ S.0 ∷ []) }
 fields_with (ConceptFact A a) t = record t { concept_facts = t.concept_facts ++ (A.0 ∷ a.0 ∷ []) }
 fields_with (RoleFact r a b) t = record t { role_facts = t.role_facts ++ (r.0 ∷ a.0 ∷ b.0 ∷ []) }
 fields_with (RoleStep s R u) t = record t { steps = t.steps ++ (0 ∷ s.0 ∷ R.0 ∷ u.0 ∷ []) }

@@ -1,4 +1,5 @@
--- The number that refuses a frame, or none: of its tests, in the order of their numbers, the first that fails.
+-- The number that refuses a frame, or none: of its tests, in the order of their numbers, the first
+-- that fails.
 use Rattle.std.specs.Prelude.{◌<◌, ◌≡◌, ◌≢◌, List, [], Result, Ok, Err, None, ⊤}
 use Rattle.kinds.specs.declared.Counts.{Counts}
 use Rattle.kinds.specs.Kinds.{CountsFit, StateDeclared, IndividualDeclared}

@@ -8,14 +8,16 @@ use Rattle.reading.specs.declared.Refusal.TheVariants.{OutOfPlace}
 use Rattle.reading.specs.Refusal.{refusal_of}
 use Rattle.reading.specs.Judged.{Judged}
 
--- what a line is found to be after the frames before it: no frame, one that is refused, or one that is taken
+-- what a line is found to be after the frames before it: no frame, one that is refused, or one that
+-- is taken
 pub data Finds (before : List Frame) (line : List ℕ) : Result Frame Refusal → Type 0 where
   unread : (m : Misread) → FrameOf line (Err m) → Finds before line (Err (refusal_of m))
-  refused : (f : Frame) (r : Refusal) → FrameOf line (Ok f) → Judged before f (Err r) → Finds before line (Err r)
+  refused : (f : Frame) (r : Refusal) → FrameOf line (Ok f) → Judged before f (Err r)
+      → Finds before line (Err r)
   taken : (f : Frame) → FrameOf line (Ok f) → Judged before f (Ok tt) → Finds before line (Ok f)
 
--- what a file is found to be: faulty, with the frames before its first faulty line and why that line is refused, or sound,
--- with its frames
+-- what a file is found to be: faulty, with the frames before its first faulty line and why that
+-- line is refused, or sound, with its frames
 pub data Verdict : Type 0 where
   faulty : List Frame → Refusal → Verdict
   sound : List Frame → Verdict
@@ -36,4 +38,5 @@ pub data Reading : List Frame → List (List ℕ) → Verdict → Type 0 where
 -- frames of which each was taken after those before it
 pub data Taken : List Frame → Type 0 where
   none : Taken []
-  more : (before : List Frame) (f : Frame) → Taken before → Judged before f (Ok tt) → Taken (before ++ f ∷ [])
+  more : (before : List Frame) (f : Frame) → Taken before → Judged before f (Ok tt)
+      → Taken (before ++ f ∷ [])

@@ -1,11 +1,11 @@
--- What a list of frames says: what line 1 declares, the allowance, and the tables, each with the records of its kind.
+-- What a list of frames says: what line 1 declares, the allowance, and the tables, each with the
+-- records of its kind.
 use Rattle.std.specs.Prelude.{ℕ, List, [], ◌∷◌, Option, None, Some, unwrap_or, is_some, count_by}
 use Rattle.std.specs.List.{flat_map}
 use Rattle.kinds.specs.declared.Counts.{Counts}
-use Rattle.kinds.specs.declared.Individual.{Individual}
-use Rattle.kinds.specs.Kinds.{individual, state, number_of}
-use Rattle.meaning.specs.Lent.{Tables, Call, field, ruleWidth, conceptFactWidth, roleFactWidth, stepWidth, finalWidth, mostConceptRules, mostConceptExclusions, mostRoleRules, mostRoleExclusions, mostConceptFacts, mostRoleFacts, mostSteps, mostFinals}
-use Rattle.meaning.specs.Layout.{zeros}
+use Rattle.kinds.specs.Kinds.{state, number_of}
+use Rattle.meaning.specs.Lent.{rule_width, concept_fact_width, role_fact_width, step_width, final_width, most_concept_rules, most_concept_exclusions, most_role_rules, most_role_exclusions, most_concept_facts, most_role_facts, most_steps, most_finals}
+use Rattle.tables.specs.Asks.{ask_width}
 use Rattle.frames.specs.declared.Frame.{Frame}
 use Rattle.frames.specs.declared.Frame.TheVariants.{Declared, ConceptRule, ConceptExclusion, RoleRule, RoleExclusion, ConceptFact, RoleFact, RoleStep, TestStep, Final, Ask, Allowance}
 
@@ -36,18 +36,15 @@ record_in asks (Ask a b) = Some (a.0 ∷ b.0 ∷ [])
 record_in kind f = None
 
 -- the numbers in a record of each kind
-abbrev pub ask_width : ℕ
-ask_width = 2
-
 abbrev pub width : Kind → ℕ
-width concept_rules = ruleWidth
-width concept_exclusions = ruleWidth
-width role_rules = ruleWidth
-width role_exclusions = ruleWidth
-width concept_facts = conceptFactWidth
-width role_facts = roleFactWidth
-width steps = stepWidth
-width finals = finalWidth
+width concept_rules = rule_width
+width concept_exclusions = rule_width
+width role_rules = rule_width
+width role_exclusions = rule_width
+width concept_facts = concept_fact_width
+width role_facts = role_fact_width
+width steps = step_width
+width finals = final_width
 width asks = ask_width
 
 -- the most records of each table
@@ -55,14 +52,14 @@ abbrev pub most_asks : ℕ
 most_asks = 256
 
 abbrev pub most : Kind → ℕ
-most concept_rules = mostConceptRules
-most concept_exclusions = mostConceptExclusions
-most role_rules = mostRoleRules
-most role_exclusions = mostRoleExclusions
-most concept_facts = mostConceptFacts
-most role_facts = mostRoleFacts
-most steps = mostSteps
-most finals = mostFinals
+most concept_rules = most_concept_rules
+most concept_exclusions = most_concept_exclusions
+most role_rules = most_role_rules
+most role_exclusions = most_role_exclusions
+most concept_facts = most_concept_facts
+most role_facts = most_role_facts
+most steps = most_steps
+most finals = most_finals
 most asks = most_asks
 
 -- how many records the frames add to a table
@@ -89,38 +86,3 @@ allowance_given (f ∷ fs) = allowance_given fs
 
 abbrev pub usual_allowance : ℕ
 usual_allowance = 64
-
-abbrev pub allowance_of : List Frame → ℕ
-allowance_of fs = unwrap_or (allowance_given fs) usual_allowance
-
--- the library's tables
-abbrev pub tables_of : List Frame → Tables
-tables_of fs = record {
-  concept-rules = table concept_rules fs;
-  concept-exclusions = table concept_exclusions fs;
-  role-rules = table role_rules fs;
-  role-exclusions = table role_exclusions fs;
-  concept-facts = table concept_facts fs;
-  role-facts = table role_facts fs;
-  steps = table steps fs;
-  finals = table finals fs;
-}
-
--- ask k: its two individuals, and its call of the library over the whole file
-module _ (fs : List Frame) (k : ℕ) where
-  abbrev pub first_asked : Individual
-  first_asked = individual (field ask_width (table asks fs) 0 k)
-
-  abbrev pub second_asked : Individual
-  second_asked = individual (field ask_width (table asks fs) 1 k)
-
-  abbrev pub asked : Call
-  asked = record {
-    counts = declared_by fs;
-    tables = tables_of fs;
-    first = first_asked;
-    second = second_asked;
-    allowance = allowance_of fs;
-    area = zeros;
-    spare = zeros;
-  }

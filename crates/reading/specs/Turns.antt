@@ -11,9 +11,12 @@ pub record JudgedBy (file : File) (f : Frame) (r : Result (Unit {0}) Refusal) : 
   pub by : (before : List Frame) → file ≡ file_of before → Judged before f r
 
 -- a line after some frames: it is refused, or its frame is held with them
-pub data Turn (before : List Frame) (line : List ℕ) : Result (Unit {0}) Refusal → File → Type 0 where
+pub data Turn (before : List Frame) (line : List ℕ)
+    : Result (Unit {0}) Refusal → File → Type 0 where
   refused : (r : Refusal) → Finds before line (Err r) → Turn before line (Err r) (file_of before)
-  taken : (f : Frame) → Finds before line (Ok f) → Turn before line (Ok tt) (file_of (before ++ f ∷ []))
+  taken : (f : Frame) → Finds before line (Ok f)
+      → Turn before line (Ok tt) (file_of (before ++ f ∷ []))
 
-pub record TakesLine (old : File) (line : List ℕ) (r : Result (Unit {0}) Refusal) (new : File) : Type 0 where
+pub record TakesLine
+    (old : File) (line : List ℕ) (r : Result (Unit {0}) Refusal) (new : File) : Type 0 where
   pub by : (before : List Frame) → Taken before → old ≡ file_of before → Turn before line r new

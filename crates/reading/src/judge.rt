@@ -4,7 +4,6 @@ ghost use Rattle.reading.specs.Judged.{CountsOk, NumbersOk, EndsDiffer, AskOk};
 ghost use Rattle.reading.specs.File.{IsInPlace, HasShelfRoom};
 ghost use Rattle.reading.specs.Turns.{JudgedBy};
 
-use crate::sizes::{ASK, CONCEPT_FACT, FINAL, ROLE_FACT, RULE, STEP};
 use crate::{File, Refusal};
 use frames::Frame;
 use kinds::Counts;
@@ -82,15 +81,15 @@ impl File {
         ensures { IsTrue result ↔ HasShelfRoom self.now frame }
     {
         match frame {
-            Frame::ConceptRule(_, _) => self.concept_rules.has_room(RULE),
-            Frame::ConceptExclusion(_, _) => self.concept_exclusions.has_room(RULE),
-            Frame::RoleRule(_, _) => self.role_rules.has_room(RULE),
-            Frame::RoleExclusion(_, _) => self.role_exclusions.has_room(RULE),
-            Frame::ConceptFact(_, _) => self.concept_facts.has_room(CONCEPT_FACT),
-            Frame::RoleFact(_, _, _) => self.role_facts.has_room(ROLE_FACT),
-            Frame::RoleStep(_, _, _) | Frame::TestStep(_, _, _) => self.steps.has_room(STEP),
-            Frame::Final(_) => self.finals.has_room(FINAL),
-            Frame::Ask(_, _) => self.asks.has_room(ASK),
+            Frame::ConceptRule(_, _) => self.concept_rules.has_room(),
+            Frame::ConceptExclusion(_, _) => self.concept_exclusions.has_room(),
+            Frame::RoleRule(_, _) => self.role_rules.has_room(),
+            Frame::RoleExclusion(_, _) => self.role_exclusions.has_room(),
+            Frame::ConceptFact(_, _) => self.concept_facts.has_room(),
+            Frame::RoleFact(_, _, _) => self.role_facts.has_room(),
+            Frame::RoleStep(_, _, _) | Frame::TestStep(_, _, _) => self.steps.has_room(),
+            Frame::Final(_) => self.finals.has_room(),
+            Frame::Ask(_, _) => self.asks.has_room(),
             Frame::Declared(_) | Frame::Allowance(_) => true,
         }
     }

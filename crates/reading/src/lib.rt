@@ -1,14 +1,13 @@
 // A file read line by line: each line's frame is refused with its number, or its record is kept in the table of its kind.
 #![tactic(auto)]
 
-ghost use Rattle.std.specs.Prelude.{◌≡◌, ◌+◌, ◌^◌, ◌<◌, [], Err, IfOk, IfErr, IfSome, OnErr, unwrap_or};
+ghost use Rattle.std.specs.Prelude.{◌≡◌, ◌+◌, ◌^◌, ◌<◌, [], Err, IfOk, IfErr, IfSome, OnErr};
 ghost use Rattle.kinds.specs.Kinds.{number_of};
-ghost use Rattle.tables.specs.Checks.{lists};
+ghost use Rattle.tables.specs.Lists.{lists};
 ghost use Rattle.streams.specs.Lines.{lines};
 ghost use Rattle.reading.specs.Refusal.{refusal_number, refusal_of};
-ghost use Rattle.reading.specs.Tables.{usual_allowance};
-ghost use Rattle.reading.specs.File.{file_of, file_with, lent_tables, HasShelfRoom, IsSmall};
-ghost use Rattle.reading.specs.Reads.{IsRead, Reads, told_at_end};
+ghost use Rattle.reading.specs.File.{file_of, file_with, allowance_in, lent_tables, HasShelfRoom, IsSmall};
+ghost use Rattle.reading.specs.Reads.{IsRead, ReadsFile, told_at_end};
 ghost use Rattle.reading.specs.Turns.{TakesLine};
 
 use frames::{Frame, Misread};
@@ -17,7 +16,7 @@ use shelf::Shelf;
 use std::io;
 use streams::Source;
 use streams::lines::{Lines, Next};
-use tables::Tables;
+use tables::{Ask, Collection, ConceptFact, ConceptPair, RoleFact, RolePair, Step, Table};
 
 mod judge;
 pub mod shelf;
@@ -63,15 +62,15 @@ pub struct Fault {
 pub struct File {
     pub counts: Counts,
     pub allowance: Option<Rounds>,
-    pub concept_rules: Shelf<{ sizes::CONCEPT_RULES }>,
-    pub concept_exclusions: Shelf<{ sizes::CONCEPT_EXCLUSIONS }>,
-    pub role_rules: Shelf<{ sizes::ROLE_RULES }>,
-    pub role_exclusions: Shelf<{ sizes::ROLE_EXCLUSIONS }>,
-    pub concept_facts: Shelf<{ sizes::CONCEPT_FACTS }>,
-    pub role_facts: Shelf<{ sizes::ROLE_FACTS }>,
-    pub steps: Shelf<{ sizes::STEPS }>,
-    pub finals: Shelf<{ sizes::FINALS }>,
-    pub asks: Shelf<{ sizes::ASKS }>,
+    pub concept_rules: Shelf<ConceptPair, { sizes::CONCEPT_RULES }>,
+    pub concept_exclusions: Shelf<ConceptPair, { sizes::CONCEPT_EXCLUSIONS }>,
+    pub role_rules: Shelf<RolePair, { sizes::ROLE_RULES }>,
+    pub role_exclusions: Shelf<RolePair, { sizes::ROLE_EXCLUSIONS }>,
+    pub concept_facts: Shelf<ConceptFact, { sizes::CONCEPT_FACTS }>,
+    pub role_facts: Shelf<RoleFact, { sizes::ROLE_FACTS }>,
+    pub steps: Shelf<Step, { sizes::STEPS }>,
+    pub finals: Shelf<State, { sizes::FINALS }>,
+    pub asks: Shelf<Ask, { sizes::ASKS }>,
     pub lines: usize,
 }
 
@@ -104,7 +103,7 @@ impl From<Misread> for Refusal {
 }
 
 fn number(c: Concept) -> u16
-    requires { number_of c < 65536 }
+    requires { number_of c < 2 ^ 16 }
     ensures { result ≡ number_of c }
 {
     c.number() as u16
@@ -150,40 +149,36 @@ impl File {
         self.lines = 0;
     }
 
-    pub fn counts(&self) -> Counts
-        ensures { result ≡ self.now.counts }
-    {
-        self.counts
-    }
-
     // The allowance of rounds, where none is given the usual one.
     pub fn allowance(&self) -> Rounds
-        ensures { result ≡ unwrap_or self.now.allowance usual_allowance }
+        ensures { result ≡ allowance_in self.now }
     {
         self.allowance.unwrap_or(ALLOWANCE)
     }
 
-    // The tables that a call of the library is lent.
-    pub fn tables(&self) -> Tables<'_>
-        ensures { lists result ≡ lent_tables self.now }
+    // What a call of the library is lent.
+    pub fn collection(&self) -> Collection<'_>
+        ensures counts { result.counts ≡ self.now.counts }
+        ensures tables { lists result ≡ lent_tables self.now }
     {
-        Tables {
-            concept_rules: self.concept_rules.as_slice(),
-            concept_exclusions: self.concept_exclusions.as_slice(),
-            role_rules: self.role_rules.as_slice(),
-            role_exclusions: self.role_exclusions.as_slice(),
-            concept_facts: self.concept_facts.as_slice(),
-            role_facts: self.role_facts.as_slice(),
-            steps: self.steps.as_slice(),
-            finals: self.finals.as_slice(),
+        Collection {
+            counts: self.counts,
+            concept_rules: self.concept_rules.table(),
+            concept_exclusions: self.concept_exclusions.table(),
+            role_rules: self.role_rules.table(),
+            role_exclusions: self.role_exclusions.table(),
+            concept_facts: self.concept_facts.table(),
+            role_facts: self.role_facts.table(),
+            steps: self.steps.table(),
+            finals: self.finals.table(),
         }
     }
 
-    // Two individuals for each ask, in the order of the asks.
-    pub fn asks(&self) -> &[u16]
-        ensures { result.now ≡ self.now.asks }
+    // The asks, in their order.
+    pub fn asks(&self) -> Table<'_, Ask>
+        ensures { result.numbers.now ≡ self.now.asks }
     {
-        self.asks.as_slice()
+        self.asks.table()
     }
 
     // A frame kept: its record goes to the end of its table.
@@ -246,7 +241,7 @@ impl File {
 fn read_lines<S: Source + Drop>(source: S, file: &mut File) -> io::Result<Result<(), Fault>>
     requires { file.old ≡ file_of [] }
     ensures found { IfOk result (λ found.
-        IfSome (S.remaining source) (λ input. Reads (lines input) found file.new)) }
+        IfSome (S.remaining source) (λ input. ReadsFile (lines input) found file.new)) }
     ensures taken { IfOk result (λ found. IsRead file.new) }
     ensures line { IfOk result (λ found. IfErr found (λ fault. fault.line < 2 ^ 16)) }
     ensures fails { IfErr result S.fails }
@@ -269,7 +264,7 @@ fn read_lines<S: Source + Drop>(source: S, file: &mut File) -> io::Result<Result
 // holds nothing.
 pub fn read<S: Source + Drop>(source: S, file: &mut File) -> io::Result<Result<(), Fault>>
     ensures found { IfOk result (λ found.
-        IfSome (S.remaining source) (λ input. Reads (lines input) found file.new)) }
+        IfSome (S.remaining source) (λ input. ReadsFile (lines input) found file.new)) }
     ensures taken { IfOk result (λ found. IsRead file.new) }
     ensures line { IfOk result (λ found. IfErr found (λ fault. fault.line < 2 ^ 16)) }
     ensures err { OnErr result (file.new ≡ file_of []) }

@@ -1,16 +1,18 @@
-// A fixed table of numbers, filled from its front: nothing is allocated.
+// A fixed table of records, filled from its front: nothing is allocated.
 ghost use Rattle.std.specs.Prelude.{◌≡◌, ◌+◌, ◌≤◌, ◌↔◌, ◌++◌, [], IsTrue, length};
 
-use std::marker::Model;
+use std::marker::{Model, PhantomData};
+use tables::{Record, Table};
 
-// A table with room for N numbers. Callers see the list of its numbers, in the order in which they came.
+// Records of one kind, with room for N numbers. Callers see the list of the numbers, in the order in which they came.
 #[derive(Drop)]
-pub struct Shelf<const N: usize> {
+pub struct Shelf<R, const N: usize> {
     numbers: [u16; N],
     used: usize,
+    of: PhantomData<R>,
 }
 
-impl<const N: usize> Model for Shelf<N> {
+impl<R, const N: usize> Model for Shelf<R, N> {
     ghost use Rattle.std.specs.Prelude.{◌≤◌, ℕ, List, take};
 
     ghost Value = { List ℕ };
@@ -20,13 +22,14 @@ impl<const N: usize> Model for Shelf<N> {
     ghost invariant = { λ s. s.used ≤ N };
 }
 
-impl<const N: usize> Shelf<N> {
-    pub(crate) fn new() -> Shelf<N>
+impl<R: Record, const N: usize> Shelf<R, N> {
+    pub(crate) fn new() -> Shelf<R, N>
         ensures { result ≡ [] }
     {
         Shelf {
             numbers: [0; N],
             used: 0,
+            of: PhantomData,
         }
     }
 
@@ -36,11 +39,11 @@ impl<const N: usize> Shelf<N> {
         self.used = 0;
     }
 
-    // Whether this many more numbers go in.
-    pub(crate) fn has_room(&self, more: usize) -> bool
-        ensures { IsTrue result ↔ (length self.now + more ≤ N) }
+    // Whether one more record goes in.
+    pub(crate) fn has_room(&self) -> bool
+        ensures { IsTrue result ↔ (length self.now + R.WIDTH ≤ N) }
     {
-        more <= N - self.used
+        R::WIDTH <= N - self.used
     }
 
     pub(crate) fn push(&mut self, numbers: &[u16])
@@ -54,9 +57,9 @@ impl<const N: usize> Shelf<N> {
         self.used = to;
     }
 
-    pub fn as_slice(&self) -> &[u16]
-        ensures { result.now ≡ self.now }
+    pub fn table(&self) -> Table<'_, R>
+        ensures { result.numbers.now ≡ self.now }
     {
-        &self.numbers[..self.used]
+        Table::new(&self.numbers[..self.used])
     }
 }

@@ -1,32 +1,22 @@
-// How many numbers a record of each kind has, and how many each table has room for.
+// How many numbers each table has room for: those of its most records.
 use crate::ASKS as MOST_ASKS;
+use tables::{Ask, ConceptFact, ConceptPair, RoleFact, RolePair, Step, collection};
 
-pub const RULE: usize = 2;
+pub const CONCEPT_RULES: usize = ConceptPair::WIDTH * collection::CONCEPT_RULES;
 
-pub const CONCEPT_FACT: usize = 2;
+pub const CONCEPT_EXCLUSIONS: usize = ConceptPair::WIDTH * collection::CONCEPT_EXCLUSIONS;
 
-pub const ROLE_FACT: usize = 3;
+pub const ROLE_RULES: usize = RolePair::WIDTH * collection::ROLE_RULES;
 
-pub const STEP: usize = 4;
+pub const ROLE_EXCLUSIONS: usize = RolePair::WIDTH * collection::ROLE_EXCLUSIONS;
 
-pub const FINAL: usize = 1;
+pub const CONCEPT_FACTS: usize = ConceptFact::WIDTH * collection::CONCEPT_FACTS;
 
-pub const ASK: usize = 2;
+pub const ROLE_FACTS: usize = RoleFact::WIDTH * collection::ROLE_FACTS;
 
-pub const CONCEPT_RULES: usize = RULE * tables::CONCEPT_RULES;
+pub const STEPS: usize = Step::WIDTH * collection::STEPS;
 
-pub const CONCEPT_EXCLUSIONS: usize = RULE * tables::CONCEPT_EXCLUSIONS;
+// A final state is one number.
+pub const FINALS: usize = collection::FINALS;
 
-pub const ROLE_RULES: usize = RULE * tables::ROLE_RULES;
-
-pub const ROLE_EXCLUSIONS: usize = RULE * tables::ROLE_EXCLUSIONS;
-
-pub const CONCEPT_FACTS: usize = CONCEPT_FACT * tables::CONCEPT_FACTS;
-
-pub const ROLE_FACTS: usize = ROLE_FACT * tables::ROLE_FACTS;
-
-pub const STEPS: usize = STEP * tables::STEPS;
-
-pub const FINALS: usize = FINAL * tables::FINALS;
-
-pub const ASKS: usize = ASK * MOST_ASKS;
+pub const ASKS: usize = Ask::WIDTH * MOST_ASKS;

@@ -1,12 +1,4 @@
-pub mod Puts
-pub mod Rules
-pub mod Turns
-pub mod Below
-pub mod Places
-pub mod Made
-pub mod Data
-pub mod RoundLays
-pub mod Start
-pub mod Runs
-pub mod RunsOnce
-pub mod Mean
+pub mod Finds
+pub mod Sheets
+pub mod Ends
+pub mod Areas

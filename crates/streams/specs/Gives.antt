@@ -14,7 +14,8 @@ Gives old new End = Keeps old new × IsAtEnd old
 
 -- of the known bytes a line is consumed with its end, or, where they are at their end, without one
 abbrev pub ConsumesLine : Option (List ℕ) → Option (List ℕ) → List ℕ → Type 0
-ConsumesLine old new line = Consumes old new (line ++ newline ∷ []) ⊎ (Consumes old new line × IsAtEnd new)
+ConsumesLine old new line =
+    Consumes old new (line ++ newline ∷ []) ⊎ (Consumes old new line × IsAtEnd new)
 
 abbrev pub ConsumesNext : Option (List ℕ) → Option (List ℕ) → Next → Type 0
 ConsumesNext old new (Line line) = ConsumesLine old new line

@@ -1,4 +1,5 @@
--- The lines of an input: each ends at byte 0A, and a last line of one character or more may lack it.
+-- The lines of an input: each ends at byte 0A, and a last line of one character or more may lack
+-- it.
 use Rattle.std.specs.Prelude.{◌≡◌, ◌<◌, ℕ, List, [], ◌∷◌, ◌==◌, Option, None, Some, ⊤, length, slice_get, IsSomeAnd, if◌then◌else◌}
 
 -- the byte that ends a line

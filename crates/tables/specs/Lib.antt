@@ -1,3 +1,8 @@
-pub mod Checks
+pub mod Every
+pub mod Letters
 pub mod Records
-pub mod Unique
+pub mod Lists
+pub mod Order
+pub mod Tests
+pub mod Refusals
+pub mod Asks

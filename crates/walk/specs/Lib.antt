@@ -1,14 +1,14 @@
--- What the public contract names, and that it leaves one answer.
-pub mod Walk
-pub mod Unique
--- What the loops keep.
-pub mod Image
-pub mod Quarters
-pub mod Grow
-pub mod Hops
-pub mod Steps
-pub mod Behind
-pub mod Ends
--- What callers use.
-pub mod Edges
-pub mod Mean
+-- What the public contracts name.
+pub mod Sets
+pub mod Strides
+pub mod Loops
+pub mod Parts
+pub mod Asks
+pub mod Finals
+pub mod Known
+-- What the functions keep.
+pub mod Courses
+pub mod Passes
+pub mod Pivots
+pub mod Taking
+pub mod Telling

@@ -1,0 +1,223 @@
+-- What the answer means to a caller: of a collection whose numbers are declared, the marks clash exactly when its canonical model has a contradiction.
+use Rattle.std.specs.Prelude.{ℕ, ◌+◌, ◌*◌, ◌/◌, ◌<◌, ◌≤◌, ◌≡◌, refl, ◌↔◌, IsTrue, List, length}
+use Rattle.std.proofs.Common.{arith}
+use Rattle.kinds.specs.declared.Individual.{Individual}
+use Rattle.kinds.specs.declared.SignedRole.{SignedRole}
+use Rattle.kinds.specs.declared.Concept.{Concept}
+use Rattle.kinds.specs.declared.Concept.TheVariants.{Exists}
+use Rattle.kinds.specs.declared.Counts.{Counts}
+use Rattle.kinds.specs.Kinds.{most_individuals, base, flip, flip-below, most_roles, inverse, inverse-inverse, signed, individual, number_of, concept_of, number-concept, concept-number, role-concept, CountsFit, SignedDeclared, ConceptDeclared}
+use Rattle.laws.specs.Member.{◌∈◌}
+use Rattle.meaning.specs.Collection.{NumbersDeclared}
+use Rattle.meaning.specs.Lent.{Tables, collection, records, rule_width, role_fact_width, most_role_facts}
+use Rattle.meaning.specs.Orders.{RoleFollows, RoleLe, ConceptLe, turned}
+use Rattle.meaning.specs.Model.{IndividualHas, FactEdge, Contradiction}
+use Rattle.meaning.proofs.Clash.{Alive, Clash, individual-clash, unnamed-clash, fact-clash, down-clash, up-clash, typed-declared}
+use Rattle.meaning.proofs.ClashShown.{contradiction↔clash}
+use Rattle.sets.specs.Bits.{concept_width, role_width}
+use Rattle.orders.specs.Rows.{IsRoleOrder, IsConceptOrder}
+use Rattle.orders.proofs.Table.{pair_of, rules_of, rules-all, rule-in, rule-out}
+use Rattle.orders.proofs.Mean.{role-below, concept-below, all-role-rules, all-concept-rules}
+use Rattle.elements.specs.Concepts.{Concepts}
+use Rattle.elements.specs.Living.{Living}
+use Rattle.elements.proofs.Mean.{shown-declared, concepts-mean}
+use Rattle.elements.proofs.LivingMean.{living-mean, lives-below}
+use Rattle.hops.specs.Chains.{role_of}
+use Rattle.hops.proofs.Edges.{a-hop, hop-declared, hop-edge, edge-hop}
+use Rattle.clash.specs.declared.Exclusions.{Exclusions}
+use Rattle.clash.specs.Clashes.{Marks, Breaks, Marked, FactRole, Clashes, named, unnamed, joined, down, up}
+
+-- the exclusions are those of the tables, and the marks are what the contracts of the two orders and of the elements say of them
+pub record IsOf (t : Tables) (x : Exclusions) (m : Marks) : Type 0 where
+  pub concept_exclusions : x.concepts.numbers.now ≡ t.concept-exclusions
+  pub role_exclusions : x.roles.numbers.now ≡ t.role-exclusions
+  pub facts : m.facts ≡ t.role-facts
+  pub roles : IsRoleOrder t.role-rules m.roles
+  pub concepts : IsConceptOrder t.concept-rules t.role-rules m.concepts
+  pub individuals : Concepts t.concept-facts t.role-facts m.concepts m.individuals
+  pub living : Living m.individuals m.concepts m.living
+
+-- P holds of both sides of an exclusion
+record Both {A : Type 0} (l : List (A × A)) (P : A → Type 0) : Type 0 where
+  left : A
+  right : A
+  listed : (left, right) ∈ l
+  has_left : P left
+  has_right : P right
+
+-- a table of exclusions of numbered things, each of which D holds: where M holds their numbers exactly as P holds them, both break the same
+module _ {A : Type 0} (of : ℕ → A) (number : A → ℕ) (n : ℕ) (back : (i : ℕ) → number (of i) ≡ i) (table : List ℕ) (D : A → Type 0)
+    (known : (r : A × A) → r ∈ records rule_width (pair_of of number n) table → D r.0 × D r.1) (below : (a : A) → D a → number a < n)
+    (M : ℕ → Type 0) (P : A → Type 0) (same : (a : A) → D a → M (number a) ↔ P a) where
+  all : rules_of of number n table ≡ records rule_width (pair_of of number n) table
+  all = rules-all of number n table (λ r m. let d = known r m in (below r.0 d.0, below r.1 d.1))
+
+  sides-out : Breaks n table M → Both (records rule_width (pair_of of number n) table) P
+  sides-out x =
+      let m = rw all at (rule-in of number n back table x.left_row x.right_row x.listed) in
+      let d = known (of x.left, of x.right) m in
+      record {
+        left = of x.left;
+        right = of x.right;
+        listed = m;
+        has_left = (same (of x.left) d.0).0 (rw (back x.left) x.has_left);
+        has_right = (same (of x.right) d.1).0 (rw (back x.right) x.has_right);
+      }
+
+  sides-in : Both (records rule_width (pair_of of number n) table) P → Breaks n table M
+  sides-in b =
+      let d = known (b.left, b.right) b.listed in
+      let w = rule-out of number n back table (rw all b.listed) in
+      record {
+        left = number b.left;
+        right = number b.right;
+        left_row = w.0;
+        right_row = w.1;
+        listed = w.2;
+        has_left = (same b.left d.0).1 b.has_left;
+        has_right = (same b.right d.1).1 b.has_right;
+      }
+
+-- an unnamed element that ends by R has what follows from this concept
+inverse-concept : (R : ℕ) → concept_of (base + flip R) ≡ Exists (inverse (signed R))
+unfolding inverse
+inverse-concept R = role-concept (flip R)
+
+-- S follows from the inverse of R, said the other way round
+turned-back : {rules : List (SignedRole × SignedRole)} (R S : SignedRole) → RoleFollows rules (inverse R) S → RoleFollows rules R (inverse S)
+turned-back R S l = rw (inverse-inverse R) at (turned l)
+
+module _ (c : Counts) (t : Tables) (fit : CountsFit c) (ok : NumbersDeclared (collection c t)) (few : length t.role-facts / role_fact_width ≤ most_role_facts) (x : Exclusions) (m : Marks) (o : IsOf t x m) where
+  -- the row of a role, and that of the concept of an unnamed element, whether the role is declared or not
+  role-le : (Q : ℕ) (S : SignedRole) → Q < role_width → SignedDeclared c S → IsTrue (m.roles Q S.0) ↔ RoleLe (collection c t) (signed Q) S
+  role-le Q S hQ hS = rw (all-role-rules c t fit ok) at (o.roles.at Q S.0 hQ (role-below c t fit ok S hS))
+
+  unnamed-has : (R : ℕ) (C : Concept) → R < role_width → ConceptDeclared c C
+      → IsTrue (m.concepts (base + flip R) (number_of C)) ↔ ConceptLe (collection c t) (Exists (inverse (signed R))) C
+  unnamed-has R C hR hC =
+      rw (all-concept-rules c t fit ok, all-role-rules c t fit ok, concept-number c fit.names C hC, inverse-concept R)
+      at (o.concepts.at (base + flip R) (number_of C) (omega arith) (concept-below c t fit ok C hC))
+
+  -- a living role is one by which an unnamed element ends
+  alive : (R : ℕ) → R < role_width → IsTrue (m.living R) → Alive (collection c t) (signed R)
+  alive R h p = (living-mean c t fit ok m.concepts m.individuals o.concepts o.individuals (signed R)).0 ((o.living.at R h).0 p)
+
+  lives : (R : SignedRole) → Alive (collection c t) R → (R.0 < role_width) × IsTrue (m.living R.0)
+  lives R a =
+      let l = (living-mean c t fit ok m.concepts m.individuals o.concepts o.individuals R).1 a in
+      let h = lives-below l in
+      (h, (o.living.at R.0 h).1 l)
+
+  -- the roles that hops give a pair are those of its edges
+  fact→edge : (a b : ℕ) (S : SignedRole) → SignedDeclared c S → FactRole t.role-facts m.roles a b S.0 → FactEdge (collection c t) (individual a) S (individual b)
+  fact→edge a b S h f =
+      let d = f.leads in
+      let hop = a-hop c t ok f.hop (let i = d.inside in omega arith) in
+      let e = hop-edge c t ok hop ((role-le (role_of t.role-facts f.hop) S d.role h).0 f.follows) in
+      rw (d.from, f.to) at e
+
+  edge→fact : (a b : Individual) (S : SignedRole) → SignedDeclared c S → FactEdge (collection c t) a S b → FactRole t.role-facts m.roles a.0 b.0 S.0
+  edge→fact a b S h e =
+      let w = edge-hop c t ok e in
+      let k = w.0 in
+      let p = w.1 in
+      let d = hop-declared c t ok (a-hop c t ok k p.hop) in
+      let role : role_of t.role-facts k < 2 * most_roles = omega (arith, d.role, fit.roles) in
+      record {
+        hop = k;
+        leads = record {
+          inside = let i = p.hop in omega arith;
+          from = p.source;
+          start = let i = p.source in omega (arith, d.source, fit.individuals);
+          role = role;
+          end = omega (arith, d.target, fit.individuals);
+        };
+        to = p.target;
+        follows = (role-le (role_of t.role-facts k) S role h).1 p.role;
+      }
+
+  concept-sides : (M : ℕ → Type 0) (P : Concept → Type 0) → ((C : Concept) → ConceptDeclared c C → M (number_of C) ↔ P C)
+      → Breaks concept_width t.concept-exclusions M ↔ Both (collection c t).concept-exclusions P
+  concept-sides M P same =
+      let below = concept-below c t fit ok in (
+        sides-out concept_of number_of concept_width number-concept t.concept-exclusions (ConceptDeclared c) ok.concept-exclusions below M P same,
+        sides-in concept_of number_of concept_width number-concept t.concept-exclusions (ConceptDeclared c) ok.concept-exclusions below M P same,
+      )
+
+  role-sides : (M : ℕ → Type 0) (P : SignedRole → Type 0) → ((S : SignedRole) → SignedDeclared c S → M S.0 ↔ P S)
+      → Breaks role_width t.role-exclusions M ↔ Both (collection c t).role-exclusions P
+  role-sides M P same =
+      let below = role-below c t fit ok in (
+        sides-out signed (λ R. R.0) role_width (λ i. refl) t.role-exclusions (SignedDeclared c) ok.role-exclusions below M P same,
+        sides-in signed (λ R. R.0) role_width (λ i. refl) t.role-exclusions (SignedDeclared c) ok.role-exclusions below M P same,
+      )
+
+  -- what each kind of row breaks
+  named-breaks : (a : ℕ) → a < most_individuals → Breaks concept_width t.concept-exclusions (Marked (m.individuals a))
+      ↔ Both (collection c t).concept-exclusions (IndividualHas (collection c t) (individual a))
+  named-breaks a h =
+      concept-sides (Marked (m.individuals a)) (IndividualHas (collection c t) (individual a)) (λ C hC. (
+        λ p.
+            let d = shown-declared c t fit ok ((o.individuals.at a (number_of C) h (concept-below c t fit ok C hC)).0 p) in
+            (concepts-mean c t fit ok m.concepts o.concepts C hC o.individuals (individual a) d).0 p,
+        λ w. (concepts-mean c t fit ok m.concepts o.concepts C hC o.individuals (individual a) (typed-declared (collection c t) ok w.1)).1 w,
+      ))
+
+  unnamed-breaks : (R : ℕ) → R < role_width → Breaks concept_width t.concept-exclusions (Marked (m.concepts (base + flip R)))
+      ↔ Both (collection c t).concept-exclusions (ConceptLe (collection c t) (Exists (inverse (signed R))))
+  unnamed-breaks R h =
+      concept-sides (Marked (m.concepts (base + flip R))) (ConceptLe (collection c t) (Exists (inverse (signed R)))) (λ C hC. unnamed-has R C h hC)
+
+  joined-breaks : (a b : ℕ) → Breaks role_width t.role-exclusions (FactRole t.role-facts m.roles a b)
+      ↔ Both (collection c t).role-exclusions (λ S. FactEdge (collection c t) (individual a) S (individual b))
+  joined-breaks a b =
+      role-sides (FactRole t.role-facts m.roles a b) (λ S. FactEdge (collection c t) (individual a) S (individual b)) (λ S hS. (
+        fact→edge a b S hS,
+        edge→fact (individual a) (individual b) S hS,
+      ))
+
+  role-breaks : (Q : ℕ) → Q < role_width → Breaks role_width t.role-exclusions (Marked (m.roles Q))
+      ↔ Both (collection c t).role-exclusions (RoleLe (collection c t) (signed Q))
+  role-breaks Q h = role-sides (Marked (m.roles Q)) (RoleLe (collection c t) (signed Q)) (λ S hS. role-le Q S h hS)
+
+  clashes→clash : Clashes x m → Clash (collection c t)
+  unfolding inverse
+  clashes→clash (named a h b) =
+      let w = (named-breaks a h).0 (rw o.concept_exclusions at b) in
+      individual-clash (individual a) w.left w.right w.listed w.has_left w.has_right
+  clashes→clash (unnamed R h l b) =
+      let w = (unnamed-breaks R h).0 (rw o.concept_exclusions at b) in
+      unnamed-clash (signed R) w.left w.right w.listed (alive R h l) w.has_left w.has_right
+  clashes→clash (joined a b y) =
+      let w = (joined-breaks a b).0 (rw (o.role_exclusions, o.facts) at y) in
+      fact-clash (individual a) (individual b) w.left w.right w.listed w.has_left w.has_right
+  clashes→clash (down Q h l b) =
+      let w = (role-breaks Q h).0 (rw o.role_exclusions at b) in
+      down-clash (signed Q) w.left w.right w.listed (alive Q h l) w.has_left w.has_right
+  clashes→clash (up Q h l b) =
+      let w = (role-breaks (flip Q) (flip-below Q most_roles h)).0 (rw o.role_exclusions at b) in
+      up-clash (signed Q) (inverse w.left) (inverse w.right) (rw (inverse-inverse w.left, inverse-inverse w.right) w.listed) (alive Q h l)
+      (turned-back (signed Q) w.left w.has_left) (turned-back (signed Q) w.right w.has_right)
+
+  clash→clashes : Clash (collection c t) → Clashes x m
+  unfolding inverse
+  clash→clashes (individual-clash a C D e h k) =
+      let l : a.0 < most_individuals = omega (arith, typed-declared (collection c t) ok h.1, fit.individuals) in
+      named a.0 l (rw o.concept_exclusions ((named-breaks a.0 l).1 (record { left = C; right = D; listed = e; has_left = h; has_right = k })))
+  clash→clashes (unnamed-clash R C D e a h k) =
+      let l = lives R a in
+      unnamed R.0 l.0 l.1 (rw o.concept_exclusions ((unnamed-breaks R.0 l.0).1 (record { left = C; right = D; listed = e; has_left = h; has_right = k })))
+  clash→clashes (fact-clash a b R S e f g) =
+      joined a.0 b.0 (rw (o.role_exclusions, o.facts) ((joined-breaks a.0 b.0).1 (record { left = R; right = S; listed = e; has_left = f; has_right = g })))
+  clash→clashes (down-clash Q R S e a h k) =
+      let l = lives Q a in
+      down Q.0 l.0 l.1 (rw o.role_exclusions ((role-breaks Q.0 l.0).1 (record { left = R; right = S; listed = e; has_left = h; has_right = k })))
+  clash→clashes (up-clash Q R S e a h k) =
+      let l = lives Q a in
+      up Q.0 l.0 l.1
+      (rw o.role_exclusions
+      ((role-breaks (flip Q.0) (flip-below Q.0 most_roles l.0)).1 (record { left = inverse R; right = inverse S; listed = e; has_left = turned h; has_right = turned k })))
+
+  -- THEOREM: the marks clash exactly when an element or an ordered pair of elements of the canonical model, to any depth, has both sides of an exclusion
+  pub clash-mean : Clashes x m ↔ Contradiction (collection c t)
+  clash-mean = let w = contradiction↔clash (collection c t) ok in (λ p. w.1 (clashes→clash p), λ p. clash→clashes (w.0 p))

@@ -1,0 +1,5 @@
+-- What the public contract names.
+pub mod Concepts
+pub mod Living
+-- What the private ones name.
+pub mod Steps

@@ -1,0 +1,15 @@
+use Rattle.std.proofs.Common.{◌≡◌, ◌*◌, drop, take}
+use Rattle.file.specs.declared.text.TheConstants.{ANSWER_LINE}
+use Rattle.file.specs.Writes.{Answered}
+use Rattle.std.specs.Iterator.Adapters.{zip_first, zip_second}
+use Rattle.std.specs.Slice.Iter.{iter_rest}
+use Rattle.file.proofs.Each.{IsLeft}
+use Rattle.file.proofs.replies.copy_answers.Given as goal
+
+abbrev pub invariant-loop-ask : goal.invariant-loop-ask
+invariant-loop-ask l = record {
+  here : IsLeft l.file (zip_first l.ask-iterator) (iter_rest (zip_second l.ask-iterator));
+  place : l.at ≡ ANSWER_LINE * (zip_first l.ask-iterator).next;
+  written : Answered l.file (zip_first l.ask-iterator).next (take l.at l.text);
+  rest : drop l.at l.text ≡ drop l.at l.fn.text;
+}

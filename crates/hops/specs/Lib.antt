@@ -1,0 +1,5 @@
+-- What the public contracts name.
+pub mod Chains
+pub mod Visits
+-- What is made so far, as chains are made.
+pub mod Making

@@ -1,0 +1,22 @@
+// Each individual's role facts as one chain of hops, made once.
+#![tactic(auto)]
+
+mod chains;
+mod visits;
+
+pub use chains::Hops;
+use kinds::{Individual, SignedRole};
+pub use visits::HopsFrom;
+
+/// From an individual by a signed role to another one.
+#[derive(Clone, Copy)]
+pub struct Hop {
+    pub role: SignedRole,
+    pub to: Individual,
+}
+
+/// The most role facts that a table may have.
+pub const ROLE_FACTS: usize = 4096;
+
+/// The number after that of the last hop, two for each role fact that a table may have.
+pub const NO_HOP: usize = 2 * ROLE_FACTS;

@@ -1,0 +1,65 @@
+-- What preparing leaves in both areas.
+use Rattle.std.specs.Prelude.{◌≡◌, refl, List, ℕ, min, Result, Err, Ok, length}
+use Rattle.std.proofs.Common.{arith}
+use Rattle.meaning.proofs.SheetLaws.{rounds-unique}
+use Rattle.meaning.specs.Lite.{lite}
+use Rattle.meaning.specs.Layout.{zeros}
+use Rattle.tables.specs.declared.collection.Refusal.{Refusal}
+use Rattle.tables.specs.declared.collection.Refusal.TheVariants.{BadCount, BadTable, BadNumber, EqualEnds}
+use Rattle.index.specs.declared.lent.Lent.{Lent}
+use Rattle.index.specs.declared.work.Found.{Found}
+use Rattle.index.specs.declared.work.Found.TheVariants.{Contradiction, Spent, Needed}
+use Rattle.index.specs.Works.{meant, IsFound, LeavesFirst, LeavesSecond}
+use Rattle.index.specs.Preparation.{Preparation, preparation, Fits, HasSheet, RoundsNeeded, HoldsSheet}
+use Rattle.index.specs.Worked.{IsRefused, IsSettled, IsWorked, FirstLeft, SecondLeft}
+
+refused-fits : (l : Lent) (area spare : ℕ) (e : Refusal) → IsRefused l area spare e → Fits (preparation l area spare) → ⊥
+refused-fits l area spare BadCount h f = h.bad_count.0 refl f.counts
+refused-fits l area spare BadTable h f = (h.bad_table.0 refl).tables f.tables
+refused-fits l area spare BadNumber h f = (h.bad_number.0 refl).numbers f.numbers
+refused-fits l area spare EqualEnds h f = (h.equal_ends.0 refl).ends f.ends
+
+module _ (l : Lent) (area spare x y : List ℕ) where
+  abbrev p : Preparation
+  p = preparation l (length area) (length spare)
+
+  -- what each clause says
+  pub record Leaves : Type 0 where
+    pub sheet : HasSheet p → (n : ℕ) → RoundsNeeded p n → HoldsSheet p (min n l.allowance) x
+    pub cleared : HasSheet p → y ≡ zeros
+    pub untouched : (HasSheet p → ⊥) → x ≡ area
+    pub spared : (HasSheet p → ⊥) → y ≡ spare
+
+  has : {f : Found} → IsSettled l (length area) (length spare) f → Fits p
+  has s = record { counts = s.passes.counts; tables = record { tables = s.passes.tables; area = s.areas.area; spare = s.areas.spare }; numbers = s.passes.numbers; ends = s.passes.ends }
+
+  left-found : (f : Found) → IsSettled l (length area) (length spare) f → IsFound l f → LeavesFirst l f area x → LeavesSecond f spare y → Leaves
+  left-found Contradiction s b h k = record { sheet = λ w. absurd (w.sane b); cleared = λ w. absurd (w.sane b); untouched = λ w. h; spared = λ w. k }
+  left-found Spent s b h k =
+      let a : HasSheet p = record { fits = has s; sane = b.1.sane } in
+      record {
+        sheet = λ w n need.
+            let e = rounds-unique (lite (meant l.collection)) n b.0 need b.1.needed in
+            let d : min n l.allowance ≡ l.allowance = omega (arith, b.1.more) in
+            rw d h;
+        cleared = λ w. k;
+        untouched = λ w. absurd (w a);
+        spared = λ w. absurd (w a);
+      }
+  left-found (Needed m r) s b h k =
+      let a : HasSheet p = record { fits = has s; sane = b.sane } in
+      record {
+        sheet = λ w n need.
+            let e = rounds-unique (lite (meant l.collection)) n m need b.needed in
+            let d : min n l.allowance ≡ m = omega (arith, b.allowed) in
+            rw d h;
+        cleared = λ w. k;
+        untouched = λ w. absurd (w a);
+        spared = λ w. absurd (w a);
+      }
+
+  pub left : (w : Result Found Refusal) → IsWorked l (length area) (length spare) w → FirstLeft l w area x → SecondLeft w spare y → Leaves
+  left (Err e) h i j =
+      let no : HasSheet p → ⊥ = λ s. refused-fits l (length area) (length spare) e h s.fits in
+      record { sheet = λ w. absurd (no w); cleared = λ w. absurd (no w); untouched = λ w. i; spared = λ w. j }
+  left (Ok f) h i j = left-found f h h.found i j

@@ -1,0 +1,7 @@
+-- `any_declared`: no ask so far is declared.
+use Rattle.std.proofs.Common.{ℕ, ◌<◌}
+use Rattle.tables.specs.Asks.{read_ask, IsAskDeclared}
+use Rattle.index.proofs.row.any_declared.Given as goal
+
+abbrev pub invariant-loop-k : goal.invariant-loop-k
+invariant-loop-k l = (j : ℕ) → j < l.k → IsAskDeclared l.counts (read_ask l.asks.numbers.now j) → ⊥

@@ -1,0 +1,46 @@
+-- An ask of what was prepared, as a call; and its answer.
+use Rattle.std.specs.Prelude.{◌≡◌, ◌↔◌, Bool, IsTrue, Option, None, IfSome, List, ℕ, ◌+◌, length, slice_index_or}
+use Rattle.kinds.specs.declared.Answer.{Answer}
+use Rattle.meaning.specs.Collection.{Collection}
+use Rattle.meaning.specs.Question.{Yes}
+use Rattle.meaning.specs.Lent.{Call}
+use Rattle.meaning.specs.Outcome.{Outcome}
+use Rattle.tables.specs.declared.ask.Ask.{Ask}
+use Rattle.tables.specs.declared.ask.Ask.TheVariants.{Pair}
+use Rattle.tables.specs.Asks.{read_ask, first_of, second_of, IsAskDeclared}
+use Rattle.index.specs.Preparation.{Preparation, collection_in}
+
+-- the asked pair is yes in the canonical model
+abbrev pub IsYes : Collection → Ask → Type 0
+IsYes 𝓒 (Pair a b) = Yes 𝓒 a b
+
+-- the call that asks it, with these areas
+abbrev pub asked : Preparation → Ask → List ℕ → List ℕ → Call
+asked p ask area spare = record {
+  counts = p.counts;
+  tables = p.tables;
+  first = first_of ask;
+  second = second_of ask;
+  allowance = p.allowance;
+  area = area;
+  spare = spare;
+}
+
+-- an answer to a call, whatever its areas then hold
+abbrev pub IsOutcome : Call → Answer → Type 0
+IsOutcome c r = (x y : List ℕ) × Outcome c r x y
+
+-- the answer r is the outcome of asking, whatever areas of those lengths are lent
+abbrev pub IsAnswer : Preparation → Ask → Answer → Type 0
+IsAnswer p ask r =
+    (area spare : List ℕ) → length area ≡ p.area → length spare ≡ p.spare
+    → IsOutcome (asked p ask area spare) r
+
+-- what was told of an ask is right where it is declared: whether it is yes
+abbrev pub IsTold : Preparation → Ask → Option Bool → Type 0
+IsTold p ask told =
+    IfSome told (λ yes. IsAskDeclared p.counts ask → IsTrue yes ↔ IsYes (collection_in p) ask)
+
+-- what was told of the asks of a row, from one on
+abbrev pub AreTold : Preparation → List ℕ → ℕ → List (Option Bool) → Type 0
+AreTold p t from told = (k : ℕ) → IsTold p (read_ask t (from + k)) (slice_index_or told k None)

@@ -1,0 +1,54 @@
+-- What a preparation is made of, and what holds of it.
+use Rattle.std.specs.Prelude.{List, ℕ}
+use Rattle.kinds.specs.declared.Counts.{Counts}
+use Rattle.kinds.specs.Kinds.{CountsFit}
+use Rattle.meaning.specs.Collection.{Collection}
+use Rattle.meaning.specs.Lent.{Tables, collection, TablesFit, NumbersFit, EndsFit}
+use Rattle.meaning.specs.Model as model
+use Rattle.meaning.specs.Sheet as sheet
+use Rattle.meaning.specs.Lite.{lite}
+use Rattle.meaning.specs.Layout.{Lays}
+use Rattle.tables.specs.Lists.{lists}
+use Rattle.index.specs.declared.lent.Lent.{Lent}
+
+-- all of a call but what is asked, and of the areas their lengths alone
+pub record Preparation : Type 0 where
+  pub counts : Counts
+  pub tables : Tables
+  pub allowance : ℕ
+  pub area : ℕ
+  pub spare : ℕ
+
+abbrev pub preparation : Lent → ℕ → ℕ → Preparation
+preparation l area spare = record {
+  counts = l.collection.counts;
+  tables = lists l.collection;
+  allowance = l.allowance;
+  area = area;
+  spare = spare;
+}
+
+abbrev pub collection_in : Preparation → Collection
+collection_in p = collection p.counts p.tables
+
+-- the tests 4 to 7
+pub record Fits (p : Preparation) : Type 0 where
+  pub counts : CountsFit p.counts
+  pub tables : TablesFit p.tables p.area p.spare
+  pub numbers : NumbersFit p.counts p.tables
+  pub ends : EndsFit p.tables
+
+-- the canonical model breaks an exclusion
+abbrev pub IsBroken : Preparation → Type 0
+IsBroken p = model.Contradiction (collection_in p)
+
+-- the loop sheet is worked, and stands in the first area
+pub record HasSheet (p : Preparation) : Type 0 where
+  pub fits : Fits p
+  pub sane : IsBroken p → ⊥
+
+abbrev pub RoundsNeeded : Preparation → ℕ → Type 0
+RoundsNeeded p = sheet.Needed (lite (collection_in p))
+
+abbrev pub HoldsSheet : Preparation → ℕ → List ℕ → Type 0
+HoldsSheet p n = Lays (sheet.Mark (lite (collection_in p)) n)

@@ -1,0 +1,81 @@
+-- What the rooms find of a collection that passed its tests, in the words of the rules.
+use Rattle.std.specs.Prelude.{◌≡◌, ◌↔◌, List, ℕ, ◌≤◌, ◌<◌}
+use Rattle.kinds.specs.Kinds.{CountsFit}
+use Rattle.meaning.specs.Collection.{Collection}
+use Rattle.meaning.specs.Lent.{collection, ShapesOk, NumbersFit, EndsFit}
+use Rattle.meaning.specs.Model.{Contradiction}
+use Rattle.meaning.specs.Sheet.{Mark}
+use Rattle.meaning.specs.Sheet as sheet
+use Rattle.meaning.specs.Lite.{lite}
+use Rattle.meaning.specs.Layout.{area_length, Lays, zeros}
+use Rattle.tables.specs.declared.ask.Ask.{Ask}
+use Rattle.tables.specs.declared.collection.Collection as code
+use Rattle.tables.specs.Asks.{IsAskDeclared}
+use Rattle.tables.specs.Lists.{lists}
+use Rattle.walk.specs.Asks.{Asked}
+use Rattle.index.specs.declared.lent.Lent.{Lent}
+use Rattle.index.specs.declared.routes.Paths.{Paths}
+use Rattle.index.specs.declared.work.Found.{Found}
+use Rattle.index.specs.declared.work.Found.TheVariants as found
+use Rattle.index.specs.Asked.{IsYes}
+
+-- the collection that lent tables mean
+abbrev pub meant : code.Collection → Collection
+meant c = collection c.counts (lists c)
+
+-- the tests 4 to 7, but for the lengths of the areas
+pub record Passes (c : code.Collection) : Type 0 where
+  pub counts : CountsFit c.counts
+  pub tables : ShapesOk (lists c)
+  pub numbers : NumbersFit c.counts (lists c)
+  pub ends : EndsFit (lists c)
+
+pub record HasAreas (long long' : ℕ) : Type 0 where
+  pub area : long ≡ area_length
+  pub spare : long' ≡ area_length
+
+module _ (𝓒 : Collection) where
+  abbrev pub Needs : ℕ → Type 0
+  Needs = sheet.Needed (lite 𝓒)
+
+  abbrev pub Holds : ℕ → List ℕ → Type 0
+  Holds n = Lays (Mark (lite 𝓒) n)
+
+-- strides lead from the first individual of an ask in the start state to its second in a final one
+abbrev pub StridesLead : Paths → Ask → Type 0
+StridesLead r = Asked r.loops.now.rows r.ways.now r.hops.facts.numbers.now r.question
+
+-- so of each declared ask they tell whether it is yes
+pub record AreRight (c : code.Collection) (r : Paths) : Type 0 where
+  pub each : (ask : Ask) → IsAskDeclared c.counts ask → StridesLead r ask ↔ IsYes (meant c) ask
+
+-- the rounds needed are n, more than are allowed
+pub record NeedsMore (l : Lent) (n : ℕ) : Type 0 where
+  pub sane : Contradiction (meant l.collection) → ⊥
+  pub needed : Needs (meant l.collection) n
+  pub more : l.allowance < n
+
+-- the rounds needed are n, and allowed; walks may be made
+pub record NeedsOnly (l : Lent) (n : ℕ) (r : Paths) : Type 0 where
+  pub sane : Contradiction (meant l.collection) → ⊥
+  pub needed : Needs (meant l.collection) n
+  pub allowed : n ≤ l.allowance
+  pub paths : AreRight l.collection r
+
+-- what was found is so
+abbrev pub IsFound : Lent → Found → Type 0
+IsFound l found.Contradiction = Contradiction (meant l.collection)
+IsFound l found.Spent = (n : ℕ) × NeedsMore l n
+IsFound l (found.Needed n r) = NeedsOnly l n r
+
+-- the first area after it: untouched, or the sheet
+abbrev pub LeavesFirst : Lent → Found → List ℕ → List ℕ → Type 0
+LeavesFirst l found.Contradiction area x = x ≡ area
+LeavesFirst l found.Spent area x = Holds (meant l.collection) l.allowance x
+LeavesFirst l (found.Needed n r) area x = Holds (meant l.collection) n x
+
+-- the second: untouched, or zeros
+abbrev pub LeavesSecond : Found → List ℕ → List ℕ → Type 0
+LeavesSecond found.Contradiction spare y = y ≡ spare
+LeavesSecond found.Spent spare y = y ≡ zeros
+LeavesSecond (found.Needed n r) spare y = y ≡ zeros

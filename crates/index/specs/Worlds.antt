@@ -1,0 +1,46 @@
+-- What an answer says of the worlds that the facts and rules may speak of.
+use Rattle.std.specs.Prelude.{ℕ, Bool, IsTrue}
+use Rattle.kinds.specs.declared.ConceptName.{ConceptName}
+use Rattle.kinds.specs.declared.Individual.{Individual}
+use Rattle.kinds.specs.declared.SignedRole.{SignedRole}
+use Rattle.meaning.specs.Lent.{Call, collection_of}
+use Rattle.meaning.specs.Worlds.{World, Keeps, Respects, YesIn}
+use Rattle.meaning.proofs.Forced.{model_world}
+
+-- a world whose things are numbers: the names of each, the signed roles of an ordered pair, and
+-- which thing an individual is
+pub record Numbered : Type 0 where
+  pub name : ℕ → ConceptName → Bool
+  pub edge : ℕ → SignedRole → ℕ → Bool
+  pub person : Individual → ℕ
+
+abbrev pub world_of : Numbered → World
+world_of w = record {
+  structure = record {
+    Thing = ℕ;
+    name = λ x A. IsTrue (w.name x A);
+    edge = λ x R y. IsTrue (w.edge x R y);
+  };
+  person = w.person;
+}
+
+-- the canonical model of what is lent, as a world
+abbrev pub model_of : Call → World
+model_of c = model_world (collection_of c)
+
+-- it has the facts, keeps the rules, and breaks no exclusion
+pub record IsWorldOf (c : Call) (𝓦 : World) : Type 0 where
+  pub keeps : Keeps (collection_of c) 𝓦
+  pub respects : Respects (collection_of c) 𝓦
+
+-- a path of the question leads in it from the first individual to the second
+abbrev pub HasPath : Call → World → Type 0
+HasPath c 𝓦 = YesIn (collection_of c) 𝓦 c.first c.second
+
+-- each world of numbers has one
+abbrev pub IsForced : Call → Type 0
+IsForced c = (w : Numbered) → IsWorldOf c (world_of w) → HasPath c (world_of w)
+
+-- no world of numbers has the facts and keeps all rules
+abbrev pub HasNoWorld : Call → Type 0
+HasNoWorld c = (w : Numbered) → IsWorldOf c (world_of w) → ⊥

@@ -1,7 +1,0 @@
--- `with_concept_facts`: after k turns the rows have what the first k facts add.
-use Rattle.laws.specs.Gains.{Gains, Some}
-use Rattle.individuals.specs.Facts.{ConceptHit}
-use Rattle.individuals.proofs.with_concept_facts.Given as goal
-
-abbrev pub invariant-loop-k : goal.invariant-loop-k
-invariant-loop-k l = Gains 255 128 l.initial.rows (Some (ConceptHit l.facts l.order) l.k) l.rows

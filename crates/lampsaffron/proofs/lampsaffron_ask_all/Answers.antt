@@ -1,0 +1,12 @@
+-- `lampsaffron_ask_all`: the row asked in turn, as it is told.
+use Rattle.std.proofs.Common.{refl}
+use Rattle.lampsaffron.proofs.Told.{told}
+use Rattle.lampsaffron.proofs.lampsaffron_ask_all.Goals as goal
+
+pub returns-clause-in_turn : goal.returns-clause-in_turn
+returns-clause-in_turn c =
+    let fits = c.row_fits.ensures.0 c.if-not-row_fits.false in
+    let turns = c.ask_all.ensures.in_turn in
+    told _ c.args.pairs.now _ _ _ _ c.ask_all.new.answers _ c.tell.new.numbers c.tell.new.counts refl
+    (rw (c.tell.auto.numbers, c.tell.auto.counts) (rw c.new-asks.ensures at fits)) c.tell.ensures
+    (rw (c.new-asks.ensures, c.new.ensures, c.new-2.ensures, c.new-3.ensures, c.new-4.ensures, c.new-5.ensures, c.new-6.ensures, c.new-7.ensures, c.new-8.ensures) at turns)

@@ -1,0 +1,66 @@
+-- What the steps of an order do to the marks of rows, over the numbers below n.
+use Rattle.std.specs.Prelude.{ℕ, ◌-◌, ◌/◌, ◌<◌, ◌≤◌, ◌≡◌, ◌⊎◌, ◌||◌, ◌↔◌, Bool, false, IsTrue, List, [], length, slice_index_or}
+use Rattle.kinds.specs.Kinds.{base, signed, inverse}
+use Rattle.meaning.specs.Lent.{field, rule_width}
+use Rattle.laws.specs.Marks.{mark}
+use Rattle.laws.specs.Gains.{OneOf}
+use Rattle.sets.specs.Bits.{has, role_width}
+use Rattle.sets.specs.Rows.{role_marks}
+use Rattle.sets.specs.declared.roles.RoleSet.{RoleSet}
+
+-- one pair; the pair (k, k); the pairs (i, i)
+abbrev pub Pair : ℕ → ℕ → ℕ → ℕ → Type 0
+Pair a b i j = (i ≡ a) × (j ≡ b)
+
+abbrev pub Own : ℕ → ℕ → ℕ → Type 0
+Own k = Pair k k
+
+abbrev pub Diagonal : ℕ → ℕ → Type 0
+Diagonal i j = i ≡ j
+
+-- the two numbers of rule k; those of any rule
+abbrev pub Hit : List ℕ → ℕ → ℕ → ℕ → Type 0
+Hit t k = Pair (field rule_width t 0 k) (field rule_width t 1 k)
+
+abbrev pub Listed : List ℕ → ℕ → ℕ → Type 0
+Listed t = OneOf (Hit t) (length t / rule_width)
+
+-- the number of the inverse
+abbrev pub turn : ℕ → ℕ
+turn i = (inverse (signed i)).0
+
+-- the pairs of a relation, and those whose inverses it holds
+abbrev pub Turned : (ℕ → ℕ → Type 0) → ℕ → ℕ → Type 0
+Turned E i j = E i j ⊎ E (turn i) (turn j)
+
+-- the two numbers of rule k or of its inverse; those of any rule
+abbrev pub RoleHit : List ℕ → ℕ → ℕ → ℕ → Type 0
+RoleHit t k = Turned (Hit t k)
+
+abbrev pub RoleListed : List ℕ → ℕ → ℕ → Type 0
+RoleListed t = OneOf (RoleHit t) (length t / rule_width)
+
+-- the numbers of ∃R and ∃S where m marks R and S
+abbrev pub Wide : (ℕ → ℕ → Bool) → ℕ → ℕ → Type 0
+Wide m i j = (base ≤ i) × (base ≤ j) × IsTrue (m (i - base) (j - base))
+
+-- m marks exactly the pairs of E
+pub record Shows (n : ℕ) (m : ℕ → ℕ → Bool) (E : ℕ → ℕ → Type 0) : Type 0 where
+  pub at : (i j : ℕ) → i < n → j < n → IsTrue (m i j) ↔ E i j
+
+-- the marks of both rows
+pub record OrRow (n : ℕ) (a b r : List Bool) : Type 0 where
+  pub at : (j : ℕ) → j < n
+      → slice_index_or r j false ≡ (slice_index_or a j false || slice_index_or b j false)
+
+-- n rows of n
+pub record Square (n : ℕ) (m : List (List Bool)) : Type 0 where
+  pub rows : length m ≡ n
+  pub cols : (i : ℕ) → i < n → length (slice_index_or m i []) ≡ n
+
+-- the number j is in the set n where the row marks it
+pub record Packs (row : List Bool) (n : ℕ) : Type 0 where
+  pub at : (j : ℕ) → j < role_width → has n j ≡ slice_index_or row j false
+
+pub record PacksRows (m : List (List Bool)) (rows : List RoleSet) : Type 0 where
+  pub at : (i j : ℕ) → i < role_width → j < role_width → role_marks rows i j ≡ mark m i j

@@ -1,0 +1,9 @@
+pub mod Members
+pub mod Able
+pub mod StepLaws
+pub mod WayLaws
+pub mod MadeLaws
+pub mod Same
+pub mod MadeMean
+pub mod OrdersMean
+pub mod Once

@@ -1,0 +1,5 @@
+pub mod Rows
+pub mod Steps
+pub mod Ways
+pub mod Made
+pub mod RowsOf

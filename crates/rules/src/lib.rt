@@ -1,0 +1,9 @@
+// All that a round knows of rules and question, as rows of sets, and how a collection makes them.
+#![tactic(auto)]
+
+mod made;
+mod rows;
+mod ways;
+
+pub use rows::{Edge, Relation, Rows};
+pub use ways::Ways;

@@ -1,0 +1,167 @@
+// The rows of a collection, from its counts, orders and steps. One function makes each part.
+
+ghost use Rattle.std.specs.Prelude.{◌<◌};
+ghost use Rattle.kinds.specs.Kinds.{most_states, state, number_of, concept_of, StateDeclared, ConceptDeclared};
+ghost use Rattle.rules.specs.Rows.{most_concepts, most_edges, Gets};
+ghost use Rattle.rules.specs.Steps.{step_of, steps_of, Just, Among};
+ghost use Rattle.rules.specs.Made.{InsertsIf, IsStates, IsConcepts, Passes, IsEdgesTo, AreEdgesTo, IsEdge, AreEdges};
+
+use crate::rows::{Edge, Rows};
+use crate::ways::Ways;
+use kinds::{Concept, Counts, SignedRole, State};
+use orders::ConceptOrder;
+use sets::{ConceptSet, RoleSet, StateSet};
+use tables::{Letter, Step, Table};
+
+// A set for each pair of states.
+type PairRows = [ConceptSet; State::PAIRS];
+
+// A state put to a set, where it is declared.
+fn with_state(set: StateSet, s: usize, counts: Counts) -> StateSet
+    requires { s < most_states }
+    ensures { InsertsIf (StateDeclared counts (state s)) s set.0 result.0 }
+{
+    let state = State(s as u16);
+    let mut out = set;
+    if state.declared(counts) {
+        out.insert(state);
+    }
+    out
+}
+
+// The declared states.
+fn states(counts: Counts) -> StateSet
+    ensures { IsStates counts most_states result.0 }
+{
+    let mut set = StateSet::EMPTY;
+    for s in 0..State::NUMBERS {
+        set = with_state(set, s, counts);
+    }
+    set
+}
+
+// A concept put to a set, where it is valid.
+fn with_concept(set: ConceptSet, k: usize, counts: Counts) -> ConceptSet
+    requires { k < most_concepts }
+    ensures { InsertsIf (ConceptDeclared counts (concept_of k)) k set.0 result.0 }
+{
+    let concept = Concept::read(k as u16);
+    let mut out = set;
+    if concept.declared(counts) {
+        out.insert(concept);
+    }
+    out
+}
+
+// The valid concepts.
+fn concepts(counts: Counts) -> ConceptSet
+    ensures { IsConcepts counts most_concepts result.0 }
+{
+    let mut set = ConceptSet::EMPTY;
+    for k in 0..Concept::NUMBERS {
+        set = with_concept(set, k, counts);
+    }
+    set
+}
+
+// A test step passes at each concept below its name.
+fn put_test(tests: &mut PairRows, order: &ConceptOrder, one: Step)
+    ensures { Gets (Passes (Just (step_of one)) order.now.below) tests.old tests.new }
+{
+    let s = one.from.0 as usize;
+    let t = one.to.0 as usize;
+    if s >= State::NUMBERS || t >= State::NUMBERS {
+        return;
+    }
+    if let Letter::Test(by) = one.letter
+        && (by.0 as usize) < Concept::NUMBERS
+    {
+        let q = State::NUMBERS * s + t;
+        tests[q] = tests[q].union(order.below[by.0 as usize]);
+    }
+}
+
+// Every step of a table.
+fn put_tests(tests: &mut PairRows, order: &ConceptOrder, steps: Table<Step>)
+    ensures { Gets (Passes (Among (steps_of steps.entry.numbers.now)) order.now.below) tests.old
+        tests.new }
+{
+    for step in steps.iter() {
+        put_test(tests, order, step);
+    }
+}
+
+// A child known by "has a neighbour by R" is one by the inverse of R. By a name no child is known.
+fn edges_to(k: usize) -> RoleSet
+    requires { k < most_concepts }
+    ensures { IsEdgesTo k result.0 }
+{
+    match Concept::read(k as u16) {
+        Concept::Exists(by) => {
+            let back = by.inverse();
+            RoleSet::only(back)
+        }
+        Concept::Name(_) => RoleSet::EMPTY,
+    }
+}
+
+fn put_edges_to(edges: &mut [RoleSet; Concept::NUMBERS])
+    ensures { AreEdgesTo edges.new }
+{
+    for k in 0..Concept::NUMBERS {
+        edges[k] = edges_to(k);
+    }
+}
+
+// Down the edge of a signed role goes what leads along it, back up what leads along its inverse.
+fn put_edge(edge: &mut Edge, order: &ConceptOrder, ways: &Ways, role: SignedRole)
+    requires { role.0 < most_edges }
+    ensures { IsEdge order.now.below ways.now.by role.0 edge.new }
+{
+    let back = role.inverse();
+    let up = back.0 as usize;
+    edge.parents = order.below[Concept::BASE as usize + role.0 as usize];
+    edge.down = ways.by[role.0 as usize];
+    edge.up = ways.by[up];
+}
+
+fn put_edges(edges: &mut [Edge; SignedRole::NUMBERS], order: &ConceptOrder, ways: &Ways)
+    ensures { AreEdges order.now.below ways.now.by edges.new }
+{
+    for r in 0..SignedRole::NUMBERS {
+        put_edge(&mut edges[r], order, ways, SignedRole(r as u16));
+    }
+}
+
+impl Rows {
+    ghost use Rattle.kinds.specs.Kinds.{most_states};
+    ghost use Rattle.rules.specs.Rows.{most_concepts};
+    ghost use Rattle.rules.specs.Steps.{steps_of};
+    ghost use Rattle.rules.specs.Made.{IsStates, IsConcepts, AreTests, AreEdgesTo, AreEdges};
+
+    /// Rows that know nothing.
+    pub const NONE: Rows = Rows {
+        states: StateSet::EMPTY,
+        concepts: ConceptSet::EMPTY,
+        tests: [ConceptSet::EMPTY; State::PAIRS],
+        edges_to: [RoleSet::EMPTY; Concept::NUMBERS],
+        edges: [Edge::NONE; SignedRole::NUMBERS],
+    };
+
+    /// The rows of a collection: what it declares, what is below each concept, where each signed
+    /// role leads, and its steps. What stood here before is gone.
+    pub fn fill(&mut self, counts: Counts, order: &ConceptOrder, ways: &Ways, steps: Table<Step>)
+        ensures states { IsStates counts most_states self.new.states.0 }
+        ensures concepts { IsConcepts counts most_concepts self.new.concepts.0 }
+        ensures tests { AreTests (steps_of steps.entry.numbers.now) order.now.below self.new.tests }
+        ensures edges_to { AreEdgesTo self.new.edges_to }
+        ensures edges { AreEdges order.now.below ways.now.by self.new.edges }
+    {
+        self.states = states(counts);
+        self.concepts = concepts(counts);
+        self.tests = [ConceptSet::EMPTY; State::PAIRS];
+        put_tests(&mut self.tests, order, steps);
+        put_edges_to(&mut self.edges_to);
+        put_edges(&mut self.edges, order, ways);
+    }
+}

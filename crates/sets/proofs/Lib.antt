@@ -1,0 +1,3 @@
+pub mod Laws
+pub mod Once
+pub mod RowLaws

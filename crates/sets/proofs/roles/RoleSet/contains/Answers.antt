@@ -1,0 +1,7 @@
+-- `contains` meets its contract: a number that has no place is no member.
+use Rattle.std.proofs.Common.{arith, rules}
+use Rattle.sets.proofs.Laws.{absent}
+use Rattle.sets.proofs.roles.RoleSet.contains.Goals as goal
+
+pub returns-else-k-lt-NUMBERS : goal.returns-else-k-lt-NUMBERS
+returns-else-k-lt-NUMBERS c = absent 64 c.args.self.0 c.args.member.0 (search rules) (omega arith)

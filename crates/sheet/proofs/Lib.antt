@@ -1,0 +1,7 @@
+pub mod Theory
+pub mod Laws
+pub mod HowMany
+pub mod Ending
+pub mod AreaLaws
+pub mod Mean
+pub mod Once

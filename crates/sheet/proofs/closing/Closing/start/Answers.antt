@@ -1,0 +1,8 @@
+-- Round 0, and what the first round adds.
+use Rattle.sheet.proofs.Theory.{first_holds, first_next}
+use Rattle.sheet.proofs.closing.Closing.start.Goals as goal
+
+pub returns : goal.returns
+returns c =
+    let h = first_holds c.args.rows.now _ c.begin.ensures.first in
+    record { sheet = h; next = first_next c.args.rows.now _ _ h c.begin.ensures.next }

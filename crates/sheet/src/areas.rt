@@ -1,0 +1,76 @@
+// Where a mark stands in an area: a byte to a mark. Nothing else knows it.
+
+ghost use Rattle.std.specs.Prelude.{◌≡◌, ◌+◌, ◌≤◌, length};
+ghost use Rattle.meaning.specs.Sheet.{Mark};
+ghost use Rattle.rules.specs.Rows.{kind_of, most_concepts};
+ghost use Rattle.sets.specs.Bits.{Has};
+ghost use Rattle.sheet.specs.Sheets.{IsRound};
+ghost use Rattle.sheet.specs.Ends.{Ended, rounds_made};
+ghost use Rattle.meaning.specs.Layout.{area_length, zeros};
+ghost use Rattle.sheet.specs.Areas.{byte_bits, LaysRows, LaysMarks, Laid};
+
+use crate::Sheet;
+use crate::allowed::Ran;
+use crate::closing::Closing;
+use kinds::{Concept, Rounds, State};
+use rules::Rows;
+use sets::ConceptSet;
+
+/// The bytes of an area.
+pub const AREA: usize = State::PAIRS * Concept::NUMBERS;
+
+// The bits of a byte: a set has eight concepts to a byte.
+const BITS: usize = u8::BITS as usize;
+
+// Each bit of a byte, as a byte of its own.
+fn lay_byte(area: &mut [u8; AREA], byte: u8, at: usize)
+    requires { at + byte_bits ≤ area_length }
+    ensures { Laid (Has byte) at byte_bits area.old area.new }
+{
+    for j in 0..BITS {
+        area[at + j] = (byte >> j) & 1;
+    }
+}
+
+// A byte for each concept that a row may have. Most rows of most sheets are empty.
+fn lay_row(area: &mut [u8; AREA], row: ConceptSet, at: usize)
+    requires { at + most_concepts ≤ area_length }
+    ensures { Laid (Has row.0) at most_concepts area.old area.new }
+{
+    if row.is_empty() {
+        area[at..at + Concept::NUMBERS].fill(0);
+        return;
+    }
+    let bytes = row.to_le_bytes();
+    for i in 0..bytes.len() {
+        lay_byte(area, bytes[i], at + BITS * i);
+    }
+}
+
+/// 1 at the place of each mark and 0 at every other.
+pub fn lay(sheet: &Sheet, area: &mut [u8; AREA])
+    ensures { LaysRows sheet.now area.new }
+{
+    for q in 0..State::PAIRS {
+        lay_row(area, sheet[q], Concept::NUMBERS * q);
+    }
+}
+
+/// Rounds against an allowance, and both areas: the first is their sheet, the second is cleared.
+pub fn close(
+    closing: &mut Closing,
+    rows: &Rows,
+    allowance: Rounds,
+    first: &mut [u8; AREA],
+    second: &mut [u8; AREA],
+) -> Ran
+    ensures ended { Ended rows.now allowance result }
+    ensures sheet { IsRound rows.now (rounds_made allowance result) closing.new }
+    ensures first { LaysMarks (Mark (kind_of rows.now) (rounds_made allowance result)) first.new }
+    ensures second { second.new ≡ zeros }
+{
+    let ran = closing.run(rows, allowance);
+    lay(&closing.sheet, first);
+    second.fill(0);
+    ran
+}

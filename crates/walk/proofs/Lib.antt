@@ -1,0 +1,13 @@
+pub mod SetLaws
+pub mod ImageLaws
+pub mod LoopLaws
+pub mod GrowLaws
+pub mod SettleLaws
+pub mod VisitLaws
+pub mod AbsorbLaws
+pub mod EndLaws
+pub mod WalkLaws
+pub mod BackLaws
+pub mod TellLaws
+pub mod FinalLaws
+pub mod Mean

@@ -1,0 +1,226 @@
+-- What the walk means to a caller: by the tables of a collection whose numbers are declared, with its closed sheet, it is the individuals' walk.
+use Rattle.std.specs.Prelude.{◌≡◌, ◌↔◌, List, ℕ, ◌*◌, ◌/◌, ◌≤◌, ◌<◌, length}
+use Rattle.std.proofs.Common.{ap, sym, arith}
+use Rattle.std.proofs.Math.Nat.{min-eq_left}
+use Rattle.kinds.specs.declared.Individual.{Individual}
+use Rattle.kinds.specs.declared.State.{State}
+use Rattle.kinds.specs.declared.Concept.{Concept}
+use Rattle.kinds.specs.declared.Concept.TheVariants.{Name, Exists}
+use Rattle.kinds.specs.declared.Counts.{Counts}
+use Rattle.kinds.specs.Kinds.{most_individuals, most_states, most_roles, individual, signed, state, number_of, concept_of, number-concept, concept-number, CountsFit, IndividualDeclared, StateDeclared, ConceptDeclared}
+use Rattle.sets.specs.Bits.{Has, concept_width}
+use Rattle.sets.specs.declared.states.StateSet.{StateSet}
+use Rattle.sets.specs.declared.concepts.ConceptSet.{ConceptSet}
+use Rattle.hops.specs.Chains.{hops, source, target, role_of, IsHopFrom}
+use Rattle.meaning.specs.Collection.{Collection, NumbersDeclared, WellFormed, step, role}
+use Rattle.meaning.specs.Lent.{Tables, collection, records, role_fact_width, most_role_facts, final_width, final_at}
+use Rattle.meaning.specs.Question as question
+use Rattle.laws.specs.Member.{◌∈◌}
+use Rattle.laws.specs.Numbers.{numbered-in, numbered-out}
+use Rattle.tables.specs.declared.ask.Ask.{Ask}
+use Rattle.tables.specs.declared.ask.Ask.TheVariants.{Pair}
+use Rattle.tables.specs.Asks.{first_of, second_of, IsAskDeclared}
+use Rattle.meaning.specs.Model.{individuals, IndividualHas, canonical}
+use Rattle.meaning.specs.Run.{Run, stop, go}
+use Rattle.meaning.specs.Lite.{lite, StepDown}
+use Rattle.meaning.specs.Tree as tree
+use Rattle.meaning.specs.Tree.{root}
+use Rattle.meaning.proofs.Clash.{typed-valid}
+use Rattle.meaning.proofs.ModelMoves.{Near}
+use Rattle.meaning.proofs.ModelWalk.{IndividualsWalk, path↔individuals-walk}
+use Rattle.meaning.proofs.Declared.{state-in, state-out, concept-in, concept-out, concept-declared, lite-sane}
+use Rattle.meaning.specs.Sheet.{Mark, Needed}
+use Rattle.meaning.proofs.SheetLaws.{mark-markable, mark→loop, loop→mark}
+use Rattle.walk.specs.declared.question.Question.{Question}
+use Rattle.walk.specs.declared.strides.Strides.{Strides}
+use Rattle.walk.specs.Asks.{PairAsked, YesBy}
+use Rattle.walk.specs.Finals.{AreFinals}
+use Rattle.walk.specs.Sets.{set_at, concepts_at, row_at}
+use Rattle.walk.specs.Loops.{pair, LoopTo, AreLoops}
+use Rattle.walk.specs.Strides.{TableStride, along, loop, Reaches}
+use Rattle.walk.proofs.SetLaws.{within_row}
+use Rattle.hops.proofs.Edges.{a-hop, hop-declared, hop-edge, edge-hop}
+
+-- from s to u at a: a has some B with (s, u, B) on the sheet after n rounds
+abbrev pub LoopOf : Collection → ℕ → Individual → State → State → Type 0
+LoopOf 𝓒 n a s u = (B : Concept) × IndividualHas 𝓒 a B × Mark (lite 𝓒) n s u B
+
+-- the tables of a collection, with its sheet after n rounds
+pub record TablesOf (𝓒 : Collection) (n : ℕ) (loops ways : List (List StateSet)) : Type 0 where
+  pub loop_at : (a s u : ℕ) → a < most_individuals → s < most_states
+      → Has (set_at (row_at loops a) s) u ↔ LoopOf 𝓒 n (individual a) (state s) (state u)
+  pub loop_low : (a s u : ℕ) → a < most_individuals → Has (set_at (row_at loops a) s) u → s < most_states
+  pub way_at : (R s u : ℕ) → R < 2 * most_roles → Has (set_at (row_at ways R) s) u ↔ StepDown 𝓒 (signed R) (state s) (state u)
+
+-- the question of a collection
+pub record QuestionOf (𝓒 : Collection) (q : Question) : Type 0 where
+  pub start : q.start ≡ 𝓒.counts.start
+  pub final : (u : State) → Has q.finals.0 u.0 ↔ (u ∈ 𝓒.finals)
+
+-- the concepts of the individuals of a collection, and its sheet after n rounds, as rows hold them
+pub record ConceptsOf (𝓒 : Collection) (individuals : List ConceptSet) : Type 0 where
+  pub at : (a : ℕ) (B : Concept) → a < most_individuals → ConceptDeclared 𝓒.counts B → Has (concepts_at individuals a) (number_of B) ↔ IndividualHas 𝓒 (individual a) B
+
+pub record SheetOf (𝓒 : Collection) (n : ℕ) (sheet : List ConceptSet) : Type 0 where
+  pub at : (s u B : ℕ) → s < most_states → u < most_states → B < concept_width → Has (concepts_at sheet (pair s u)) B ↔ Mark (lite 𝓒) n (state s) (state u) (concept_of B)
+
+module _ (c : Counts) (t : Tables) (fit : CountsFit c) (ok : NumbersDeclared (collection c t)) where
+  abbrev 𝓒 : Collection
+  𝓒 = collection c t
+
+  -- a declared concept has a number below the width of a set
+  number_low : (B : Concept) → ConceptDeclared c B → number_of B < concept_width
+  unfolding number_of
+  number_low (Name A) h = let f = fit.names in omega arith
+  number_low (Exists R) h = let f = fit.roles in omega arith
+
+  module _ (n : ℕ) (individuals sheet : List ConceptSet) (have : ConceptsOf 𝓒 individuals) (marked : SheetOf 𝓒 n sheet) where
+    loop-to : (a s u : ℕ) → a < most_individuals → s < most_states → LoopTo sheet (concepts_at individuals a) s u → LoopOf 𝓒 n (individual a) (state s) (state u)
+    loop-to a s u ha hs y =
+        let B = concept_of y.concept in
+        let m = (marked.at s u y.concept hs y.state y.low).0 y.marked in
+        let d = concept-out c B (mark-markable (lite 𝓒) n (state s) (state u) B m).of in
+        let h = y.has in
+        (B, (have.at a B ha d).0 (rw (number-concept y.concept) h), m)
+
+    loop-from : (a s u : ℕ) → a < most_individuals → s < most_states → LoopOf 𝓒 n (individual a) (state s) (state u) → LoopTo sheet (concepts_at individuals a) s u
+    loop-from a s u ha hs y =
+        let B = y.0 in
+        let m = y.2 in
+        let k = mark-markable (lite 𝓒) n (state s) (state u) B m in
+        let d = concept-out c B k.of in
+        let f = fit.states in
+        let du = state-out c (state u) k.to in
+        let low = number_low B d in
+        let e = concept-number c fit.names B d in
+        let hu : u < most_states = omega arith in
+        record {
+          state = hu;
+          concept = number_of B;
+          low = low;
+          marked = (marked.at s u (number_of B) hs hu low).1 (rw e m);
+          has = (have.at a B ha d).1 y.1;
+        }
+
+    -- THEOREM: made from the concepts of the individuals of a collection and from its sheet, the loops are those of the collection
+    pub loops-mean : (loops : List (List StateSet)) → AreLoops individuals sheet loops → (a s u : ℕ) → a < most_individuals → s < most_states
+        → Has (set_at (row_at loops a) s) u ↔ LoopOf 𝓒 n (individual a) (state s) (state u)
+    loops-mean loops l a s u ha hs = let x = l.at a s u ha hs in (λ b. loop-to a s u ha hs (x.0 b), λ y. x.1 (loop-from a s u ha hs y))
+
+    -- THEOREM: with the ways of its question they are the tables of the collection
+    pub tables-mean : (loops ways : List (List StateSet)) → AreLoops individuals sheet loops
+        → ((R s u : ℕ) → R < 2 * most_roles → Has (set_at (row_at ways R) s) u ↔ StepDown 𝓒 (signed R) (state s) (state u)) → TablesOf 𝓒 n loops ways
+    tables-mean loops ways l w = record {
+      loop_at = loops-mean loops l;
+      loop_low = λ a s u h p. within_row most_states (row_at loops a) s u (l.each a h) p;
+      way_at = w;
+    }
+
+  module _ (few : length t.role-facts / role_fact_width ≤ most_role_facts) (n : ℕ) (needed : Needed (lite 𝓒) n) (loops ways : List (List StateSet)) (r : TablesOf 𝓒 n loops ways) where
+    abbrev rf : List ℕ
+    rf = t.role-facts
+
+    -- a stride of the definition
+    abbrev Step : Individual → State → Individual → State → Type 0
+    Step = tree.Stride (lite 𝓒) (individuals 𝓒).has (Near 𝓒 (individuals 𝓒))
+
+    all_hops : hops rf ≡ 2 * (length rf / role_fact_width)
+    all_hops = ap (λ (x : ℕ). 2 * x) (min-eq_left few)
+
+    -- one stride leads from what is declared to what is declared
+    stride-to : {a s b u : ℕ} → IndividualDeclared c (individual a) → StateDeclared c (state s) → TableStride loops ways rf a s b u
+        → IndividualDeclared c (individual b) × StateDeclared c (state u) × Step (individual a) (state s) (individual b) (state u)
+    stride-to ha hs (along {a = a} {s = s} {t = u} x l b) =
+        let e : individual (source rf x) ≡ individual a = ap individual l.from in
+        let k = l.inside in
+        let i = a-hop c t ok x (rw all_hops at k) in
+        let v = (r.way_at (role_of rf x) s u l.role).0 b in
+        ((hop-declared c t ok i).target, (ok.steps (step (state s) (role v.0) (state u)) v.1).2, tree.along (v.0, v.1, rw e at (hop-edge c t ok i v.2)))
+    stride-to ha hs (loop {a = a} {s = s} {t = u} hu b) =
+        let f = fit.states in
+        let v = (r.loop_at a s u hu (omega arith)).0 b in
+        (ha, state-out c (state u) (mark-markable (lite 𝓒) n (state s) (state u) v.0 v.2).to, tree.by v.0 v.1 (mark→loop (lite 𝓒) n (state s) (state u) v.0 v.2))
+
+    stride-from : {a b : Individual} {s u : State} → IndividualDeclared c a → StateDeclared c s → Step a s b u
+        → IndividualDeclared c b × StateDeclared c u × TableStride loops ways rf a.0 s.0 b.0 u.0
+    stride-from ha hs (tree.along {a = a} {b = b} {s = s} {t = u} y) =
+        let g = fit.individuals in
+        let h = fit.roles in
+        let z = edge-hop c t ok y.2 in
+        let x = z.0 in
+        let e = z.1 in
+        let d = hop-declared c t ok (a-hop c t ok x e.hop) in
+        let dr = d.role in
+        let dt = d.target in
+        let du = (ok.steps (step s (role y.0) u) y.1).2 in
+        let m = (r.way_at (role_of rf x) s.0 u.0 (omega arith)).1 (y.0, y.1, e.role) in
+        let l : IsHopFrom rf a.0 x = record { inside = rw all_hops e.hop; from = e.source; start = omega arith; role = omega arith; end = omega arith } in
+        let j : TableStride loops ways rf a.0 s.0 (target rf x) u.0 = along {s = s.0} {t = u.0} x l m in
+        (rw e.target at dt, du, rw e.target at j)
+    stride-from ha hs (tree.by {a = a} {s = s} {t = u} B b k) =
+        let f = fit.states in
+        let g = fit.individuals in
+        let m = loop→mark (lite 𝓒) (lite-sane 𝓒 ok) n needed.holds k (concept-in c B (concept-declared 𝓒 ok b.2 (typed-valid 𝓒 ok b.1))) (state-in c s hs) in
+        let du = state-out c u (mark-markable (lite 𝓒) n s u B m).to in
+        (ha, du, loop {a = a.0} {s = s.0} {t = u.0} (omega arith) ((r.loop_at a.0 s.0 u.0 (omega arith) (omega arith)).1 (B, b, m)))
+
+    -- and so do all
+    run-to : {a s b u : ℕ} → IndividualDeclared c (individual a) → StateDeclared c (state s) → Run (TableStride loops ways rf) a s b u
+        → Run Step (individual a) (state s) (individual b) (state u)
+    run-to ha hs stop = stop
+    run-to ha hs (go x p) = let v = stride-to ha hs x in go v.2 (run-to v.0 v.1 p)
+
+    run-from : {a b : Individual} {s u : State} → IndividualDeclared c a → StateDeclared c s → Run Step a s b u
+        → Run (TableStride loops ways rf) a.0 s.0 b.0 u.0
+    run-from ha hs stop = stop
+    run-from ha hs (go x p) = let v = stride-from ha hs x in go v.2 (run-from v.0 v.1 p)
+
+    -- THEOREM: from a declared individual and state, strides lead exactly where the individuals' walk does
+    pub walk-mean : (wf : WellFormed 𝓒) (a b : Individual) (s u : State) → IndividualDeclared c a → StateDeclared c s
+        → Reaches loops ways rf a.0 s.0 b.0 u.0 ↔ IndividualsWalk 𝓒 wf a s b u
+    walk-mean wf a b s u ha hs =
+        let f = fit.states in
+        let g = fit.individuals in
+        (λ p. run-to ha hs p.strides, λ p. record { individual = omega arith; state = omega arith; strides = run-from ha hs p })
+
+    -- THEOREM: strides lead from the first individual to the second in a final state exactly where the pair is yes
+    module _ (q : Question) (of : QuestionOf 𝓒 q) (wf : WellFormed 𝓒) where
+      path-mean : (a b : Individual) (u : State) → IndividualDeclared c a
+          → Reaches loops ways rf a.0 q.start.0 b.0 u.0 ↔ question.PathIn 𝓒 (canonical 𝓒) (root a) c.start (root b) u
+      path-mean a b u ha =
+          let e = of.start in
+          let x = walk-mean wf a b c.start u ha fit.start in
+          let y = path↔individuals-walk 𝓒 wf a b c.start u ha in
+          (λ p. y.1 (x.0 (rw e at p)), λ p. rw e (x.1 (y.0 p)))
+
+      pub pair-mean : (a b : Individual) → IndividualDeclared c a → PairAsked loops ways rf q a.0 b.0 ↔ question.Yes 𝓒 a b
+      pair-mean a b ha = (
+        λ p. let u = state p.state in (u, (of.final u).0 p.final, (path-mean a b u ha).0 p.reaches),
+        λ y. record { state = y.0.0; final = (of.final y.0).1 y.1; reaches = (path-mean a b y.0 ha).1 y.2 },
+      )
+
+  -- the set of the states of its table, with its start state, is the question of a collection
+  pub question-mean : (q : Question) → q.start ≡ c.start → AreFinals t.finals q.finals.0 → QuestionOf 𝓒 q
+  unfolding records
+  question-mean q e f = record { start = e; final = λ u. (to u, from u) }
+    where
+      to : (u : State) → Has q.finals.0 u.0 → u ∈ 𝓒.finals
+      to u p =
+          let x = (f.at u.0).0 p in
+          let i : final_at t.finals x.place ≡ u = ap state x.is in
+          let m = numbered-in (final_at t.finals) (length t.finals / final_width) x.place x.below in
+          rw i at m
+
+      from : (u : State) → u ∈ 𝓒.finals → Has q.finals.0 u.0
+      from u m =
+          let w = numbered-out (final_at t.finals) (length t.finals / final_width) m in
+          let d = ok.finals u m in
+          let g = fit.states in
+          (f.at u.0).1 (record { place = w.0; below = w.1; is = ap (λ (s : State). s.0) (sym w.2); low = omega arith })
+
+  -- THEOREM: by the tables of a collection, with its closed sheet and its question, the answer to a declared ask is yes exactly where the pair is
+  pub yes-mean : (n : ℕ) → Needed (lite 𝓒) n → length t.role-facts / role_fact_width ≤ most_role_facts → (s : Strides) → s.hops.now.facts.numbers.now ≡ t.role-facts
+      → TablesOf 𝓒 n s.loops.now.rows s.ways.now → (q : Question) → QuestionOf 𝓒 q → (ask : Ask) → IsAskDeclared c ask
+      → YesBy s q ask ↔ question.Yes 𝓒 (first_of ask) (second_of ask)
+  yes-mean n needed few s e r q of (Pair a b) d =
+      rw e (pair-mean few n needed s.loops.now.rows s.ways.now r q of (record { counts = fit; numbers = ok }) a b d.0)

@@ -1,0 +1,12 @@
+-- `tell`: the ask is there, and has the walk's first individual.
+use Rattle.std.proofs.Common.{sym, ap, ◌∙◌, rules}
+use Rattle.kinds.specs.declared.Individual.{Individual}
+use Rattle.walk.proofs.TellLaws.{told_one}
+use Rattle.walk.proofs.asks.tell.Goals as goal
+
+pub returns : goal.returns
+returns c =
+    let e = c.in-Some.ensures in
+    let f = ap (λ (x : Individual). x.0) (sym c.first.ensures) ∙ c.if-first-told.false in
+    let h = c.is_hit.ensures in
+    told_one _ _ _ _ _ (search rules) e.0 (rw e.1 at f) (rw e.1 at h)

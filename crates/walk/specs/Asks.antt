@@ -1,0 +1,38 @@
+-- When the answer to an ask is yes, by the tables that a walk is lent.
+use Rattle.std.specs.Prelude.{◌≡◌, ◌↔◌, Bool, IsTrue, Option, Some, List, ℕ}
+use Rattle.sets.specs.Bits.{Has, Meets}
+use Rattle.sets.specs.declared.states.StateSet.{StateSet}
+use Rattle.tables.specs.declared.ask.Ask.{Ask}
+use Rattle.tables.specs.declared.ask.Ask.TheVariants.{Pair}
+use Rattle.walk.specs.declared.question.Question.{Question}
+use Rattle.walk.specs.declared.strides.Strides.{Strides}
+use Rattle.walk.specs.Sets.{set_at}
+use Rattle.walk.specs.Strides.{Reaches}
+
+-- an individual's set has a final state
+abbrev pub PairHit : List StateSet → ℕ → ℕ → Type 0
+PairHit reached finals second = Meets (set_at reached second) finals
+
+-- what the walk from the first individual reached makes the answer yes
+abbrev pub Hit : List StateSet → ℕ → Ask → Type 0
+Hit reached finals (Pair first second) = PairHit reached finals second.0
+
+module _ (loops ways : List (List StateSet)) (facts : List ℕ) (question : Question) where
+  -- strides lead from the first individual in the start state to the second in a final one
+  pub record PairAsked (first second : ℕ) : Type 0 where
+    pub state : ℕ
+    pub final : Has question.finals.0 state
+    pub reaches : Reaches loops ways facts first question.start.0 second state
+
+  -- the answer to an ask is yes
+  abbrev pub Asked : Ask → Type 0
+  Asked (Pair first second) = PairAsked first.0 second.0
+
+abbrev pub YesBy : Strides → Question → Ask → Type 0
+YesBy s = Asked s.loops.now.rows s.ways.now s.hops.now.facts.numbers.now
+
+-- v is an answer to the ask, and right
+pub record IsAnswer (s : Strides) (question : Question) (ask : Ask) (v : Option Bool) : Type 0 where
+  pub answer : Bool
+  pub is : v ≡ Some answer
+  pub right : IsTrue answer ↔ YesBy s question ask
