@@ -17,5 +17,14 @@ int main(void) {
         for (int i = 0; i < LAMPSAFFRON_AREA; i++) marks += area[i];
         printf("(0, %d): number %d, count %d, marks %d\n", second, number, count, marks);
     }
+    /* Both pairs in one call, which works the collection out once. */
+    static const uint16_t pairs[] = {0, 0, 0, 1};
+    uint8_t numbers[2];
+    uint16_t counts[2];
+    if (!lampsaffron_ask_all(2, 2, 2, 4, 0, rules, 4, none, 0, none, 0, none, 0,
+            facts, 2, none, 0, steps, 12, finals, 1, pairs, 4, 64, area, sizeof area, spare, sizeof spare,
+            numbers, 2, counts, 2)) return 1;
+    for (int k = 0; k < 2; k++)
+        printf("(%d, %d) in a row: number %d, count %d\n", pairs[2 * k], pairs[2 * k + 1], numbers[k], counts[k]);
     return 0;
 }

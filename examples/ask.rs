@@ -16,6 +16,23 @@ extern "C" {
         spare: *mut u8, spare_len: usize,
         count: *mut u16,
     ) -> u8;
+    fn lampsaffron_ask_all(
+        names: u16, roles: u16, individuals: u16, states: u16, start: u16,
+        concept_rules: *const u16, concept_rules_len: usize,
+        concept_exclusions: *const u16, concept_exclusions_len: usize,
+        role_rules: *const u16, role_rules_len: usize,
+        role_exclusions: *const u16, role_exclusions_len: usize,
+        concept_facts: *const u16, concept_facts_len: usize,
+        role_facts: *const u16, role_facts_len: usize,
+        steps: *const u16, steps_len: usize,
+        finals: *const u16, finals_len: usize,
+        pairs: *const u16, pairs_len: usize,
+        allowance: u16,
+        area: *mut u8, area_len: usize,
+        spare: *mut u8, spare_len: usize,
+        numbers: *mut u8, numbers_len: usize,
+        counts: *mut u16, counts_len: usize,
+    ) -> bool;
 }
 
 fn main() {
@@ -49,5 +66,32 @@ fn main() {
         };
         let marks: usize = area.iter().map(|&m| m as usize).sum();
         println!("(0, {second}): number {number}, count {count}, marks {marks}");
+    }
+    // Both pairs in one call, which works the collection out once.
+    let pairs: [u16; 4] = [0, 0, 0, 1];
+    let (mut numbers, mut counts) = ([0u8; 2], [0u16; 2]);
+    // As above; the entries are apart from the areas and from each other too.
+    let fits = unsafe {
+        lampsaffron_ask_all(
+            2, 2, 2, 4, 0,
+            rules.as_ptr(), rules.len(),
+            none.as_ptr(), 0,
+            none.as_ptr(), 0,
+            none.as_ptr(), 0,
+            facts.as_ptr(), facts.len(),
+            none.as_ptr(), 0,
+            steps.as_ptr(), steps.len(),
+            finals.as_ptr(), finals.len(),
+            pairs.as_ptr(), pairs.len(),
+            64,
+            area.as_mut_ptr(), area.len(),
+            spare.as_mut_ptr(), spare.len(),
+            numbers.as_mut_ptr(), numbers.len(),
+            counts.as_mut_ptr(), counts.len(),
+        )
+    };
+    assert!(fits);
+    for (pair, (number, count)) in pairs.chunks(2).zip(numbers.iter().zip(counts)) {
+        println!("({}, {}) in a row: number {number}, count {count}", pair[0], pair[1]);
     }
 }

@@ -1,15 +1,29 @@
-/* The library driver of PROTOCOL.md: reads a call per line, asks lampsaffron_ask, writes number, count and hashes.
+/* The library driver of PROTOCOL.md: reads a call per line, asks lampsaffron_ask or lampsaffron_ask_all, writes what they gave and hashes.
    No stdio and no heap: only read and write, declared by hand, and static buffers. */
 #include "lampsaffron.h"
 
 extern long read(int from, void *bytes, size_t most);
 extern long write(int to, const void *bytes, size_t length);
 
-enum { TABLES = 8, MOST_NUMBERS = 65535, MOST_AREA = 65536, GUARD = 64 };
+enum { TABLES = 8, MOST_NUMBERS = 65535, MOST_AREA = 65536, MOST_ENTRIES = 1024, GUARD = 64 };
 
-static uint16_t tables[TABLES][MOST_NUMBERS + 1];
-static size_t lengths[TABLES];
+/* The tables, and after them the pairs of a row. */
+enum { PAIRS = TABLES };
+static uint16_t tables[TABLES + 1][MOST_NUMBERS + 1];
+static size_t lengths[TABLES + 1];
 static uint8_t areas[2][MOST_AREA + GUARD];
+
+/* The entries of a row, and GUARD bytes behind each. */
+static uint8_t row_numbers[MOST_ENTRIES + GUARD];
+static uint16_t row_counts[MOST_ENTRIES + GUARD / 2];
+
+/* What a request says beside the tables. */
+struct request {
+    bool row;
+    uint16_t counts[5], pair[2], allowance;
+    size_t sizes[2], entries[2];
+    uint8_t fills[2], fill;
+};
 
 static uint8_t input[65536];
 static size_t input_at, input_end;
@@ -73,7 +87,13 @@ static uint64_t hash(const uint8_t *bytes, size_t length) {
     return mixed;
 }
 
-static uint8_t output[80];
+/* Something lent, and the bytes behind it, which are filled with the complement. */
+static void fill_lent(void *bytes, size_t length, uint8_t with) {
+    fill(bytes, length, with);
+    fill((uint8_t *)bytes + length, GUARD, (uint8_t)~with);
+}
+
+static uint8_t output[8 * MOST_ENTRIES];
 static size_t output_end;
 
 static void put(uint64_t value, int digits) {
@@ -90,49 +110,85 @@ static void send_line(void) {
     }
 }
 
-static void answer(const uint16_t counts[5], const uint16_t asked[3], const size_t sizes[2]) {
+/* What lampsaffron_ask and lampsaffron_ask_all have in common: the counts and the tables. */
+#define LENT(asked) \
+    (asked)->counts[0], (asked)->counts[1], (asked)->counts[2], (asked)->counts[3], (asked)->counts[4], \
+    tables[0], lengths[0], tables[1], lengths[1], tables[2], lengths[2], tables[3], lengths[3], \
+    tables[4], lengths[4], tables[5], lengths[5], tables[6], lengths[6], tables[7], lengths[7]
+
+static void answer_pair(const struct request *asked) {
     uint16_t count = 0xFFFF;
     uint8_t given = lampsaffron_ask(
-        counts[0], counts[1], counts[2], counts[3], counts[4],
-        tables[0], lengths[0], tables[1], lengths[1], tables[2], lengths[2], tables[3], lengths[3],
-        tables[4], lengths[4], tables[5], lengths[5], tables[6], lengths[6], tables[7], lengths[7],
-        asked[0], asked[1], asked[2], areas[0], sizes[0], areas[1], sizes[1], &count);
+        LENT(asked), asked->pair[0], asked->pair[1], asked->allowance,
+        areas[0], asked->sizes[0], areas[1], asked->sizes[1], &count);
     put(given, 2);
     put(count, 4);
-    for (int i = 0; i < 2; i++) put(hash(areas[i], sizes[i]), 16);
-    for (int i = 0; i < 2; i++) put(hash(areas[i] + sizes[i], GUARD), 16);
+}
+
+static void answer_row(const struct request *asked) {
+    size_t numbers = asked->entries[0], counts = asked->entries[1];
+    fill_lent(row_numbers, numbers, asked->fill);
+    fill_lent(row_counts, 2 * counts, asked->fill);
+    bool fits = lampsaffron_ask_all(
+        LENT(asked), tables[PAIRS], lengths[PAIRS], asked->allowance,
+        areas[0], asked->sizes[0], areas[1], asked->sizes[1], row_numbers, numbers, row_counts, counts);
+    put(fits, 2);
+    for (size_t i = 0; i < numbers; i++) put(row_numbers[i], 2);
+    put(hash(row_numbers + numbers, GUARD), 16);
+    for (size_t i = 0; i < counts; i++) put(row_counts[i], 4);
+    put(hash((const uint8_t *)(row_counts + counts), GUARD), 16);
+}
+
+static void answer(const struct request *asked) {
+    for (int i = 0; i < 2; i++) fill_lent(areas[i], asked->sizes[i], asked->fills[i]);
+    if (asked->row) answer_row(asked);
+    else answer_pair(asked);
+    for (int i = 0; i < 2; i++) put(hash(areas[i], asked->sizes[i]), 16);
+    for (int i = 0; i < 2; i++) put(hash(areas[i] + asked->sizes[i], GUARD), 16);
+}
+
+static void read_table(int which) {
+    lengths[which] = number(4);
+    for (size_t i = 0; i < lengths[which]; i++) tables[which][i] = (uint16_t)number(4);
+}
+
+static size_t length_within(int digits, size_t most) {
+    size_t length = number(digits);
+    if (length > most) bad = 1;
+    return length;
+}
+
+static struct request read_request(void) {
+    struct request asked = {.row = next_character() == 'R'};
+    if (!asked.row) step_back();
+    for (int i = 0; i < 5; i++) asked.counts[i] = (uint16_t)number(4);
+    for (int i = 0; i < TABLES; i++) read_table(i);
+    if (asked.row) read_table(PAIRS);
+    else
+        for (int i = 0; i < 2; i++) asked.pair[i] = (uint16_t)number(4);
+    asked.allowance = (uint16_t)number(4);
+    for (int i = 0; i < 2; i++) asked.sizes[i] = length_within(8, MOST_AREA);
+    for (int i = 0; i < 2; i++) asked.fills[i] = (uint8_t)number(2);
+    if (asked.row) {
+        for (int i = 0; i < 2; i++) asked.entries[i] = length_within(4, MOST_ENTRIES);
+        asked.fill = (uint8_t)number(2);
+    }
+    end_of_line();
+    return asked;
 }
 
 static void one_request(void) {
-    uint16_t counts[5], asked[3];
-    size_t sizes[2];
-    for (int i = 0; i < 5; i++) counts[i] = (uint16_t)number(4);
-    for (int i = 0; i < TABLES; i++) {
-        lengths[i] = number(4);
-        for (size_t j = 0; j < lengths[i]; j++) tables[i][j] = (uint16_t)number(4);
-    }
-    for (int i = 0; i < 3; i++) asked[i] = (uint16_t)number(4);
-    for (int i = 0; i < 2; i++) {
-        sizes[i] = number(8);
-        if (sizes[i] > MOST_AREA) bad = 1;
-    }
-    for (int i = 0; i < 2; i++) {
-        uint8_t with = (uint8_t)number(2);
-        if (bad) break;
-        fill(areas[i], sizes[i], with);
-        fill(areas[i] + sizes[i], GUARD, (uint8_t)~with);
-    }
-    end_of_line();
+    bad = 0;
+    struct request asked = read_request();
     output_end = 0;
     if (bad) output[output_end++] = '!';
-    else answer(counts, asked, sizes);
+    else answer(&asked);
     send_line();
 }
 
 int main(void) {
     while (next_character() >= 0) {
         step_back();
-        bad = 0;
         one_request();
     }
     return 0;

@@ -9,21 +9,22 @@ use crate::sheet::AREA;
 pub const SHAPES: [(usize, usize); 8] =
     [(2, 512), (2, 512), (2, 128), (2, 128), (2, 1_024), (3, 4_096), (4, 512), (1, 16)];
 
-/// What is lent, but for the areas. Every value is possible in every place.
+/// The most pairs of one row.
+pub const PAIRS: usize = 256;
+
+/// What is lent for any pair. Every value is possible in every place.
 #[derive(Clone, Debug, PartialEq, Eq)]
 pub struct Call {
     /// Names, roles, individuals, states, start.
     pub counts: [u16; 5],
     /// Concept rules, concept exclusions, role rules, role exclusions, concept facts, role facts, steps, finals.
     pub tables: [Vec<u16>; 8],
-    pub first: u16,
-    pub second: u16,
     pub allowance: u16,
 }
 
 impl Call {
-    /// The call that asks one pair of a collection already read.
-    pub fn of(collection: &Collection, first: u16, second: u16, allowance: u16) -> Call {
+    /// What lends a collection already read.
+    pub fn of(collection: &Collection, allowance: u16) -> Call {
         let counts = &collection.counts;
         let sizes = [counts.names, counts.roles, counts.individuals, counts.states, counts.start.0];
         let concepts = |table: &[(Concept, Concept)]| flat(table, |pair| vec![pair.0 .0, pair.1 .0]);
@@ -41,7 +42,7 @@ impl Call {
             }),
             flat(&collection.finals, |state| vec![state.0]),
         ];
-        Call { counts: sizes.map(u16::from), tables, first, second, allowance }
+        Call { counts: sizes.map(u16::from), tables, allowance }
     }
 }
 
@@ -50,22 +51,51 @@ fn flat<T>(table: &[T], record: impl Fn(&T) -> Vec<u8>) -> Vec<u16> {
 }
 
 /// The number and its count; the areas are written after 0, 1 and 3 only.
-pub fn ask(call: &Call, area: &mut [u8], spare: &mut [u8]) -> (u8, u16) {
-    let (collection, first, second) = match checked(call, area.len(), spare.len()) {
-        Ok(sound) => sound,
-        Err(number) => return (number, 0),
-    };
-    let mut prepared = Prepared::of(&collection, call.allowance);
-    let answer = prepared.answer(first, second);
-    if let Some(bytes) = prepared.sheet_bytes() {
-        area.copy_from_slice(&bytes);
-        spare.fill(0);
-    }
-    answer
+pub fn ask(call: &Call, pair: [u16; 2], area: &mut [u8], spare: &mut [u8]) -> (u8, u16) {
+    ask_each(call, &[pair], area, spare)[0]
 }
 
-/// The refusals in the library's order: 4, 5, 6, 7, 8.
-fn checked(call: &Call, area: usize, spare: usize) -> Result<(Collection, Individual, Individual), u8> {
+/// The answers to a row of pairs, first and second after each other. The two lengths are those of the entries lent for
+/// numbers and counts; None, and nothing written, where a pair is broken, there are too many, or a length is not theirs.
+pub fn ask_all(
+    call: &Call,
+    pairs: &[u16],
+    entries: [usize; 2],
+    area: &mut [u8],
+    spare: &mut [u8],
+) -> Option<Vec<(u8, u16)>> {
+    let whole = pairs.chunks_exact(2);
+    let broken = !whole.remainder().is_empty();
+    let row: Vec<[u16; 2]> = whole.map(|pair| [pair[0], pair[1]]).collect();
+    let fits = !broken && row.len() <= PAIRS && entries == [row.len(); 2];
+    fits.then(|| ask_each(call, &row, area, spare))
+}
+
+/// One pair after the other, each with the areas as the one before left them.
+fn ask_each(call: &Call, pairs: &[[u16; 2]], area: &mut [u8], spare: &mut [u8]) -> Vec<(u8, u16)> {
+    let collection = match checked(call, area.len(), spare.len()) {
+        Ok(sound) => sound,
+        Err(number) => return vec![(number, 0); pairs.len()],
+    };
+    let mut prepared = None;
+    let answer = |&[first, second]: &[u16; 2]| {
+        let Some((first, second)) = declared(&collection.counts, first, second) else { return (8, 0) };
+        let prepared = prepared.get_or_insert_with(|| Prepared::of(&collection, call.allowance));
+        if let Some(bytes) = prepared.sheet_bytes() {
+            area.copy_from_slice(&bytes);
+            spare.fill(0);
+        }
+        prepared.answer(first, second)
+    };
+    pairs.iter().map(answer).collect()
+}
+
+fn declared(counts: &Counts, first: u16, second: u16) -> Option<(Individual, Individual)> {
+    Some((counts.individual(first)?, counts.individual(second)?))
+}
+
+/// The refusals before the pair's own 8, in the library's order: 4, 5, 6, 7.
+fn checked(call: &Call, area: usize, spare: usize) -> Result<Collection, u8> {
     let [names, roles, individuals, states, start] = call.counts;
     let counts = Counts::new(names, roles, individuals, states, start).ok_or(4)?;
     let well_shaped = call
@@ -80,9 +110,7 @@ fn checked(call: &Call, area: usize, spare: usize) -> Result<(Collection, Indivi
     if collection.role_facts.iter().any(|(_, first, second)| first == second) {
         return Err(7);
     }
-    let first = counts.individual(call.first).ok_or(8)?;
-    let second = counts.individual(call.second).ok_or(8)?;
-    Ok((collection, first, second))
+    Ok(collection)
 }
 
 /// None is number 6: a number in a record not declared, or a step kind above 1.

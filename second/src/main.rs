@@ -126,7 +126,7 @@ fn answer() -> ExitCode {
     for line in std::io::stdin().lock().lines() {
         let line = line.expect("standard input can be read");
         match protocol::read_request(&line) {
-            Some(lent) => println!("{}", protocol::answer(&lent).2),
+            Some(lent) => println!("{}", protocol::answer(&lent).1),
             None => println!("!"),
         }
     }

@@ -1,4 +1,4 @@
-//! Part (c) of the comparison: modules `library` and `desk` against the built-out model, on small collections.
+//! Part (d) of the comparison: modules `library` and `desk` against the built-out model, on small collections.
 
 use super::dice::Dice;
 use super::generate::{small, Asked};
@@ -89,10 +89,10 @@ fn library_agrees(asked: &Asked, allowance: u16, said: &Said) -> Result<(), (Str
     }
     let before = (vec![0xAA; letter::AREA], vec![0x55; letter::AREA]);
     let after = said.area.clone().map_or(before.clone(), |sheet| (sheet, vec![0; letter::AREA]));
+    let call = Call::of(&asked.collection, allowance);
     for (pair, answer) in asked.asks.iter().zip(&said.answers) {
-        let call = Call::of(&asked.collection, pair.0 .0.into(), pair.1 .0.into(), allowance);
         let (mut area, mut spare) = before.clone();
-        let found = ask(&call, &mut area, &mut spare);
+        let found = ask(&call, [pair.0 .0.into(), pair.1 .0.into()], &mut area, &mut spare);
         if found != *answer || (area, spare) != after {
             return Err((format!("library {found:?} on {pair:?}, or an area"), format!("model {answer:?}")));
         }

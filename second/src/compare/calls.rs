@@ -1,4 +1,4 @@
-//! Library calls for the comparison: sound ones, ones with several faults at once, and wild ones.
+//! Library calls for the comparison, for a pair: sound ones, ones with several faults at once, and wild ones.
 
 use super::dice::Dice;
 use super::generate::{full, many_rounds, medium, small, Asked};
@@ -6,9 +6,33 @@ use crate::library::{Call, SHAPES};
 use crate::numbers::Individual;
 use crate::sheet::AREA;
 
+/// What is asked of a collection: a pair, or a row of pairs.
+pub enum Asks {
+    Pair([u16; 2]),
+    Row(Row),
+}
+
+pub struct Row {
+    /// Two numbers for each pair.
+    pub pairs: Vec<u16>,
+    /// The entries lent for numbers and for counts, and the byte they are filled with beforehand.
+    pub entries: [usize; 2],
+    pub fill: u8,
+}
+
+impl Asks {
+    fn numbers(&mut self) -> &mut [u16] {
+        match self {
+            Asks::Pair(pair) => pair,
+            Asks::Row(row) => &mut row.pairs,
+        }
+    }
+}
+
 pub struct Lent {
     pub kind: &'static str,
     pub call: Call,
+    pub asks: Asks,
     /// The lengths of the two areas and the bytes they are filled with beforehand.
     pub lengths: [usize; 2],
     pub fills: [u8; 2],
@@ -27,11 +51,12 @@ pub fn lent(dice: &mut Dice) -> Lent {
         _ => ("damaged", small(dice)),
     };
     let fills = [dice.below(256) as u8, dice.below(256) as u8];
+    let asks = Asks::Pair(pair_of(dice, &asked));
     let call = call_of(dice, &asked);
-    let mut lent = Lent { kind, call, lengths: [AREA; 2], fills, planted: Vec::new() };
+    let mut lent = Lent { kind, call, asks, lengths: [AREA; 2], fills, planted: Vec::new() };
     match kind {
         "wild" => make_wild(dice, &mut lent),
-        "damaged" => plant(dice, &mut lent),
+        "damaged" => plant(dice, &mut lent, &mut [4, 5, 6, 7, 8]),
         _ => {}
     }
     lent
@@ -44,18 +69,21 @@ pub fn some_many_rounds(dice: &mut Dice) -> Asked {
     many_rounds(dice, down, up, ring)
 }
 
-fn call_of(dice: &mut Dice, asked: &Asked) -> Call {
+pub fn pair_of(dice: &mut Dice, asked: &Asked) -> [u16; 2] {
     // Where there are no individuals, no pair can be asked without fault.
     let nobody = (Individual(0), Individual(0));
     let (first, second) = if asked.asks.is_empty() { nobody } else { dice.pick(&asked.asks) };
-    let allowance = asked.allowance.unwrap_or(dice.pick(&[64, 65_535]));
-    Call::of(&asked.collection, first.0.into(), second.0.into(), allowance)
+    [first.0.into(), second.0.into()]
 }
 
-/// One to three faults of different numbers.
-fn plant(dice: &mut Dice, lent: &mut Lent) {
-    let mut numbers = [4, 5, 6, 7, 8];
-    dice.shuffle(&mut numbers);
+pub fn call_of(dice: &mut Dice, asked: &Asked) -> Call {
+    let allowance = asked.allowance.unwrap_or(dice.pick(&[64, 65_535]));
+    Call::of(&asked.collection, allowance)
+}
+
+/// One to three faults of different numbers out of these.
+pub fn plant(dice: &mut Dice, lent: &mut Lent, numbers: &mut [u8]) {
+    dice.shuffle(numbers);
     let mut chosen = numbers[..dice.pick(&[1, 1, 1, 2, 3])].to_vec();
     // Records first: a fault of shape would make it uncertain where the next record begins.
     chosen.sort_by_key(|number| [7, 6, 8, 4, 5].iter().position(|planted| planted == number));
@@ -65,7 +93,7 @@ fn plant(dice: &mut Dice, lent: &mut Lent) {
             5 => bad_shape(dice, lent),
             6 => undeclared(dice, &mut lent.call),
             7 => equal_ends(dice, &mut lent.call),
-            _ => bad_pair(dice, &mut lent.call),
+            _ => bad_pair(dice, lent),
         }
     }
     lent.planted = chosen;
@@ -149,22 +177,30 @@ fn equal_ends(dice: &mut Dice, call: &mut Call) {
     table.splice(start..start, [role, who, who]);
 }
 
-fn bad_pair(dice: &mut Dice, call: &mut Call) {
-    let stranger = at_least(dice, call.counts[2]);
+fn bad_pair(dice: &mut Dice, lent: &mut Lent) {
+    let individuals = lent.call.counts[2];
+    for pair in lent.asks.numbers().chunks_exact_mut(2) {
+        make_stranger(dice, individuals, pair);
+    }
+}
+
+/// One end of the pair or both are no longer declared.
+pub fn make_stranger(dice: &mut Dice, individuals: u16, pair: &mut [u16]) {
+    let stranger = at_least(dice, individuals);
     match dice.below(3) {
-        0 => call.first = stranger,
-        1 => call.second = stranger,
-        _ => (call.first, call.second) = (stranger, stranger),
+        0 => pair[0] = stranger,
+        1 => pair[1] = stranger,
+        _ => pair.fill(stranger),
     }
 }
 
 /// Any value in any place, a few at a time, so that not every call is refused at once.
-fn make_wild(dice: &mut Dice, lent: &mut Lent) {
+pub fn make_wild(dice: &mut Dice, lent: &mut Lent) {
     let often = dice.pick(&[1, 3, 10, 50]);
     let call = &mut lent.call;
-    let pair = [&mut call.first, &mut call.second, &mut call.allowance];
-    let numbers = call.counts.iter_mut().chain(call.tables.iter_mut().flatten()).chain(pair);
-    for number in numbers {
+    let tables = call.tables.iter_mut().flatten();
+    let asked = lent.asks.numbers().iter_mut().chain([&mut call.allowance]);
+    for number in call.counts.iter_mut().chain(tables).chain(asked) {
         if dice.percent(often) {
             *number = dice.next() as u16 >> dice.pick(&[0, 8, 10, 12]);
         }

@@ -1,4 +1,4 @@
-//! `second compare`: thousands of cases from a seed, three parts, a histogram of what was hit, and the count at the end.
+//! `second compare`: thousands of cases from a seed, four parts, a histogram of what was hit, and the count at the end.
 
 mod built_out;
 mod calls;
@@ -9,6 +9,7 @@ mod generate;
 mod long;
 mod parts;
 pub mod protocol;
+mod rows;
 pub mod sample;
 mod shown;
 mod tally;
@@ -40,6 +41,7 @@ impl Default for Options {
 const DESK: u64 = 1;
 const LIBRARY: u64 = 2;
 const MODEL: u64 = 3;
+const ROWS: u64 = 4;
 const MOST_SHOWN: u64 = 5;
 
 /// How many passed and how many failed.
@@ -51,39 +53,53 @@ pub fn compare(options: &Options) -> (u64, u64) {
         None => println!("  skipped: no --desk command was given"),
         Some(words) => {
             let work = || |dice, tally: &mut Tally| parts::desk_part(&words, dice, tally);
-            judge(&mut total, run(options, DESK, work), &[0, 1, 2, 3, 4, 5, 6, 7, 8, 9, 10, 11]);
+            judge(&mut total, run(options, DESK, work), &[0, 1, 2, 3, 4, 5, 6, 7, 8, 9, 10, 11], &[]);
         }
     }
     println!("b. the library through its C boundary against module library, with both areas");
-    match options.library.as_deref().and_then(Words::of) {
-        None => println!("  skipped: no --library command was given"),
-        Some(words) => {
-            let ended_badly = AtomicU64::new(0);
-            let work = || {
-                let mut driver = None;
-                let start = || Driver::start(&words, &ended_badly);
-                move |dice, tally: &mut Tally| with_driver(start, &mut driver, dice, tally)
-            };
-            judge(&mut total, run(options, LIBRARY, work), &[0, 1, 2, 3, 4, 5, 6, 7, 8]);
-            let ended_badly = ended_badly.into_inner();
-            if ended_badly > 0 {
-                println!("  FAILED: {ended_badly} library drivers ended with another exit status than 0");
-            }
-            total.1 += ended_badly;
-        }
-    }
-    println!("c. modules library and desk against the built-out model, on small collections");
+    through_drivers(options, &mut total, LIBRARY, parts::library_part, &[]);
+    println!("c. rows of pairs, likewise, with the entries of each row");
+    through_drivers(options, &mut total, ROWS, parts::row_part, &rows::MET);
+    println!("d. modules library and desk against the built-out model, on small collections");
     let work = || |dice, tally: &mut Tally| built_out::model_part(dice, tally);
-    judge(&mut total, run(options, MODEL, work), &[0, 1, 2, 3]);
+    judge(&mut total, run(options, MODEL, work), &[0, 1, 2, 3], &[]);
     total
+}
+
+/// One case put to a library driver.
+type DriverCase = fn(&mut Driver, Dice, &mut Tally) -> Outcome;
+
+/// A part in which library drivers answer, each thread with one of its own.
+fn through_drivers(
+    options: &Options,
+    total: &mut (u64, u64),
+    part: u64,
+    case: DriverCase,
+    rows: &[&'static str],
+) {
+    let Some(words) = options.library.as_deref().and_then(Words::of) else {
+        println!("  skipped: no --library command was given");
+        return;
+    };
+    let ended_badly = AtomicU64::new(0);
+    let work = || {
+        let mut driver = None;
+        let start = || Driver::start(&words, &ended_badly);
+        move |dice, tally: &mut Tally| with_driver(start, &mut driver, |ready| case(ready, dice, tally))
+    };
+    judge(total, run(options, part, work), &[0, 1, 2, 3, 4, 5, 6, 7, 8], rows);
+    let ended_badly = ended_badly.into_inner();
+    if ended_badly > 0 {
+        println!("  FAILED: {ended_badly} library drivers ended with another exit status than 0");
+    }
+    total.1 += ended_badly;
 }
 
 /// A driver that failed is started again for the next case.
 fn with_driver<'a>(
     start: impl FnOnce() -> std::io::Result<Driver<'a>>,
     driver: &mut Option<Driver<'a>>,
-    dice: Dice,
-    tally: &mut Tally,
+    case: impl FnOnce(&mut Driver<'a>) -> Outcome,
 ) -> Outcome {
     let mut ready = match driver.take().map_or_else(start, Ok) {
         Ok(ready) => ready,
@@ -92,7 +108,7 @@ fn with_driver<'a>(
             return Err(Difference { input: Vec::new(), expected, found });
         }
     };
-    let outcome = parts::library_part(&mut ready, dice, tally);
+    let outcome = case(&mut ready);
     if outcome.is_ok() {
         *driver = Some(ready);
     }
@@ -154,11 +170,11 @@ fn show(difference: &Difference, seed: u64, part: u64, case: u64) {
     println!("  second program:\n{}\n  other:\n{}", head(&difference.expected), head(&difference.found));
 }
 
-fn judge(total: &mut (u64, u64), tally: Tally, numbers: &[u8]) {
+fn judge(total: &mut (u64, u64), tally: Tally, numbers: &[u8], rows: &[&'static str]) {
     tally.print();
-    let seldom = tally.too_seldom(numbers);
-    for number in &seldom {
-        println!("  FAILED: number {number} was hit in fewer than {LEAST_HITS} cases");
+    let seldom = tally.too_seldom(numbers, rows);
+    for what in &seldom {
+        println!("  FAILED: {what} was hit in fewer than {LEAST_HITS} cases");
     }
     // The model is for small collections; were many left out, the part would say little.
     let left_out = u64::from(tally.skipped * 10 > tally.cases);

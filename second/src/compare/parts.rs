@@ -1,12 +1,13 @@
-//! The three parts of the comparison, each a case after the other.
+//! The parts of the comparison that run another program, each a case after the other.
 
-use super::calls::{lent, some_many_rounds, Lent};
+use super::calls::{lent, some_many_rounds, Asks, Lent};
 use super::child::{run_desk, Driver, Words};
 use super::damage::{damaged, Damaged};
 use super::dice::Dice;
 use super::generate::{full, medium, small, Asked};
 use super::long::long;
 use super::protocol;
+use super::rows::{met, row_lent};
 use super::tally::Tally;
 use super::text;
 use crate::desk::desk;
@@ -89,7 +90,8 @@ fn tally_desk(output: &[u8], tally: &mut Tally) {
 pub fn library_part(driver: &mut Driver, mut dice: Dice, tally: &mut Tally) -> Outcome {
     let lent = lent(&mut dice);
     tally.kind(lent.kind);
-    let (number, count, expected) = protocol::answer(&lent);
+    let (answers, expected) = protocol::answer(&lent);
+    let (number, count) = answers.expect("a pair is always answered")[0];
     tally.number(number);
     if number < 2 {
         tally.rounds(count);
@@ -105,18 +107,49 @@ pub fn library_part(driver: &mut Driver, mut dice: Dice, tally: &mut Tally) -> O
     if number == 2 && number_without_exclusions(&lent) == 3 {
         tally.order(2, 3);
     }
-    match driver.ask(&request) {
-        Ok(reply) if reply == expected => Ok(()),
-        Ok(reply) => Err(differs(expected, reply)),
-        Err(error) => Err(differs(expected, error.to_string())),
+    replies(driver, request, expected)
+}
+
+/// Part (c): a row of pairs, likewise: each entry, what lies behind the entries, both areas and what lies behind them.
+pub fn row_part(driver: &mut Driver, mut dice: Dice, tally: &mut Tally) -> Outcome {
+    let lent = row_lent(&mut dice);
+    tally.kind(lent.kind);
+    let (answers, expected) = protocol::answer(&lent);
+    if let Asks::Row(row) = &lent.asks {
+        met(row, answers.as_deref()).into_iter().for_each(|what| tally.row(what));
+    }
+    let answers = answers.unwrap_or_default();
+    let numbers: BTreeSet<u8> = answers.iter().map(|answer| answer.0).collect();
+    numbers.iter().for_each(|number| tally.number(*number));
+    // All answers 0 and 1 of one row have the same count.
+    if let Some((_, count)) = answers.iter().find(|answer| answer.0 < 2) {
+        tally.rounds(*count);
+    }
+    let request = protocol::request(&lent);
+    match lent.planted.iter().min() {
+        Some(first) if numbers.iter().any(|number| number != first) => {
+            let found = format!("module library itself: {numbers:?}");
+            Err(Difference { input: request.into_bytes(), expected: format!("number {first}"), found })
+        }
+        _ => replies(driver, request, expected),
     }
 }
 
-/// What the call would give were there no exclusion to break.
+fn replies(driver: &mut Driver, request: String, expected: String) -> Outcome {
+    let found = match driver.ask(&request) {
+        Ok(reply) if reply == expected => return Ok(()),
+        Ok(reply) => reply,
+        Err(error) => error.to_string(),
+    };
+    Err(Difference { input: request.into_bytes(), expected, found })
+}
+
+/// What a pair would be answered were there no exclusion to break.
 fn number_without_exclusions(lent: &Lent) -> u8 {
+    let Asks::Pair(pair) = lent.asks else { unreachable!("a row is not asked for it") };
     let mut call = lent.call.clone();
     call.tables[1].clear();
     call.tables[3].clear();
     let [mut area, mut spare] = lent.lengths.map(|length| vec![0; length]);
-    ask(&call, &mut area, &mut spare).0
+    ask(&call, pair, &mut area, &mut spare).0
 }

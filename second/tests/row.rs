@@ -1,0 +1,58 @@
+//! A row of pairs is what asking each does, one after the other with the same two areas.
+
+use second::compare::sample::sample;
+use second::desk::read::read;
+use second::library::{ask, ask_all, Call, PAIRS};
+use second::sheet::AREA;
+use std::collections::BTreeSet;
+
+/// Sound collections, each with an undeclared pair before its asks, after them and in the middle.
+fn rows() -> impl Iterator<Item = (Call, Vec<[u16; 2]>)> {
+    let files = (0..120).flat_map(|seed| ["small", "medium"].map(|kind| sample(kind, seed).expect("a kind")));
+    files.map(|input| {
+        let file = read(&input).expect("a sound file");
+        let mut row: Vec<[u16; 2]> = file.asks.iter().map(|(a, b)| [a.0.into(), b.0.into()]).collect();
+        let individuals = u16::from(file.collection.counts.individuals);
+        row.insert(row.len() / 2, [individuals, 0]);
+        row.insert(0, [0, u16::MAX]);
+        row.push([u16::MAX, individuals]);
+        (Call::of(&file.collection, file.allowance()), row)
+    })
+}
+
+fn areas() -> [Vec<u8>; 2] {
+    [vec![0x5A; AREA], vec![0xA5; AREA]]
+}
+
+#[test]
+fn a_row_is_its_pairs_in_turn() {
+    let mut met = BTreeSet::new();
+    for (call, row) in rows() {
+        let ([mut area, mut spare], [mut other, mut other_spare]) = (areas(), areas());
+        let in_turn: Vec<_> = row.iter().map(|pair| ask(&call, *pair, &mut area, &mut spare)).collect();
+        let entries = [row.len(); 2];
+        let at_once = ask_all(&call, &row.concat(), entries, &mut other, &mut other_spare);
+        assert_eq!(at_once, Some(in_turn.clone()));
+        assert!(area == other && spare == other_spare);
+        met.extend(in_turn.iter().map(|answer| answer.0));
+    }
+    assert_eq!(met, BTreeSet::from([0, 1, 2, 3, 8]));
+}
+
+#[test]
+fn lengths_that_do_not_fit() {
+    let (call, _) = rows().next().expect("a row");
+    let [mut area, mut spare] = areas();
+    let mut fits = |pairs: usize, entries| {
+        let answers = ask_all(&call, &vec![u16::MAX; pairs], entries, &mut area, &mut spare);
+        answers.map(|answers| answers == vec![(8, 0); pairs / 2])
+    };
+    for length in [0, 1, 2, PAIRS] {
+        assert_eq!(fits(2 * length, [length; 2]), Some(true));
+        assert_eq!(fits(2 * length + 1, [length; 2]), None);
+        assert_eq!(fits(2 * length, [length + 1, length]), None);
+        assert_eq!(fits(2 * length, [length, length + 1]), None);
+    }
+    assert_eq!(fits(2 * PAIRS + 2, [PAIRS + 1; 2]), None);
+    assert_eq!([area, spare], areas());
+}
