@@ -53,7 +53,8 @@ impl Closing {
 
     /// One round. How many marks it added.
     pub fn advance(&mut self, rows: &Rows) -> u32
-        ensures round { (n : ℕ) → IsRound rows.now n self.old → IsRound rows.now (n + 1) self.new }
+        ensures round { (n : ℕ) → IsRound rows.now n self.old
+            → IsRound rows.now (n + 1) self.new }
         ensures added { (n : ℕ) → IsRound rows.now n self.old → Makes rows.now n result }
     {
         let added = self.next.many;

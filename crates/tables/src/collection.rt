@@ -131,9 +131,12 @@ impl<'a> Collection<'a> {
 
         // Each refusal exactly where its test is the first to fail.
         ensures bad_count { (result ≡ Err Refusal.BadCount) ↔ (¬ CountsFit self.now.counts) }
-        ensures bad_table { (result ≡ Err Refusal.BadTable) ↔ StopsAtTables self.now area spare }
-        ensures bad_number { (result ≡ Err Refusal.BadNumber) ↔ StopsAtNumbers self.now area spare }
-        ensures equal_ends { (result ≡ Err Refusal.EqualEnds) ↔ StopsAtEnds self.now area spare }
+        ensures bad_table { let c = self.now in
+            (result ≡ Err Refusal.BadTable) ↔ StopsAtTables c area spare }
+        ensures bad_number { let c = self.now in
+            (result ≡ Err Refusal.BadNumber) ↔ StopsAtNumbers c area spare }
+        ensures equal_ends { let c = self.now in
+            (result ≡ Err Refusal.EqualEnds) ↔ StopsAtEnds c area spare }
     {
         if !self.counts.fit() {
             return Err(Refusal::BadCount);

@@ -28,7 +28,7 @@ const TRIED: usize = 4;
 const SHORT: usize = 4;
 
 /// The asks that each ask is answered with.
-pub fn after_each(part: &Part) -> After {
+pub(crate) fn after_each(part: &Part) -> After {
     let mut after = [0; PART];
     let mut nearest = [0; Individual::NUMBERS];
     for k in (0..part.len()).rev() {
@@ -141,7 +141,7 @@ fn picked(reach: &Reach, turn: State) -> Option<Individual> {
 }
 
 impl Hints {
-    pub fn new(strides: &Strides, start: State, asks: usize) -> Hints {
+    pub(crate) fn new(strides: &Strides, start: State, asks: usize) -> Hints {
         let turn = if asks > FEW {
             turning(&paths(strides), start)
         } else {
@@ -155,7 +155,7 @@ impl Hints {
     }
 
     /// The individual that a walk makes a pivot of, in the state `turn`; `used` pivots are made.
-    pub fn pivot(&mut self, reach: &Reach, used: usize) -> Option<Individual> {
+    pub(crate) fn pivot(&mut self, reach: &Reach, used: usize) -> Option<Individual> {
         self.left = self.left.saturating_sub(1);
         if self.left < FEW {
             return None;
