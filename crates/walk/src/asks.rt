@@ -34,7 +34,7 @@ fn tell(answers: &mut Answers, part: &Part, told: &Told, j: usize)
     let Some(ask) = part.get(j) else {
         return;
     };
-    if ask.first().0 != told.reach.first.0 {
+    if ask.first() != told.reach.first {
         return;
     }
     answers[j] = Some(told.question.is_hit(&told.reach.sets, ask));
@@ -92,7 +92,7 @@ fn learn(known: &mut Known, hints: &mut Hints, reach: &Reach, start: State)
     ensures { known.new ≡ known.old }
 {
     if let Some(x) = hints.pivot(reach, known.used()) {
-        if x.0 == reach.first.0 && hints.turn.0 == start.0 {
+        if x == reach.first && hints.turn == start {
             known.add(reach.first, start, &reach.sets);
         } else {
             let ahead = known.walk(x, hints.turn).sets;
