@@ -1,5 +1,5 @@
 -- What the answer means to a caller: of a collection whose numbers are declared, the marks clash exactly when its canonical model has a contradiction.
-use Rattle.std.specs.Prelude.{ℕ, ◌+◌, ◌*◌, ◌/◌, ◌<◌, ◌≤◌, ◌≡◌, refl, ◌↔◌, IsTrue, List, length}
+use Rattle.std.specs.Prelude.{ℕ, ◌+◌, ◌*◌, ◌<◌, ◌≡◌, refl, ◌↔◌, IsTrue, List}
 use Rattle.std.proofs.Common.{arith}
 use Rattle.kinds.specs.declared.Individual.{Individual}
 use Rattle.kinds.specs.declared.SignedRole.{SignedRole}
@@ -9,33 +9,23 @@ use Rattle.kinds.specs.declared.Counts.{Counts}
 use Rattle.kinds.specs.Kinds.{most_individuals, base, flip, flip-below, most_roles, inverse, inverse-inverse, signed, individual, number_of, concept_of, number-concept, concept-number, role-concept, CountsFit, SignedDeclared, ConceptDeclared}
 use Rattle.laws.specs.Member.{◌∈◌}
 use Rattle.meaning.specs.Collection.{NumbersDeclared}
-use Rattle.meaning.specs.Lent.{Tables, collection, records, rule_width, role_fact_width, most_role_facts}
+use Rattle.meaning.specs.Lent.{Tables, collection, records, rule_width}
 use Rattle.meaning.specs.Orders.{RoleFollows, RoleLe, ConceptLe, turned}
 use Rattle.meaning.specs.Model.{IndividualHas, FactEdge, Contradiction}
-use Rattle.meaning.proofs.Clash.{Alive, Clash, individual-clash, unnamed-clash, fact-clash, down-clash, up-clash, typed-declared}
+use Rattle.meaning.specs.Clash.{Alive, Clash, individual-clash, unnamed-clash, fact-clash, down-clash, up-clash}
+use Rattle.meaning.proofs.Clash.{typed-declared}
 use Rattle.meaning.proofs.ClashShown.{contradiction↔clash}
 use Rattle.sets.specs.Bits.{concept_width, role_width}
-use Rattle.orders.specs.Rows.{IsRoleOrder, IsConceptOrder}
 use Rattle.orders.proofs.Table.{pair_of, rules_of, rules-all, rule-in, rule-out}
 use Rattle.orders.proofs.Mean.{role-below, concept-below, all-role-rules, all-concept-rules}
-use Rattle.elements.specs.Concepts.{Concepts}
-use Rattle.elements.specs.Living.{Living}
 use Rattle.elements.proofs.Mean.{shown-declared, concepts-mean}
 use Rattle.elements.proofs.LivingMean.{living-mean, lives-below}
 use Rattle.hops.specs.Chains.{role_of}
+use Rattle.hops.specs.Meant.{AreFew}
 use Rattle.hops.proofs.Edges.{a-hop, hop-declared, hop-edge, edge-hop}
 use Rattle.clash.specs.declared.Exclusions.{Exclusions}
 use Rattle.clash.specs.Clashes.{Marks, Breaks, Marked, FactRole, Clashes, named, unnamed, joined, down, up}
-
--- the exclusions are those of the tables, and the marks are what the contracts of the two orders and of the elements say of them
-pub record IsOf (t : Tables) (x : Exclusions) (m : Marks) : Type 0 where
-  pub concept_exclusions : x.concepts.numbers.now ≡ t.concept-exclusions
-  pub role_exclusions : x.roles.numbers.now ≡ t.role-exclusions
-  pub facts : m.facts ≡ t.role-facts
-  pub roles : IsRoleOrder t.role-rules m.roles
-  pub concepts : IsConceptOrder t.concept-rules t.role-rules m.concepts
-  pub individuals : Concepts t.concept-facts t.role-facts m.concepts m.individuals
-  pub living : Living m.individuals m.concepts m.living
+use Rattle.clash.specs.Meant.{IsOf}
 
 -- P holds of both sides of an exclusion
 record Both {A : Type 0} (l : List (A × A)) (P : A → Type 0) : Type 0 where
@@ -87,7 +77,7 @@ inverse-concept R = role-concept (flip R)
 turned-back : {rules : List (SignedRole × SignedRole)} (R S : SignedRole) → RoleFollows rules (inverse R) S → RoleFollows rules R (inverse S)
 turned-back R S l = rw (inverse-inverse R) at (turned l)
 
-module _ (c : Counts) (t : Tables) (fit : CountsFit c) (ok : NumbersDeclared (collection c t)) (few : length t.role-facts / role_fact_width ≤ most_role_facts) (x : Exclusions) (m : Marks) (o : IsOf t x m) where
+module _ (c : Counts) (t : Tables) (fit : CountsFit c) (ok : NumbersDeclared (collection c t)) (few : AreFew t.role-facts) (x : Exclusions) (m : Marks) (o : IsOf t x m) where
   -- the row of a role, and that of the concept of an unnamed element, whether the role is declared or not
   role-le : (Q : ℕ) (S : SignedRole) → Q < role_width → SignedDeclared c S → IsTrue (m.roles Q S.0) ↔ RoleLe (collection c t) (signed Q) S
   role-le Q S hQ hS = rw (all-role-rules c t fit ok) at (o.roles.at Q S.0 hQ (role-below c t fit ok S hS))

@@ -1,6 +1,6 @@
 -- The contract of `clash` leaves one answer.
 use Rattle.std.specs.Prelude.{◌≡◌, ◌↔◌, IsTrue, Bool}
-use Rattle.orders.proofs.Once.{test-once}
+use Rattle.laws.specs.Truth.{test-once}
 use Rattle.clash.specs.declared.Exclusions.{Exclusions}
 use Rattle.clash.specs.Clashes.{Marks, Clashes}
 

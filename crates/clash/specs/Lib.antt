@@ -1,5 +1,6 @@
 -- What the public contract names.
 pub mod Clashes
 pub mod Marks
+pub mod Meant
 -- What the private ones name.
 pub mod Parts

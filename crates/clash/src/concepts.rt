@@ -38,8 +38,8 @@ fn left_sides(from: &[ConceptSet; Concept::NUMBERS]) -> ConceptSet
     ensures { Covers (concept_marks from.now) concept_width result.0 }
 {
     let mut lefts = ConceptSet::EMPTY;
-    for i in 0..Concept::NUMBERS {
-        list(&mut lefts, i, from[i]);
+    for (i, row) in from.iter().enumerate() {
+        list(&mut lefts, i, *row);
     }
     lefts
 }
@@ -94,8 +94,8 @@ impl<'a> Apart<'a> {
         ensures { IsTrue result ↔ Below most_individuals
             (AtIndividual self.now.of.numbers.now (concept_marks individuals.now)) }
     {
-        for a in 0..Individual::NUMBERS {
-            if self.break_in(individuals[a]) {
+        for row in individuals.iter() {
+            if self.break_in(*row) {
                 return true;
             }
         }

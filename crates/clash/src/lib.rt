@@ -7,6 +7,7 @@ ghost use Rattle.clash.specs.Marks.{marks};
 
 mod concepts;
 mod roles;
+pub mod theorems;
 
 use concepts::Apart;
 use elements::Elements;

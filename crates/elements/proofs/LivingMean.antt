@@ -9,8 +9,9 @@ use Rattle.kinds.specs.Kinds.{most_roles, base, number_of, signed, individual, f
 use Rattle.meaning.specs.Collection.{NumbersDeclared}
 use Rattle.meaning.specs.Lent.{Tables, collection}
 use Rattle.meaning.specs.Orders.{ConceptLe}
-use Rattle.meaning.proofs.Clash as clash
-use Rattle.meaning.proofs.Clash.{Alive, typed-declared, typed-valid}
+use Rattle.meaning.specs.Clash as clash
+use Rattle.meaning.specs.Clash.{Alive}
+use Rattle.meaning.proofs.Clash.{typed-declared, typed-valid}
 use Rattle.meaning.proofs.Declared.{concept-declared}
 use Rattle.meaning.proofs.ModelLaws.{born}
 use Rattle.meaning.specs.Tree.{root, ◌▹◌}

@@ -8,6 +8,7 @@ ghost use Rattle.elements.specs.Living.{Living};
 
 mod individuals;
 mod living;
+pub mod theorems;
 
 use kinds::Individual;
 use orders::ConceptOrder;

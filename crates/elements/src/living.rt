@@ -16,8 +16,8 @@ fn gathered(rows: &[ConceptSet; Individual::NUMBERS]) -> ConceptSet
     ensures { Gathers most_individuals (concept_marks rows.now) result.0 }
 {
     let mut all = ConceptSet::EMPTY;
-    for a in 0..Individual::NUMBERS {
-        all = all.union(rows[a]);
+    for row in rows.iter() {
+        all = all.union(*row);
     }
     all
 }

@@ -6,7 +6,7 @@ use Rattle.meaning.specs.Layout.{area_length, zeros}
 use Rattle.tables.specs.declared.collection.Collection.{Collection}
 use Rattle.tables.specs.Lists.{lists}
 use Rattle.reading.specs.declared.File.{File}
-use Rattle.reading.specs.File.{lent_tables, allowance_in, ask_at}
+use Rattle.reading.specs.File.{lent_tables, allowance_in, held_ask}
 use Rattle.index.specs.Preparation.{Preparation, preparation}
 use Rattle.index.specs.Asked as index
 use Rattle.index.specs.Row as row
@@ -26,7 +26,7 @@ pub is_own : (file : File) (c : Collection) (allowed area spare : ℕ) → c.cou
     → area ≡ area_length → spare ≡ area_length → preparation (record { collection = c; allowance = allowed }) area spare ≡ own file
 is_own file c allowed area spare a b d e f = rw (a, b, d, e, f) refl
 
-answer_in : (file : File) (k : ℕ) (o : Option Answer) → IfSome o (index.IsAnswer (own file) (ask_at file k)) → IfSome o (IsAnswer file k)
+answer_in : (file : File) (k : ℕ) (o : Option Answer) → IfSome o (index.IsAnswer (own file) (held_ask file k)) → IfSome o (IsAnswer file k)
 answer_in file k None h = tt
 answer_in file k (Some r) h = h zeros zeros (length-replicate {A = ℕ} area_length 0) (length-replicate {A = ℕ} area_length 0)
 

@@ -4,8 +4,8 @@ use Rattle.std.proofs.Common.{ap, ◌∙◌, sym, subst, arith}
 use Rattle.frames.specs.declared.Frame.{Frame}
 use Rattle.tables.specs.Asks.{ask_width}
 use Rattle.reading.specs.declared.File.{File}
-use Rattle.reading.specs.Tables.{asks, most_asks, entries, table}
-use Rattle.reading.specs.File.{file_of, ask_at}
+use Rattle.reading.specs.Tables.{asks, most, entries, table}
+use Rattle.reading.specs.File.{file_of, held_ask}
 use Rattle.reading.specs.Reads.{IsRead}
 use Rattle.reading.proofs.TableLaws.{table-length}
 use Rattle.reading.proofs.Bounds.{few}
@@ -20,11 +20,11 @@ module _ (file : File) (read : IsRead file) where
   count_is : ask_count file ≡ entries asks read.frames
   count_is = ap ask_count read.kept ∙ ask_entries read.frames
 
-  pub few_asks : ask_count file ≤ most_asks
+  pub few_asks : ask_count file ≤ most asks
   few_asks = omega (arith, count_is, few asks read.frames read.taken)
 
-  pub in_bytes : (k : ℕ) → k < ask_count file → IsInBytes (ask_at file k)
+  pub in_bytes : (k : ℕ) → k < ask_count file → IsInBytes (held_ask file k)
   in_bytes k h =
       let s = accepted read.frames read.taken k (omega (arith, count_is)) in
-      let here : IsInBytes (ask_at (file_of read.frames) k) = (omega (arith, s.counts.individuals, s.ask.0), omega (arith, s.counts.individuals, s.ask.1)) in
-      subst (λ (f : File). IsInBytes (ask_at f k)) (sym read.kept) here
+      let here : IsInBytes (held_ask (file_of read.frames) k) = (omega (arith, s.counts.individuals, s.ask.0), omega (arith, s.counts.individuals, s.ask.1)) in
+      subst (λ (f : File). IsInBytes (held_ask f k)) (sym read.kept) here

@@ -7,8 +7,8 @@ use Rattle.tables.specs.declared.table.Records.{Records}
 use Rattle.tables.specs.Asks.{ask_width, read_ask}
 use Rattle.tables.specs.Every.{GivesNext}
 use Rattle.reading.specs.declared.File.{File}
-use Rattle.reading.specs.Tables.{most_asks}
-use Rattle.reading.specs.File.{ask_at}
+use Rattle.reading.specs.Tables.{asks, most}
+use Rattle.reading.specs.File.{held_ask, held_call}
 use Rattle.reading.specs.Reads.{IsRead}
 use Rattle.file.specs.Text.{IsInBytes, answer_line}
 use Rattle.file.specs.Writes.{Answers}
@@ -23,7 +23,7 @@ pub record IsLeft (file : File) (s : Records Ask) (left : List Answer) : Type 0 
   pub answers : (j : ℕ) → s.next + j < ask_count file → IfSome (slice_get left j) (IsAnswer file (s.next + j))
 
 pub all_left : (file : File) (s : Records Ask) (left answers : List Answer) → IsRead file → s.table.numbers.now ≡ file.asks → s.next ≡ 0
-    → left ≡ answers → most_asks ≤ length answers → AnswersEach file answers → IsLeft file s left
+    → left ≡ answers → most asks ≤ length answers → AnswersEach file answers → IsLeft file s left
 all_left file s left answers read n first e long h = record {
   numbers = n;
   within = omega arith;
@@ -38,18 +38,18 @@ module _ (file : File) (s t : Records Ask) (ask : Ask) (r : Answer) (left rest :
   inside : s.next < ask_count file
   inside = rw w.numbers at g.inside
 
-  ask_is : ask ≡ ask_at file s.next
+  ask_is : ask ≡ held_ask file s.next
   ask_is = rw w.numbers at g.is
 
   pub ask_in_bytes : IsRead file → IsInBytes ask
   ask_in_bytes read = rw ask_is (in_bytes file read s.next inside)
 
-  pub answered_next : (line : List ℕ) → line ≡ answer_line ask r → Answers file s.next line
+  pub answered_next : (line : List ℕ) → line ≡ answer_line ask r → Answers (held_call file s.next) line
   answered_next line d =
       let h : IfSome (slice_get (r ∷ rest) 0) (IsAnswer file (s.next + 0)) = rw e at (w.answers 0 (omega (arith, inside))) in
       let z : s.next + 0 ≡ s.next = omega arith in
       let a = subst (λ (k : ℕ). IsAnswer file k r) z h in
-      record { answer = r; area = a.0; spare = a.1; outcome = a.2; written = rw ask_is at d }
+      record { answer = r; outcome = a; written = rw ask_is at d }
 
   pub left_next : IsLeft file t rest
   left_next = record {

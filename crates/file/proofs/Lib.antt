@@ -1,7 +1,8 @@
--- Theorems: an input writes one text, what the desk writes is listed, no text is longer than its room, the desk makes no error of its own.
+-- Theorems: an input writes one text, what stands on its lines, and what is demanded of them.
 pub mod WritesLaws
 pub mod Listed
-pub mod NeverFails
+pub mod Told
+pub mod Demanded
 -- Laws that the functions' proofs cite.
 pub mod Spelling
 pub mod Asks

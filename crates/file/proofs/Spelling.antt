@@ -3,8 +3,6 @@ use Rattle.std.proofs.Common.{ℕ, ◌≡◌, ◌+◌, ◌*◌, ◌/◌, ◌%◌
 use Rattle.std.proofs.Math.ListN.{set, length-set}
 use Rattle.std.proofs.lemmas.List.{take_all, take_more, take_more_set, flat_map_more}
 use Rattle.std.specs.List.{flat_map}
-use Rattle.streams.specs.Lines.{newline}
-use Rattle.frames.specs.Digits.{base}
 use Rattle.file.specs.Text.{character, characters, text}
 
 take_two : (s : List ℕ) (i x y : ℕ) → i + 1 < length s → take (i + 1 + 1) (set (set s i x) (i + 1) y) ≡ take i s ++ (x ∷ y ∷ [])
@@ -13,7 +11,7 @@ take_two s i x y h =
     ∙ ap (λ (l : List ℕ). l ++ y ∷ []) (take_more_set s i x (omega arith))
     ∙ append_assoc (take i s) (x ∷ []) (y ∷ [])
 
-pub spelled_more : (s bs : List ℕ) (i x y : ℕ) → i < length bs → 2 * i + 1 < length s → x ≡ character (get_or bs i 0 / base) → y ≡ character (get_or bs i 0 % base)
+pub spelled_more : (s bs : List ℕ) (i x y : ℕ) → i < length bs → 2 * i + 1 < length s → x ≡ character (get_or bs i 0 / 16) → y ≡ character (get_or bs i 0 % 16)
     → take (2 * i) s ≡ flat_map characters (take i bs) → take (2 * (i + 1)) (set (set s (2 * i) x) (2 * i + 1) y) ≡ flat_map characters (take (i + 1) bs)
 spelled_more s bs i x y inside fits ex ey so =
     let two : 2 * (i + 1) ≡ 2 * i + 1 + 1 = omega arith in
@@ -26,10 +24,10 @@ spelled_more s bs i x y inside fits ex ey so =
     ∙ ap (flat_map characters) (sym (take_more bs i 0 inside))
 
 pub spelled_all : (s bs : List ℕ) (i j : ℕ) → j ≡ 2 * i → i ≡ length bs → length s ≡ j + 1 → take (2 * i) s ≡ flat_map characters (take i bs)
-    → set s j newline ≡ text bs
+    → set s j 0x0A ≡ text bs
 unfolding text
 spelled_all s bs i j ej all long so =
     let whole : take i bs ≡ bs = take_all i bs (omega arith) in
-    let full : take (j + 1) (set s j newline) ≡ set s j newline = take_all (j + 1) (set s j newline) (omega (arith, length-set s j newline)) in
-    sym full ∙ take_more_set s j newline (omega arith) ∙ ap (λ k. take k s ++ newline ∷ []) ej
-    ∙ ap (λ (l : List ℕ). l ++ newline ∷ []) (so ∙ ap (flat_map characters) whole)
+    let full : take (j + 1) (set s j 0x0A) ≡ set s j 0x0A = take_all (j + 1) (set s j 0x0A) (omega (arith, length-set s j 0x0A)) in
+    sym full ∙ take_more_set s j 0x0A (omega arith) ∙ ap (λ k. take k s ++ 0x0A ∷ []) ej
+    ∙ ap (λ (l : List ℕ). l ++ 0x0A ∷ []) (so ∙ ap (flat_map characters) whole)

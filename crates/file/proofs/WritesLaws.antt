@@ -2,14 +2,16 @@
 use Rattle.std.specs.Prelude.{ℕ, zero, suc, ◌+◌, ◌≤◌, ◌≡◌, refl, List, [], ◌++◌, Some, length, take, drop}
 use Rattle.std.proofs.Math.Path.{ap₂}
 use Rattle.std.proofs.Common.{sym, ap, ◌∙◌, subst, take-append-drop, length-take, arith}
+use Rattle.std.specs.Io.KnownBytes.{Appends}
+use Rattle.meaning.specs.Lent.{Call}
+use Rattle.tables.specs.declared.ask.Ask.TheVariants.{Pair}
 use Rattle.meaning.proofs.OutcomeLaws.{outcome-unique}
 use Rattle.frames.specs.declared.Frame.{Frame}
 use Rattle.streams.specs.Lines.{lines}
 use Rattle.reading.specs.declared.Refusal.{Refusal}
 use Rattle.reading.specs.Refusal.{refusal_number}
 use Rattle.reading.specs.Tables.{asks, entries}
-use Rattle.reading.specs.declared.File.{File}
-use Rattle.reading.specs.File.{file_of, ask_at, asked}
+use Rattle.reading.specs.File.{asked}
 use Rattle.reading.specs.Reading.{Verdict, faulty, sound, Reading}
 use Rattle.reading.specs.Reading as read
 use Rattle.reading.proofs.Once.{reading-once}
@@ -22,26 +24,25 @@ use Rattle.file.specs.Writes.{Answers, Answered, Writes, fault, answers}
 use Rattle.file.specs.Serves.{Serves}
 use Rattle.file.proofs.Turns.{answered-length}
 
-module _ (file : File) where
-  answers-once : (k : ℕ) (x y : List ℕ) → Answers file k x → Answers file k y → x ≡ y
-  answers-once k x y a b =
-      let e = (outcome-unique (asked file k) a.outcome b.outcome).0 in
-      a.written ∙ ap (answer_line (ask_at file k)) e ∙ sym b.written
+answers-once : (call : Call) (x y : List ℕ) → Answers call x → Answers call y → x ≡ y
+answers-once call x y a b =
+    let e = (outcome-unique call a.outcome.2 b.outcome.2).0 in
+    a.written ∙ ap (answer_line (Pair call.first call.second)) e ∙ sym b.written
 
-  answered-once : (k : ℕ) (x y : List ℕ) → Answered file k x → Answered file k y → x ≡ y
-  unfolding Answered
-  answered-once zero x y a b = a ∙ sym b
-  answered-once (suc k) x y (p, q, a, b, e) (u, v, c, d, i) =
-      e ∙ ap₂ (λ (l m : List ℕ). l ++ m) (answered-once k p u a c) (answers-once k q v b d) ∙ sym i
+answered-once : (call : ℕ → Call) (k : ℕ) (x y : List ℕ) → Answered call k x → Answered call k y → x ≡ y
+unfolding Answered
+answered-once call zero x y a b = a ∙ sym b
+answered-once call (suc k) x y (p, q, a, b, e) (u, v, c, d, i) =
+    e ∙ ap₂ (λ (l m : List ℕ). l ++ m) (answered-once call k p u a c) (answers-once (call k) q v b d) ∙ sym i
 
 -- what the text of a verdict is
 abbrev TextIs : Verdict → List ℕ → Type 0
 TextIs (faulty before r) x = x ≡ fault_line (length before + 1) (refusal_number r)
-TextIs (sound fs) x = Answered (file_of fs) (entries asks fs) x
+TextIs (sound fs) x = Answered (asked fs) (entries asks fs) x
 
 text-once : (v : Verdict) (x y : List ℕ) → TextIs v x → TextIs v y → x ≡ y
 text-once (faulty before r) x y a b = a ∙ sym b
-text-once (sound fs) x y a b = answered-once (file_of fs) (entries asks fs) x y a b
+text-once (sound fs) x y a b = answered-once (asked fs) (entries asks fs) x y a b
 
 record Found (input : List ℕ) (x : List ℕ) : Type 0 where
   verdict : Verdict
@@ -70,8 +71,8 @@ wrote-once old {x = x} {y = y} {n = n} {m = m} h k a b r s =
     (d, sym (take-append-drop n x) ∙ ap₂ (λ (l i : List ℕ). l ++ i) e t ∙ take-append-drop m y)
 
 -- THEOREM: a sink whose bytes are known holds one thing afterwards
-pub serves-once : {input old x y : List ℕ} → Serves input (Some old) (Some x) → Serves input (Some old) (Some y) → x ≡ y
-serves-once {old = old} a b = a.put ∙ ap (λ (text : List ℕ). old ++ text) (writes-once a.writes b.writes) ∙ sym b.put
+pub serves-once : (input old x y : List ℕ) → Serves input (Appends (Some old) (Some x)) → Serves input (Appends (Some old) (Some y)) → x ≡ y
+serves-once input old x y a b = a.so ∙ ap (λ (text : List ℕ). old ++ text) (writes-once a.writes b.writes) ∙ sym b.so
 
 -- THEOREM: any input writes what its first 467,155 bytes write, and they write what it writes
 module _ (input : List ℕ) (n : ℕ) (h : most_bytes ≤ n) where
@@ -87,7 +88,7 @@ module _ (input : List ℕ) (n : ℕ) (h : most_bytes ≤ n) where
 pub writes-length : {input out : List ℕ} → Writes input out → length out ≤ MOST_TEXT
 unfolding fault_line text
 writes-length (fault before n k) = omega arith
-writes-length {input} (answers fs out k a) = omega (arith, answered-length (file_of fs) (entries asks fs) out a, few asks fs (reading-taken k read.none))
+writes-length {input} (answers fs out k a) = omega (arith, answered-length (asked fs) (entries asks fs) out a, few asks fs (reading-taken k read.none))
 
 -- THEOREM: the first faulty line of any input has a number of at most 7,187
 pub fault-line : (input : List ℕ) (before : List Frame) (r : Refusal) → Reading [] (lines input) (faulty before r) → length before + 1 ≤ most_lines + 1

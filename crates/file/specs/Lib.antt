@@ -2,3 +2,6 @@ pub mod Text
 pub mod Writes
 pub mod Serves
 pub mod Replying
+pub mod Told
+pub mod Demands
+pub mod Laws

@@ -6,7 +6,7 @@ use Rattle.tables.specs.Asks.{ask_width}
 use Rattle.reading.specs.declared.File.{File}
 use Rattle.reading.specs.declared.Fault.{Fault}
 use Rattle.reading.specs.Refusal.{refusal_number}
-use Rattle.reading.specs.File.{asked}
+use Rattle.reading.specs.File.{held_call}
 use Rattle.file.specs.Text.{fault_line}
 use Rattle.file.specs.Writes.{Answered}
 
@@ -16,7 +16,7 @@ module _ (file : File) where
 
   -- a library's outcome
   abbrev pub IsAnswer : ℕ → Answer → Type 0
-  IsAnswer k r = (area spare : List ℕ) × Outcome (asked file k) r area spare
+  IsAnswer k r = (area spare : List ℕ) × Outcome (held_call file k) r area spare
 
   -- entry k is the answer to ask k
   abbrev pub AnswersEach : List Answer → Type 0
@@ -25,7 +25,7 @@ module _ (file : File) where
   -- P of the lines for all asks
   pub record AnswersAll (P : List ℕ → Type 0) : Type 0 where
     pub text : List ℕ
-    pub answered : Answered file ask_count text
+    pub answered : Answered (held_call file) ask_count text
     pub so : P text
 
 -- P of the text for what reading found

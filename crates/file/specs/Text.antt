@@ -1,12 +1,11 @@
--- What is written: bytes as two characters each, capital letters, each line ended by 0A.
+-- The lines that are written (docs/RULES.md, section 8): two characters a byte, capital letters,
+-- and 0A at the end.
 use Rattle.std.specs.Prelude.{ℕ, ◌+◌, ◌/◌, ◌%◌, ◌^◌, ◌<◌, List, [], ◌∷◌, ◌++◌, nat_lt, if◌then◌else◌}
 use Rattle.std.specs.List.{flat_map}
 use Rattle.kinds.specs.declared.Answer.{Answer}
 use Rattle.kinds.specs.Answer.{answer_number, answer_count}
 use Rattle.tables.specs.declared.ask.Ask.{Ask}
 use Rattle.tables.specs.declared.ask.Ask.TheVariants.{Pair}
-use Rattle.streams.specs.Lines.{newline}
-use Rattle.frames.specs.Digits.{base}
 
 -- the character of a digit: 0–9, then A–F
 abbrev pub character : ℕ → ℕ
@@ -14,11 +13,11 @@ character digit = if nat_lt digit 10 then 48 + digit else 55 + digit
 
 -- a byte, high digit first
 abbrev pub characters : ℕ → List ℕ
-characters byte = character (byte / base) ∷ character (byte % base) ∷ []
+characters byte = character (byte / 16) ∷ character (byte % 16) ∷ []
 
 -- a line of bytes
 unfoldable pub text : List ℕ → List ℕ
-text bytes = flat_map characters bytes ++ newline ∷ []
+text bytes = flat_map characters bytes ++ 0x0A ∷ []
 
 -- a number in two bytes, high byte first
 abbrev pub two_bytes : ℕ → List ℕ

@@ -1,10 +1,18 @@
 // What a whole input writes, from a source to a sink or in memory: the line of its first fault, or an answer for each ask.
 #![tactic(auto)]
 
-ghost use Rattle.std.specs.Prelude.{◌≡◌, ◌≤◌, Some, IfSome, IfErr, IsTrue, OnOk, drop, take};
-ghost use Rattle.std.specs.Io.KnownBytes.{Keeps};
-ghost use Rattle.file.specs.Writes.{Writes};
-ghost use Rattle.file.specs.Serves.{Serves, Starts, IfUnread, IfUnwritten, message_of};
+ghost use Rattle.std.specs.Prelude.{◌≡◌, ◌*◌, ◌<◌, ◌≤◌, ℕ, List, Some, Err, IfSome, IsOk, IsTrue, OnOk, drop, take};
+ghost use Rattle.std.specs.Io.KnownBytes.{Keeps, Appends};
+ghost use Rattle.std.specs.declared.io.Error.{Error};
+ghost use Rattle.streams.specs.Takes.{TakesStart};
+ghost use Rattle.file.specs.Writes.{IsSound, IsFaulty, Writes};
+ghost use Rattle.file.specs.Serves.{Serves, message_of};
+ghost use Rattle.file.specs.Told.{line_at};
+ghost use Rattle.frames.specs.Digits.{byte_of};
+ghost use Rattle.frames.specs.declared.Frame.{Frame};
+ghost use Rattle.reading.specs.declared.Refusal.{Refusal};
+ghost use Rattle.reading.specs.Laws.{IsListed};
+ghost use Rattle.reading.specs.Tables.{asks, entries};
 
 use reading::{ASKS, File, read};
 use replies::{copy_found, write_found};
@@ -16,6 +24,7 @@ mod replies;
 #[cfg(test)]
 mod tests;
 mod text;
+pub mod theorems;
 
 // The characters of the longest text: the most answers.
 pub const MOST_TEXT: usize = ASKS * text::ANSWER_LINE;
@@ -25,6 +34,14 @@ pub fn answer(input: &[u8], text: &mut [u8; MOST_TEXT]) -> usize
     ensures within { result ≤ MOST_TEXT }
     ensures written { Writes input.now (take result text.new) }
     ensures rest { drop result text.new ≡ drop result text.old }
+
+    // The input writes no other text. Byte 3 of a line is its number: of an answer 0, 1, 2 or 3, of a fault one of 4 to 11.
+    ensures only { (out : List ℕ) → Writes input.now out → out ≡ take result text.new }
+    ensures long { (fs : List Frame) → IsSound input.now fs → result ≡ 13 * entries asks fs }
+    ensures listed { (fs : List Frame) → IsSound input.now fs → (k : ℕ) → k < entries asks fs
+        → byte_of (line_at (take result text.new) k) 3 ≤ 3 }
+    ensures fault { (before : List Frame) (r : Refusal) → IsFaulty input.now before r
+        → IsListed (byte_of (take result text.new) 3) }
 {
     let mut file = File::new();
     match read(Bytes::new(input), &mut file) {
@@ -58,18 +75,25 @@ impl fmt::Display for ServeError {
 
 // The desk: what a source has left is read up to its first faulty line, and what that writes is put to a sink.
 pub fn serve<S: Source + Drop, K: Sink>(source: S, sink: &mut K) -> Result<(), ServeError>
-    ensures written { OnOk result (IfSome (S.remaining source)
-        (λ input. Serves input (K.contents sink.old) (K.contents sink.new))) }
+    ensures written { OnOk result (IfSome (S.remaining source) (λ input.
+        Serves input (Appends (K.contents sink.old) (K.contents sink.new)))) }
+    ensures only { OnOk result (IfSome (S.remaining source) (λ input.
+        (out : List ℕ) → Writes input out
+        → Appends (K.contents sink.old) (K.contents sink.new) out)) }
 
     // Where reading fails, the error is the source's, and the sink is as it was.
-    ensures unread { IfErr result (λ e. IfUnread e S.fails) }
-    ensures untouched { IfErr result (λ e. IfUnread e
-        (λ _. Keeps (K.contents sink.old) (K.contents sink.new))) }
+    ensures unread { (e : Error) → result ≡ Err (ServeError.Unread e) → S.fails e }
+    ensures untouched { (e : Error) → result ≡ Err (ServeError.Unread e)
+        → Keeps (K.contents sink.old) (K.contents sink.new) }
 
-    // Where writing fails, the error is the sink's, and the sink has taken a start of the text.
-    ensures unwritten { IfErr result (λ e. IfUnwritten e K.fails) }
-    ensures started { IfErr result (λ e. IfUnwritten e (λ _. IfSome (S.remaining source)
-        (λ input. Starts input (K.contents sink.old) (K.contents sink.new)))) }
+    // Where writing fails, the error is the sink's, which has taken a start of the text, where its bytes are known.
+    ensures unwritten { (e : Error) → result ≡ Err (ServeError.Unwritten e) → K.fails e }
+    ensures started { (e : Error) → result ≡ Err (ServeError.Unwritten e)
+        → IfSome (S.remaining source) (λ input.
+        Serves input (TakesStart (K.contents sink.old) (K.contents sink.new))) }
+
+    // It makes no error of its own.
+    ensures ok { ((e : Error) → ¬ S.fails e) → ((e : Error) → ¬ K.fails e) → IsOk result }
 {
     let mut file = File::new();
     let found = match read(source, &mut file) {

@@ -1,7 +1,6 @@
 // The lines that are written, in characters: two for each byte, capital letters, and the end of the line.
 ghost use Rattle.std.specs.Prelude.{◌≡◌, ◌+◌, ◌*◌, ◌/◌, ◌%◌, ◌^◌, ◌<◌, [], ◌∷◌, length};
 ghost use Rattle.reading.specs.Refusal.{refusal_number};
-ghost use Rattle.frames.specs.Digits.{base};
 ghost use Rattle.file.specs.Text.{character, text, fault_line, answer_line, IsInBytes};
 
 use frames::BASE;
@@ -21,7 +20,7 @@ pub(crate) const FAULT_LINE: usize = 2 * 4 + 1;
 
 // The character of a digit.
 fn character(digit: u8) -> u8
-    requires { digit < base }
+    requires { digit < 16 }
     ensures { result ≡ character digit }
 {
     if digit < 10 {

@@ -1,4 +1,4 @@
--- The frame of a line: for every line one, or the refusals 9 and 10.
+-- The frame of a line (docs/RULES.md, section 8): for every line one, or the refusals 9 and 10.
 use Rattle.std.specs.Prelude.{ℕ, ◌+◌, ◌*◌, ◌^◌, ◌≡◌, List, [], ◌∷◌, Result, Ok, Err, unwrap_or, slice_get}
 use Rattle.kinds.specs.declared.Counts.{Counts}
 use Rattle.kinds.specs.Kinds.{concept_name, role_name, individual, state, signed, concept_of}
@@ -9,15 +9,13 @@ use Rattle.frames.specs.declared.Frame.TheVariants.{Declared, ConceptRule, Conce
 use Rattle.frames.specs.declared.Misread.{Misread}
 use Rattle.frames.specs.declared.Misread.TheVariants.{BadLine, BadFrame}
 
--- the bytes of a frame of each kind, from 00 on, the kind's own among them; 0 where there is no
--- such kind
-abbrev lengths : List ℕ
-lengths = 0 ∷ 6 ∷ 3 ∷ 3 ∷ 3 ∷ 3 ∷ 3 ∷ 4 ∷ 4 ∷ 4 ∷ 2 ∷ 3 ∷ 3 ∷ []
-
+-- the bytes of a frame of each kind, from 00 on, its kind among them; 0 where there is no such kind
 unfoldable pub frame_length : ℕ → ℕ
-frame_length kind = unwrap_or (slice_get lengths kind) 0
+frame_length kind =
+    unwrap_or (slice_get (0 ∷ 6 ∷ 3 ∷ 3 ∷ 3 ∷ 3 ∷ 3 ∷ 4 ∷ 4 ∷ 4 ∷ 2 ∷ 3 ∷ 3 ∷ []) kind) 0
 
 module _ (byte : ℕ → ℕ) where
+  -- names, roles, individuals, states, start
   abbrev counts : Counts
   counts = record {
     names = byte 1;
@@ -27,7 +25,7 @@ module _ (byte : ℕ → ℕ) where
     start = state (byte 5);
   }
 
-  -- the frame of each kind, from 00 on, by its bytes
+  -- the frame of each kind, from 00 on, with its fields
   abbrev frames : List (Result Frame Misread)
   frames =
       Err BadFrame
@@ -42,24 +40,15 @@ module _ (byte : ℕ → ℕ) where
       ∷ Ok (TestStep (state (byte 1)) (concept_name (byte 2)) (state (byte 3)))
       ∷ Ok (Final (state (byte 1)))
       ∷ Ok (Ask (individual (byte 1)) (individual (byte 2)))
-      ∷ Ok (Allowance (2 ^ 8 * byte 1 + byte 2))
-      ∷ []
+      ∷ Ok (Allowance (2 ^ 8 * byte 1 + byte 2)) ∷ []
 
--- the frame of a kind and its bytes
+-- the frame of a kind by its bytes
 unfoldable pub frame_by : ℕ → (ℕ → ℕ) → Result Frame Misread
 frame_by kind byte = unwrap_or (slice_get (frames byte) kind) (Err BadFrame)
 
-module _ (l : List ℕ) where
-  abbrev pub kind : ℕ
-  kind = byte_of l 0
-
-  -- a line that number 10 does not refuse: of a known kind, and of its length
-  abbrev pub Shaped : Type 0
-  Shaped = bytes l ≡ frame_length kind
-
-  abbrev pub ReadsFrame : Result Frame Misread → Type 0
-  ReadsFrame r = r ≡ frame_by kind (byte_of l)
-
-  -- 9, then 10, then the frame
-  abbrev pub FrameOf : Result Frame Misread → Type 0
-  FrameOf = First (LineOk l) (Err BadLine) (First Shaped (Err BadFrame) ReadsFrame)
+-- a line: 9, then 10 (of an unknown kind, or of the wrong length for its kind), then its frame
+abbrev pub FrameOf : List ℕ → Result Frame Misread → Type 0
+FrameOf l =
+    First (LineOk l) (Err BadLine)
+    (First (bytes l ≡ frame_length (byte_of l 0)) (Err BadFrame)
+    (λ r. r ≡ frame_by (byte_of l 0) (byte_of l)))

@@ -1,3 +1,4 @@
 pub mod Digits
 pub mod Frames
 pub mod Reader
+pub mod Laws

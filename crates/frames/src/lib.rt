@@ -3,12 +3,14 @@
 
 ghost use Rattle.std.specs.Prelude.{ℕ, ◌+◌, ◌*◌, ◌<◌, ◌↔◌, ◌≡◌, IsTrue};
 ghost use Rattle.kinds.specs.Kinds.{concept_name, role_name, individual, state, signed, concept_of};
-ghost use Rattle.frames.specs.Digits.{digit_of, byte_of, LineOk, line_length};
+ghost use Rattle.frames.specs.Digits.{digit_of, byte_of, LineOk};
 ghost use Rattle.frames.specs.Frames.{frame_length, frame_by, FrameOf};
 ghost use Rattle.frames.specs.Reader.{Advanced};
 
 use kinds::{Concept, ConceptName, Counts, Individual, RoleName, Rounds, SignedRole, State};
 use streams::LINE;
+
+pub mod theorems;
 
 // What a line says.
 #[derive(Clone, Copy)]
@@ -106,7 +108,7 @@ impl<'a> Reader<'a> {
 
     // The byte at the reader's place, after which the reader is at the next.
     fn byte(&mut self) -> u16
-        requires { self.old.at < line_length }
+        requires { self.old.at < 64 }
         ensures value { result ≡ byte_of self.old.line.now self.old.at }
         ensures next { Advanced self.old self.new }
     {
@@ -117,7 +119,7 @@ impl<'a> Reader<'a> {
 
     // A field of one byte, as what it stands for.
     fn field<F: Field>(&mut self) -> F
-        requires { self.old.at < line_length }
+        requires { self.old.at < 64 }
         ensures value { result ≡ F.of (byte_of self.old.line.now self.old.at) }
         ensures next { Advanced self.old self.new }
     {

@@ -14,6 +14,7 @@ use Rattle.meaning.specs.Lent.{Tables, collection, records, role_fact_width, rol
 use Rattle.meaning.specs.Orders.{RoleLe, turned}
 use Rattle.meaning.specs.Model.{FactEdge, ahead, behind}
 use Rattle.hops.specs.Chains.{source, target, role_of}
+use Rattle.hops.specs.Meant.{EdgeHop}
 
 -- the numbers of a hop along fact k: where it starts, where it leads, and its signed role
 module _ (rf : List ℕ) where
@@ -84,13 +85,7 @@ module _ (c : Counts) (t : Tables) (ok : NumbersDeclared (collection c t)) where
       rw (e.0, e.1) (rw (inverse-inverse S) at f)
 
   -- and every edge is that of a hop
-  pub record EdgeHop (a : Individual) (S : SignedRole) (b : Individual) (h : ℕ) : Type 0 where
-    pub hop : h < 2 * (length rf / role_fact_width)
-    pub source : source rf h ≡ a.0
-    pub target : target rf h ≡ b.0
-    pub role : RoleLe 𝓒 (signed (role_of rf h)) S
-
-  pub edge-hop : {a b : Individual} {S : SignedRole} → FactEdge 𝓒 a S b → (h : ℕ) × EdgeHop a S b h
+  pub edge-hop : {a b : Individual} {S : SignedRole} → FactEdge 𝓒 a S b → (h : ℕ) × EdgeHop c t a S b h
   edge-hop (ahead {r = r} {a = a} {b = b} {S = S} m le) =
       let w = fact_out m in
       let k = w.0 in

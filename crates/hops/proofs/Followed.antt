@@ -4,11 +4,7 @@ use Rattle.std.proofs.Common.{arith}
 use Rattle.std.proofs.Math.Decide.{ℕ_discrete, dec_lt}
 use Rattle.kinds.specs.Kinds.{most_individuals}
 use Rattle.hops.specs.Chains.{no_hop, IsHopFrom, IsFirst, Begins, Follows}
-
--- the hops that the chain of a leads to
-pub data Linked (heads links : List ℕ) (a : ℕ) : ℕ → Type 0 where
-  first : get_or heads a 0 < no_hop → Linked heads links a (get_or heads a 0)
-  next : {h : ℕ} → Linked heads links a h → h < get_or links h 0 → get_or links h 0 < no_hop → Linked heads links a (get_or links h 0)
+use Rattle.hops.specs.Meant.{Linked, first, next}
 
 module _ (facts heads links : List ℕ) (b : Begins facts heads) (f : Follows facts links) (a : ℕ) (low : a < most_individuals) where
   own : {h : ℕ} → Linked heads links a h → IsHopFrom facts a h

@@ -2,6 +2,7 @@
 #![tactic(auto)]
 
 mod chains;
+pub mod theorems;
 mod visits;
 
 pub use chains::Hops;
@@ -16,7 +17,7 @@ pub struct Hop {
 }
 
 /// The most role facts that a table may have.
-pub const ROLE_FACTS: usize = 4096;
+pub const ROLE_FACTS: usize = tables::collection::ROLE_FACTS;
 
 /// The number after that of the last hop, two for each role fact that a table may have.
 pub const NO_HOP: usize = 2 * ROLE_FACTS;

@@ -1,37 +1,27 @@
 -- Each clause of a call follows from its outcome.
-use Rattle.std.specs.Prelude.{◌≡◌, refl, ◌↔◌, List, ℕ, ◌≤◌, ◌<◌}
+use Rattle.std.specs.Prelude.{◌≡◌, refl, ◌↔◌, IfSome, IfNone, List, ℕ, ◌≤◌, ◌<◌}
 use Rattle.std.proofs.Common.{subst, arith}
 use Rattle.kinds.specs.declared.Answer.{Answer}
 use Rattle.kinds.specs.declared.Answer.TheVariants.{No, Yes, Contradiction, AllowanceSpent, BadCount, BadTable, BadNumber, EqualEnds, BadAsk}
-use Rattle.kinds.specs.Answer.{answer_number, number-listed}
-use Rattle.meaning.specs.Lent.{Call, collection_of, CountsOk, Sound}
+use Rattle.kinds.specs.Answer.{answer_number, sheet_rounds, number-listed}
+use Rattle.meaning.specs.Lent.{Tables, Call, collection_of, CountsOk, TablesOk, NumbersOk, EndsOk, AskOk, Sound}
 use Rattle.meaning.specs.Layout.{zeros}
 use Rattle.meaning.specs.Lite.{lite}
-use Rattle.meaning.specs.Outcome.{Outcome, Breaks, HoldsSheet, bad-count, bad-table, bad-number, equal-ends, bad-ask, contradiction, spent, says-yes, says-no}
-use Rattle.kinds.specs.declared.State.{State}
-use Rattle.meaning.specs.Collection.{Collection}
-use Rattle.meaning.specs.Model.{Element, canonical}
-use Rattle.meaning.specs.Run.{Run, one, carry}
-use Rattle.meaning.specs.Question.{Going, along-role, at_name, PathIn}
-use Rattle.meaning.proofs.Forced.{model_world}
+use Rattle.meaning.specs.SameSets.{SameSets}
+use Rattle.meaning.specs.Outcome.{Outcome, Breaks, Reached, HoldsSheet, bad-count, bad-table, bad-number, equal-ends, bad-ask, contradiction, spent, says-yes, says-no}
+use Rattle.meaning.specs.Worlds.{model_world}
 use Rattle.meaning.proofs.SheetLaws.{rounds-unique}
 use Rattle.meaning.proofs.OutcomeLaws.{outcome-unique}
 use Rattle.meaning.proofs.OutcomeExists.{holds-sheet, sound-well-formed}
-use Rattle.meaning.proofs.Demands.{Enough, AsModelSays, says-what-the-model-says, Grown, allowed, most_rounds, most-enough, rounds-suffice}
+use Rattle.meaning.specs.Demands.{Enough, AsModelSays, GrowsTo, Grown, allowed, most_rounds}
+use Rattle.meaning.proofs.Demands.{says-what-the-model-says, most-enough, rounds-suffice}
 use Rattle.meaning.proofs.Demands as theorem
-use Rattle.meaning.proofs.Forced.{yes-in, model-keeps, model-respects, contradiction-no-world}
-use Rattle.index.specs.Asked.{IsOutcome}
-use Rattle.index.specs.Clauses.{FailsTables, FailsNumbers, FailsEnds, FailsAsk, IsContradicted, RunsOut, Settles, IsYesAfter, IsNoAfter, IfSheet, IfNoSheet, SameOutcome, GrowsTo}
-use Rattle.index.specs.Worlds.{world_of, model_of, IsWorldOf, HasPath, IsForced, HasNoWorld}
+use Rattle.meaning.proofs.Repeated.{repeats-mean-nothing}
+use Rattle.meaning.proofs.Forced.{yes-in, yes-out, model-keeps, model-respects, no-world}
+use Rattle.index.specs.Clauses.{FailsTables, FailsNumbers, FailsEnds, FailsAsk, IsContradicted, Settles, RunsOut, IsYesAfter, IsNoAfter, SameOutcome}
+use Rattle.index.specs.Worlds.{world_of, IsWorldOf, HasPath, IsForced, HasNoWorld}
 
--- a path of the canonical model as a world is a path of the model
-going : (𝓒 : Collection) (x y : Element 𝓒) (s t : State) → Going 𝓒 (model_world 𝓒).structure x s y t → Run (Going 𝓒 (canonical 𝓒)) x s y t
-going 𝓒 x y s t (along-role S m e) = one (along-role S m e.2)
-going 𝓒 x y s t (at_name A m h) = one (at_name A m h.1)
-
-path-back : (𝓒 : Collection) {x y : Element 𝓒} {s t : State} → PathIn 𝓒 (model_world 𝓒).structure x s y t → PathIn 𝓒 (canonical 𝓒) x s y t
-path-back 𝓒 p = carry (λ x. x) (going 𝓒) p
-
+-- what comes with the answer 3, 1 or 0 and the count n
 module _ (c : Call) (r : Answer) (x y : List ℕ) where
   -- the clauses, as a record
   pub record Clauses : Type 0 where
@@ -44,10 +34,10 @@ module _ (c : Call) (r : Answer) (x y : List ℕ) where
     pub spent : (n : ℕ) → (r ≡ AllowanceSpent n) ↔ RunsOut c n
     pub yes : (n : ℕ) → (r ≡ Yes n) ↔ IsYesAfter c n
     pub no : (n : ℕ) → (r ≡ No n) ↔ IsNoAfter c n
-    pub sheet : IfSheet r (λ n. HoldsSheet c n x)
-    pub cleared : IfSheet r (λ n. y ≡ zeros)
-    pub untouched : IfNoSheet r (x ≡ c.area)
-    pub spared : IfNoSheet r (y ≡ c.spare)
+    pub sheet : IfSome (sheet_rounds r) (λ n. HoldsSheet c n x)
+    pub cleared : IfSome (sheet_rounds r) (λ n. y ≡ zeros)
+    pub untouched : IfNone (sheet_rounds r) (x ≡ c.area)
+    pub spared : IfNone (sheet_rounds r) (y ≡ c.spare)
     pub listed : answer_number r ≤ 8
     pub fixed : (q : Answer) (u v : List ℕ) → Outcome c q u v → SameOutcome q u v r x y
     pub model : Sound c → Enough c → AsModelSays c r
@@ -55,18 +45,16 @@ module _ (c : Call) (r : Answer) (x y : List ℕ) where
     pub most : (n : ℕ) → Settles c n → n ≤ most_rounds c.counts
     pub forced : (n : ℕ) → r ≡ Yes n → IsForced c
     pub no_world : r ≡ Contradiction → HasNoWorld c
-    pub a_world : IfSheet r (λ n. IsWorldOf c (model_of c))
-    pub not_forced : (n : ℕ) → r ≡ No n → HasPath c (model_of c) → ⊥
-    pub grows : (d : Call) (q : Answer) → GrowsTo c d → IsOutcome d q → Grown r q
+    pub a_world : IfSome (sheet_rounds r) (λ n. IsWorldOf c (model_world (collection_of c)))
+    pub not_forced : (n : ℕ) → r ≡ No n → HasPath c (model_world (collection_of c)) → ⊥
+    pub same_sets : (t : Tables) (q : Answer) (u v : List ℕ) → SameSets c t → Outcome (record c { tables = t }) q u v → (q ≡ r) × (u ≡ x) × (v ≡ y)
+    pub grows : (d : Call) (q : Answer) (u v : List ℕ) → GrowsTo c d → Outcome d q u v → Sound c → Enough c → Sound d → Enough d → Grown r q
     pub returns : (n : ℕ) → c.allowance ≤ n → answer_number r ≤ 2 → Outcome (allowed c n) r x y
 
 module _ (c : Call) where
   -- an outcome is the only one: each answer whose own outcome holds is the answer
   only : {r q : Answer} {x y u v : List ℕ} → Outcome c r x y → Outcome c q u v → r ≡ q
   only o p = (outcome-unique c o p).0
-
-  same : {r q : Answer} {x y u v : List ℕ} → Outcome c r x y → Outcome c q u v → SameOutcome r x y q u v
-  same o p = let e = outcome-unique c o p in record { answer = e.0; first = e.1; second = e.2 }
 
   -- what an answer says, read off its outcome
   abbrev Says : Answer → Type 0
@@ -82,19 +70,19 @@ module _ (c : Call) where
 
   says : {r : Answer} {x y : List ℕ} → Outcome c r x y → Says r
   says (bad-count h) = h
-  says (bad-table k h) = record { counts = k; tables = h }
-  says (bad-number k t h) = record { counts = k; tables = t; numbers = h }
-  says (equal-ends k t n h) = record { counts = k; tables = t; numbers = n; ends = h }
-  says (bad-ask k t n e h) = record { counts = k; tables = t; numbers = n; ends = e; ask = h }
-  says (contradiction s b) = record { sound = s; breaks = b }
-  says (spent {n = n} s b need h lays) = record { allowance = refl; needed = n; settles = record { sound = s; sane = b; needed = need }; more = h }
-  says (says-yes s b need h lays y) = record { settles = record { sound = s; sane = b; needed = need }; allowed = h; reached = y }
-  says (says-no s b need h lays y) = record { settles = record { sound = s; sane = b; needed = need }; allowed = h; missed = y }
+  says (bad-table k h) = (k, h)
+  says (bad-number k t h) = (k, t, h)
+  says (equal-ends k t n h) = (k, t, n, h)
+  says (bad-ask k t n e h) = (k, t, n, e, h)
+  says (contradiction s b) = (s, b)
+  says (spent {n = n} s b need h lays) = (refl, (n, record { sound = s; sane = b; needed = need }, h))
+  says (says-yes s b need h lays y) = (record { sound = s; sane = b; needed = need }, h, y)
+  says (says-no s b need h lays y) = (record { sound = s; sane = b; needed = need }, h, y)
 
   says-as : {r q : Answer} → Says r → r ≡ q → Says q
   says-as h e = subst Says e h
 
-  sheet-of : {r : Answer} {x y : List ℕ} → Outcome c r x y → IfSheet r (λ n. HoldsSheet c n x)
+  sheet-of : {r : Answer} {x y : List ℕ} → Outcome c r x y → IfSome (sheet_rounds r) (λ n. HoldsSheet c n x)
   sheet-of (bad-count h) = tt
   sheet-of (bad-table h k) = tt
   sheet-of (bad-number h k l) = tt
@@ -105,7 +93,7 @@ module _ (c : Call) where
   sheet-of (says-yes t b r l h y) = h
   sheet-of (says-no t b r l h y) = h
 
-  cleared-by : {r : Answer} {x y : List ℕ} → Outcome c r x y → IfSheet r (λ n. y ≡ zeros)
+  cleared-by : {r : Answer} {x y : List ℕ} → Outcome c r x y → IfSome (sheet_rounds r) (λ n. y ≡ zeros)
   cleared-by (bad-count h) = tt
   cleared-by (bad-table h k) = tt
   cleared-by (bad-number h k l) = tt
@@ -116,7 +104,7 @@ module _ (c : Call) where
   cleared-by (says-yes t b r l h y) = refl
   cleared-by (says-no t b r l h y) = refl
 
-  untouched-by : {r : Answer} {x y : List ℕ} → Outcome c r x y → IfNoSheet r (x ≡ c.area)
+  untouched-by : {r : Answer} {x y : List ℕ} → Outcome c r x y → IfNone (sheet_rounds r) (x ≡ c.area)
   untouched-by (bad-count h) = refl
   untouched-by (bad-table h k) = refl
   untouched-by (bad-number h k l) = refl
@@ -127,7 +115,7 @@ module _ (c : Call) where
   untouched-by (says-yes t b r l h y) = tt
   untouched-by (says-no t b r l h y) = tt
 
-  spared-by : {r : Answer} {x y : List ℕ} → Outcome c r x y → IfNoSheet r (y ≡ c.spare)
+  spared-by : {r : Answer} {x y : List ℕ} → Outcome c r x y → IfNone (sheet_rounds r) (y ≡ c.spare)
   spared-by (bad-count h) = refl
   spared-by (bad-table h k) = refl
   spared-by (bad-number h k l) = refl
@@ -139,10 +127,10 @@ module _ (c : Call) where
   spared-by (says-no t b r l h y) = tt
 
   -- the canonical model is a world of a sound call that breaks nothing
-  world : Sound c → (¬ Breaks c) → IsWorldOf c (model_of c)
+  world : Sound c → (¬ Breaks c) → IsWorldOf c (model_world (collection_of c))
   world s sane = record { keeps = model-keeps (collection_of c) (sound-well-formed c s).numbers; respects = model-respects (collection_of c) sane }
 
-  world-of : {r : Answer} {x y : List ℕ} → Outcome c r x y → IfSheet r (λ n. IsWorldOf c (model_of c))
+  world-of : {r : Answer} {x y : List ℕ} → Outcome c r x y → IfSome (sheet_rounds r) (λ n. IsWorldOf c (model_world (collection_of c)))
   world-of (bad-count h) = tt
   world-of (bad-table h k) = tt
   world-of (bad-number h k l) = tt
@@ -155,39 +143,40 @@ module _ (c : Call) where
 
   beyond : {r : Answer} {x y : List ℕ} (n : ℕ) → Outcome c r x y → RunsOut c n → r ≡ AllowanceSpent n
   beyond n o w =
-      let s = w.settles in
-      let e = w.allowance in
-      let m : c.allowance < w.needed = rw e at w.more in
+      let s = w.1.1 in
+      let e = w.0 in
+      let m : c.allowance < w.1.0 = rw e at w.1.2 in
       rw e (only o (spent s.sound s.sane s.needed m (holds-sheet c s.sound c.allowance)))
 
   -- THEOREM: an outcome is as each clause says
   pub clauses : (r : Answer) (x y : List ℕ) → Outcome c r x y → Clauses c r x y
   clauses r x y o = record {
     bad_count = (λ e. says-as (says o) e, λ h. only o (bad-count h));
-    bad_table = (λ e. says-as (says o) e, λ h. only o (bad-table h.counts h.tables));
-    bad_number = (λ e. says-as (says o) e, λ h. only o (bad-number h.counts h.tables h.numbers));
-    equal_ends = (λ e. says-as (says o) e, λ h. only o (equal-ends h.counts h.tables h.numbers h.ends));
-    bad_ask = (λ e. says-as (says o) e, λ h. only o (bad-ask h.counts h.tables h.numbers h.ends h.ask));
-    contradiction = (λ e. says-as (says o) e, λ h. only o (contradiction h.sound h.breaks));
+    bad_table = (λ e. says-as (says o) e, λ h. only o (bad-table h.0 h.1));
+    bad_number = (λ e. says-as (says o) e, λ h. only o (bad-number h.0 h.1 h.2));
+    equal_ends = (λ e. says-as (says o) e, λ h. only o (equal-ends h.0 h.1 h.2 h.3));
+    bad_ask = (λ e. says-as (says o) e, λ h. only o (bad-ask h.0 h.1 h.2 h.3 h.4));
+    contradiction = (λ e. says-as (says o) e, λ h. only o (contradiction h.0 h.1));
     spent = λ n. (λ e. says-as (says o) e, λ h. beyond n o h);
-    yes = λ n. (λ e. says-as (says o) e, λ h. let s = h.settles in only o (says-yes s.sound s.sane s.needed h.allowed (holds-sheet c s.sound n) h.reached));
-    no = λ n. (λ e. says-as (says o) e, λ h. let s = h.settles in only o (says-no s.sound s.sane s.needed h.allowed (holds-sheet c s.sound n) h.missed));
+    yes = λ n. (λ e. says-as (says o) e, λ h. let s = h.0 in only o (says-yes s.sound s.sane s.needed h.1 (holds-sheet c s.sound n) h.2));
+    no = λ n. (λ e. says-as (says o) e, λ h. let s = h.0 in only o (says-no s.sound s.sane s.needed h.1 (holds-sheet c s.sound n) h.2));
     sheet = sheet-of o;
     cleared = cleared-by o;
     untouched = untouched-by o;
     spared = spared-by o;
     listed = number-listed r;
-    fixed = λ q u v p. same p o;
+    fixed = λ q u v p. let e = outcome-unique c p o in (e.0, e.1, e.2);
     model = λ s e. says-what-the-model-says c s e o;
     enough = λ s h. most-enough c s h;
     most = λ n s.
         let w = rounds-suffice (collection_of c) (sound-well-formed c s.sound) in
         let e = rounds-unique (lite (collection_of c)) n w.0 s.needed w.2 in
         omega (arith, e, w.1);
-    forced = λ n e w is. yes-in (collection_of c) (world_of w) is.keeps c.first c.second (says-as (says o) e).reached;
-    no_world = λ e w is. let s = says-as (says o) e in contradiction-no-world (collection_of c) (sound-well-formed c s.sound).numbers s.breaks (world_of w) is.keeps is.respects;
+    forced = λ n e w is. yes-in (collection_of c) (world_of w) is.keeps c.first c.second (says-as (says o) e).2;
+    no_world = λ e w is. let s = says-as (says o) e in no-world (collection_of c) (world_of w) s.1 is;
     a_world = world-of o;
-    not_forced = λ n e p. let s = says-as (says o) e in s.missed (p.0, p.1, path-back (collection_of c) p.2);
-    grows = λ d q g p. theorem.grows c d g.larger g.first g.second g.sound g.sound' g.enough g.enough' o p.2;
+    not_forced = λ n e p. let s = says-as (says o) e in s.2 (yes-out (collection_of c) c.first c.second p);
+    same_sets = λ t q u v s p. repeats-mean-nothing c t s o p;
+    grows = λ d q u v g p s e s' e'. theorem.grows c d g.larger g.first g.second s s' e e' o p;
     returns = λ n h k. theorem.returns c n h o k;
   }

@@ -1,12 +1,10 @@
 -- The rooms' tables, read in the words of the rules: what the sheet's rounds find, and what walks tell.
 use Rattle.std.specs.Prelude.{◌≡◌, ◌↔◌, IsTrue, List, ℕ, ◌<◌, ◌≤◌}
-use Rattle.std.proofs.Common.{rules, arith}
-use Rattle.std.proofs.Math.Decide.{dec_lt}
+use Rattle.std.proofs.Common.{rules}
 use Rattle.kinds.specs.declared.Concept.{Concept}
-use Rattle.kinds.specs.Kinds.{most_states, most_individuals, state, signed, individual, number_of, ConceptDeclared}
-use Rattle.meaning.specs.Collection.{Collection, NumbersDeclared, WellFormed, step, role}
+use Rattle.kinds.specs.Kinds.{most_states, most_individuals, individual, number_of, ConceptDeclared}
+use Rattle.meaning.specs.Collection.{Collection, NumbersDeclared, WellFormed}
 use Rattle.meaning.specs.Lent.{Tables}
-use Rattle.meaning.specs.Lite.{StepDown}
 use Rattle.meaning.specs.Model.{IndividualHas, Contradiction}
 use Rattle.meaning.specs.Sheet.{Mark}
 use Rattle.meaning.proofs.Clash.{typed-declared}
@@ -14,7 +12,6 @@ use Rattle.meaning.proofs.Demands.{rounds-suffice}
 use Rattle.sets.specs.Bits.{Has, has, concept_width}
 use Rattle.sets.specs.Rows.{concept_marks, role_marks}
 use Rattle.sets.specs.declared.concepts.ConceptSet.{ConceptSet}
-use Rattle.sets.specs.declared.roles.RoleSet.{RoleSet}
 use Rattle.sets.specs.declared.states.StateSet.{StateSet}
 use Rattle.tables.specs.declared.ask.Ask.{Ask}
 use Rattle.tables.specs.declared.ask.Ask.TheVariants.{Pair}
@@ -35,11 +32,11 @@ use Rattle.clash.specs.Clashes.{Clashes}
 use Rattle.clash.specs.Marks.{marks}
 use Rattle.clash.proofs.Mean.{clash-mean}
 use Rattle.rules.specs.declared.rows.Rows.{Rows}
-use Rattle.rules.specs.Rows.{most_concepts, most_edges, kind_of}
-use Rattle.rules.specs.Ways.{Way, IsWays}
+use Rattle.rules.specs.Rows.{most_concepts, kind_of}
+use Rattle.rules.specs.Ways.{IsWays}
 use Rattle.rules.specs.Made.{IsStates, IsConcepts, AreTests, AreEdgesTo, AreEdges}
 use Rattle.rules.specs.RowsOf.{AreOrders, RowsOf}
-use Rattle.rules.proofs.MadeMean.{rows_of}
+use Rattle.rules.proofs.MadeMean.{ways_mean, rows_of}
 use Rattle.rules.proofs.Members.{has_is, has_of}
 use Rattle.rules.proofs.OrdersMean.{are_orders}
 use Rattle.rules.proofs.Same.{mark_to, mark_from}
@@ -48,11 +45,12 @@ use Rattle.sheet.specs.Areas.{LaysMarks}
 use Rattle.sheet.specs.Ends as ends
 use Rattle.sheet.specs.Ends.{Ended}
 use Rattle.sheet.specs.Sheets as sheet
-use Rattle.sheet.proofs.Mean.{unchanged_from, same_needed, same_lays}
+use Rattle.sheet.proofs.Mean.{same_needed, needs_more, same_lays}
 use Rattle.walk.specs.Finals.{AreFinals}
 use Rattle.walk.specs.Loops.{AreLoops}
-use Rattle.walk.specs.Sets.{set_at, row_at, concepts_at}
-use Rattle.walk.proofs.Mean.{ConceptsOf, SheetOf, TablesOf, tables-mean, pair-mean, question-mean}
+use Rattle.walk.specs.Sets.{concepts_at}
+use Rattle.walk.specs.Meant.{ConceptsOf, SheetOf, TablesOf}
+use Rattle.walk.proofs.Mean.{tables-mean, pair-mean, question-mean}
 use Rattle.index.specs.Asked.{IsYes}
 use Rattle.index.specs.declared.routes.Paths.{Paths}
 use Rattle.index.specs.Works.{meant, Passes, Needs, Holds, StridesLead, AreRight}
@@ -95,17 +93,11 @@ module _ (c : code.Collection) (p : Passes c) where
   module _ (rows : Rows) (r : RowsOf 𝓒 rows) where
     -- THEOREM: rounds that end within the allowance are the rounds needed
     pub needed_of : (allowance n : ℕ) → Ended rows allowance (ran.Needed n) → Needs 𝓒 n × (n ≤ allowance)
-    needed_of allowance n (ends.needed k l) = (same_needed 𝓒 p.counts rows r n k, l)
+    needed_of allowance n (ends.needed k l) = ((same_needed 𝓒 p.counts rows r n).0 k, l)
 
     -- THEOREM: and where the allowance is spent more are needed
     pub more_of : (allowance : ℕ) → Ended rows allowance ran.Spent → (n : ℕ) × Needs 𝓒 n × (allowance < n)
-    more_of allowance (ends.spent none) =
-        let w = rounds-suffice 𝓒 well in
-        (w.0, w.2, by w.0 w.2 (dec_lt allowance w.0))
-      where
-        by : (n : ℕ) → Needs 𝓒 n → Dec (allowance < n) → allowance < n
-        by n need (yes l) = l
-        by n need (no g) = absurd (none n (omega arith) (unchanged_from 𝓒 p.counts rows r n need.holds))
+    more_of allowance (ends.spent none) = let w = rounds-suffice 𝓒 well in (w.0, w.2, needs_more 𝓒 p.counts rows r allowance w.0 none w.2)
 
     pub holds_of : (n : ℕ) (area : List ℕ) → LaysMarks (Mark (kind_of rows) n) area → Holds 𝓒 n area
     holds_of = same_lays 𝓒 p.counts rows r
@@ -116,24 +108,6 @@ module _ (c : code.Collection) (p : Passes c) where
           let w = h.at s u B hs hu hB in
           (λ x. mark_to 𝓒 rows r n s u B (w.0 x), λ m. w.1 (mark_from 𝓒 rows r n s u B m));
     }
-
-  -- where the ways of a signed role lead a step down does
-  module _ (roles : List RoleSet) (below : List ConceptSet) (o : AreOrders 𝓒 roles below) (ways : List (List StateSet)) (w : IsWays 𝓒.steps roles ways) where
-    ways_mean : (R s u : ℕ) → R < most_edges → Has (set_at (row_at ways R) s) u ↔ StepDown 𝓒 (signed R) (state s) (state u)
-    ways_mean R s u h = (λ x. to ((w.at R s u h).0 x), λ x. (w.at R s u h).1 (from x))
-      where
-        to : Way 𝓒.steps roles R s u → StepDown 𝓒 (signed R) (state s) (state u)
-        to v = (signed v.by, v.leads.made, (o.roles R v.by h v.leads.by_low).0 v.follows)
-
-        from : StepDown 𝓒 (signed R) (state s) (state u) → Way 𝓒.steps roles R s u
-        from (S, m, l) =
-            let d = ok.steps (step (state s) (role S) (state u)) m in
-            let f = d.0 in
-            let g = d.1 in
-            let k = d.2 in
-            let low : S.0 < most_edges = (let z = p.counts.roles in omega arith) in
-            let states = p.counts.states in
-            record { by = S.0; leads = record { by_low = low; from_low = omega arith; to_low = omega arith; made = m }; follows = (o.roles R S.0 h low).1 l }
 
   -- where all is as the orders of the collection say
   module _ (roles : RoleOrder) (order : ConceptOrder) (o : IsRoleOrder t.role-rules (role_marks roles.above))
@@ -152,7 +126,8 @@ module _ (c : code.Collection) (p : Passes c) where
     -- THEOREM: the rows say what the collection says
     pub rows-right : (ways : List (List StateSet)) (rows : Rows) → IsWays 𝓒.steps roles.above ways → IsStates c.counts most_states rows.states.0
         → IsConcepts c.counts most_concepts rows.concepts.0 → AreTests 𝓒.steps order.below rows.tests → AreEdgesTo rows.edges_to → AreEdges order.below ways rows.edges → RowsOf 𝓒 rows
-    rows-right ways rows w s n tests to edges = rows_of 𝓒 p.counts ok roles.above order.below orders ways w rows s n tests to edges
+    rows-right ways rows w s n tests to edges =
+        rows_of 𝓒 p.counts ok roles.above order.below orders ways w rows (record { states = s; concepts = n; tests = tests; edges_to = to; edges = edges })
 
     -- THEOREM: by the loops of the closed sheet, the ways and the hops, walks tell of each declared ask whether it is yes
     pub paths-right : (rows : Rows) → RowsOf 𝓒 rows → (n : ℕ) → Needs 𝓒 n → (rows' concepts : List ConceptSet) → sheet.Holds (Mark (kind_of rows) n) rows'
@@ -163,7 +138,7 @@ module _ (c : code.Collection) (p : Passes c) where
         tables : TablesOf 𝓒 n r.loops.now.rows r.ways.now
         tables =
             tables-mean c.counts t p.counts ok n concepts rows' (concepts_of order.above concepts q k) (sheet_of rows w n rows' m) r.loops.now.rows r.ways.now loops
-            (ways_mean roles.above order.below orders r.ways.now ways)
+            (ways_mean 𝓒 p.counts ok roles.above order.below orders r.ways.now ways)
 
         each : (ask : Ask) → IsAskDeclared c.counts ask → StridesLead r ask ↔ IsYes 𝓒 ask
         each (Pair a b) d =

@@ -5,7 +5,6 @@ use Rattle.kinds.specs.declared.Answer.{Answer}
 use Rattle.kinds.specs.declared.Answer.TheVariants as answer
 use Rattle.kinds.specs.declared.Individual.{Individual}
 use Rattle.meaning.specs.Lent.{Sound}
-use Rattle.meaning.specs.Layout.{zeros}
 use Rattle.meaning.specs.Outcome.{Outcome, Breaks, bad-count, bad-table, bad-number, equal-ends, bad-ask, contradiction, spent, says-yes, says-no}
 use Rattle.tables.specs.declared.collection.Refusal.{Refusal}
 use Rattle.tables.specs.declared.collection.Refusal.TheVariants.{BadCount, BadTable, BadNumber, EqualEnds}
@@ -15,9 +14,10 @@ use Rattle.tables.specs.declared.ask.Ask.{Ask}
 use Rattle.tables.specs.declared.ask.Ask.TheVariants.{Pair}
 use Rattle.index.specs.declared.lent.Lent.{Lent}
 use Rattle.index.specs.Works.{Passes, HasAreas}
-use Rattle.index.specs.Preparation.{Preparation, preparation, HasSheet, RoundsNeeded, HoldsSheet}
+use Rattle.index.specs.Preparation.{Preparation, preparation, HasSheet}
 use Rattle.tables.specs.Asks.{IsAskDeclared}
 use Rattle.index.specs.Asked.{asked, IsAnswer}
+use Rattle.index.specs.Once.{Left}
 use Rattle.index.specs.Clauses.{called, Refuses}
 
 module _ (l : Lent) (area spare : ℕ) where
@@ -49,13 +49,6 @@ module _ (l : Lent) (area spare : ℕ) {r : Result (Unit {0}) Refusal} {u : Unit
 
   pub has_areas : HasAreas area spare
   has_areas = record { area = all.tables.area; spare = all.tables.spare }
-
--- what preparing p leaves: x in the first area and y in the second, where area and spare were
-pub record Left (p : Preparation) (area spare x y : List ℕ) : Type 0 where
-  pub sheet : HasSheet p → (n : ℕ) → RoundsNeeded p n → HoldsSheet p (min n p.allowance) x
-  pub cleared : HasSheet p → y ≡ zeros
-  pub untouched : (HasSheet p → ⊥) → x ≡ area
-  pub spared : (HasSheet p → ⊥) → y ≡ spare
 
 module _ (p : Preparation) (area spare x y : List ℕ) (left : Left p area spare x y) (e : length area ≡ p.area) (f : length spare ≡ p.spare) where
   has : (ask : Ask) → Sound (asked p ask area spare) → (Breaks (asked p ask area spare) → ⊥) → HasSheet p

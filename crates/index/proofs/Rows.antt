@@ -1,5 +1,5 @@
 -- A row of asks, as far as it is answered; and answered whole, it is asked in turn.
-use Rattle.std.specs.Prelude.{◌≡◌, refl, ◌⊎◌, IfSome, List, ℕ, zero, suc, ◌≤◌, ◌<◌, min, length, slice_get}
+use Rattle.std.specs.Prelude.{◌≡◌, refl, ◌⊎◌, Some, IfSome, List, ℕ, zero, suc, ◌<◌, min, length, slice_get}
 use Rattle.std.proofs.Common.{subst, inl, inr, arith}
 use Rattle.std.proofs.Math.Decide.{dec_lt}
 use Rattle.std.proofs.lemmas.Option.{slice_get-get_or}
@@ -14,13 +14,13 @@ use Rattle.index.specs.Preparation.{Preparation, preparation}
 use Rattle.tables.specs.Asks.{read_ask, IsAskDeclared}
 use Rattle.index.specs.Asked.{asked, IsAnswer}
 use Rattle.index.specs.Clauses.{Refuses}
-use Rattle.index.specs.Row.{ask_count, AnswersEach, AllAlike, SomeDeclared, InTurn, none, next, StandsAt}
-use Rattle.index.proofs.Outcomes.{Left, replied}
+use Rattle.index.specs.Row.{ask_count, AnswersEach, AllAlike, SomeDeclared, InTurn, none, next}
+use Rattle.index.proofs.Outcomes.{replied}
+use Rattle.index.specs.Once.{Left}
 
--- the entries below n are r, and those from n on are as they were
-pub record Filling (r : Answer) (n : ℕ) (old new : List Answer) : Type 0 where
-  pub alike : (k : ℕ) → k < n → IfSome (slice_get new k) (λ q. q ≡ r)
-  pub rest : (k : ℕ) → n ≤ k → slice_get new k ≡ slice_get old k
+-- the answer stands at entry k
+abbrev pub StandsAt : List Answer → ℕ → Answer → Type 0
+StandsAt answers k r = slice_get answers k ≡ Some r
 
 -- an entry that is there
 pub stands : (P : Answer → Type 0) (answers : List Answer) (k : ℕ) → k < length answers → IfSome (slice_get answers k) P → (r : Answer) × StandsAt answers k r × P r

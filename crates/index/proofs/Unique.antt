@@ -19,7 +19,7 @@ use Rattle.tables.specs.declared.ask.Ask.TheVariants.{Pair}
 use Rattle.index.specs.Preparation.{Preparation, collection_in, Fits, HasSheet}
 use Rattle.index.specs.Asked.{asked, IsAnswer}
 use Rattle.index.specs.Row.{InTurn, none, next}
-use Rattle.index.proofs.Outcomes.{Left}
+use Rattle.index.specs.Once.{Left, SameAt}
 
 -- THEOREM: two answers to one ask of one preparation are equal
 pub answer-once : (p : Preparation) (ask : Ask) (r q : Answer) → IsAnswer p ask r → IsAnswer p ask q → r ≡ q
@@ -86,15 +86,9 @@ module _ (p : Preparation) where
       by (no n) = (a.untouched n ∙ sym (b.untouched n), a.spared n ∙ sym (b.spared n))
 
   module _ (t : List ℕ) (tells tells' : ℕ → Answer → Type 0) (area spare : List ℕ) where
-    -- the same answer stands at k in both
-    pub record SameAt (k : ℕ) : Type 0 where
-      pub answer : Answer
-      pub one : tells k answer
-      pub other : tells' k answer
-
     -- THEOREM: two ways to ask a row in turn have the same answers and leave the same areas
     pub in-turn-once : (n : ℕ) {x y u v : List ℕ} → InTurn p t tells area spare n x y → InTurn p t tells' area spare n u v
-        → (x ≡ u) × (y ≡ v) × ((k : ℕ) → k < n → SameAt k)
+        → (x ≡ u) × (y ≡ v) × ((k : ℕ) → k < n → SameAt tells tells' k)
     in-turn-once zero none none = (refl, refl, λ k h. absurd (omega arith))
     in-turn-once (suc n) (next r a h o) (next q b k m) =
         let w = in-turn-once n a b in
@@ -102,6 +96,6 @@ module _ (p : Preparation) where
         let e = outcome-unique _ o m' in
         (e.1, e.2, λ j l. at j (dec_lt j n) l (w.2) (record { answer = r; one = h; other = rw (← e.0) at k }))
       where
-        at : (j : ℕ) → Dec (j < n) → j < suc n → ((j : ℕ) → j < n → SameAt j) → SameAt n → SameAt j
+        at : (j : ℕ) → Dec (j < n) → j < suc n → ((j : ℕ) → j < n → SameAt tells tells' j) → SameAt tells tells' n → SameAt tells tells' j
         at j (yes i) l s z = s j i
         at j (no i) l s z = let f : j ≡ n = omega arith in rw f z

@@ -14,7 +14,7 @@ use Rattle.index.specs.Preparation.{Preparation, collection_in}
 abbrev pub IsYes : Collection → Ask → Type 0
 IsYes 𝓒 (Pair a b) = Yes 𝓒 a b
 
--- the call that asks it, with these areas
+-- the call that asks it of what was prepared, with these areas
 abbrev pub asked : Preparation → Ask → List ℕ → List ℕ → Call
 asked p ask area spare = record {
   counts = p.counts;
@@ -26,15 +26,11 @@ asked p ask area spare = record {
   spare = spare;
 }
 
--- an answer to a call, whatever its areas then hold
-abbrev pub IsOutcome : Call → Answer → Type 0
-IsOutcome c r = (x y : List ℕ) × Outcome c r x y
-
--- the answer r is the outcome of asking, whatever areas of those lengths are lent
+-- the answer r is that of asking, whatever two areas of those lengths are lent and then hold
 abbrev pub IsAnswer : Preparation → Ask → Answer → Type 0
 IsAnswer p ask r =
     (area spare : List ℕ) → length area ≡ p.area → length spare ≡ p.spare
-    → IsOutcome (asked p ask area spare) r
+    → (x y : List ℕ) × Outcome (asked p ask area spare) r x y
 
 -- what was told of an ask is right where it is declared: whether it is yes
 abbrev pub IsTold : Preparation → Ask → Option Bool → Type 0

@@ -8,3 +8,5 @@ pub mod Worked
 pub mod Clauses
 pub mod Worlds
 pub mod Row
+-- What the theorems say.
+pub mod Once

@@ -4,7 +4,7 @@ use Rattle.kinds.specs.declared.Counts.{Counts}
 use Rattle.kinds.specs.Kinds.{CountsFit}
 use Rattle.meaning.specs.Collection.{Collection}
 use Rattle.meaning.specs.Lent.{Tables, collection, TablesFit, NumbersFit, EndsFit}
-use Rattle.meaning.specs.Model as model
+use Rattle.meaning.specs.Model.{Contradiction}
 use Rattle.meaning.specs.Sheet as sheet
 use Rattle.meaning.specs.Lite.{lite}
 use Rattle.meaning.specs.Layout.{Lays}
@@ -19,14 +19,13 @@ pub record Preparation : Type 0 where
   pub area : ℕ
   pub spare : ℕ
 
+-- its parts, in their order
+abbrev pub made_of : Counts → Tables → ℕ → ℕ → ℕ → Preparation
+made_of c t n a s = record { counts = c; tables = t; allowance = n; area = a; spare = s }
+
+-- what a caller lends, with areas of these lengths
 abbrev pub preparation : Lent → ℕ → ℕ → Preparation
-preparation l area spare = record {
-  counts = l.collection.counts;
-  tables = lists l.collection;
-  allowance = l.allowance;
-  area = area;
-  spare = spare;
-}
+preparation l = made_of l.collection.counts (lists l.collection) l.allowance
 
 abbrev pub collection_in : Preparation → Collection
 collection_in p = collection p.counts p.tables
@@ -38,14 +37,10 @@ pub record Fits (p : Preparation) : Type 0 where
   pub numbers : NumbersFit p.counts p.tables
   pub ends : EndsFit p.tables
 
--- the canonical model breaks an exclusion
-abbrev pub IsBroken : Preparation → Type 0
-IsBroken p = model.Contradiction (collection_in p)
-
--- the loop sheet is worked, and stands in the first area
+-- they hold, and the canonical model breaks no exclusion: then its loop sheet is worked out
 pub record HasSheet (p : Preparation) : Type 0 where
   pub fits : Fits p
-  pub sane : IsBroken p → ⊥
+  pub sane : Contradiction (collection_in p) → ⊥
 
 abbrev pub RoundsNeeded : Preparation → ℕ → Type 0
 RoundsNeeded p = sheet.Needed (lite (collection_in p))

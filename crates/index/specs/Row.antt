@@ -1,5 +1,5 @@
 -- A row of asks, and their answers in order.
-use Rattle.std.specs.Prelude.{◌≡◌, Some, IfSome, List, ℕ, suc, ◌/◌, ◌≤◌, ◌<◌, length, slice_get}
+use Rattle.std.specs.Prelude.{◌≡◌, IfSome, List, ℕ, suc, ◌/◌, ◌≤◌, ◌<◌, length, slice_get}
 use Rattle.kinds.specs.declared.Counts.{Counts}
 use Rattle.kinds.specs.declared.Answer.{Answer}
 use Rattle.meaning.specs.Outcome.{Outcome}
@@ -48,7 +48,3 @@ pub data InTurn (p : Preparation) (t : List ℕ) (tells : ℕ → Answer → Typ
   none : InTurn p t tells area spare 0 area spare
   next : {n : ℕ} {x y u v : List ℕ} (r : Answer) → InTurn p t tells area spare n x y → tells n r
       → Outcome (asked p (read_ask t n) x y) r u v → InTurn p t tells area spare (suc n) u v
-
--- it stands at entry k
-abbrev pub StandsAt : List Answer → ℕ → Answer → Type 0
-StandsAt answers k r = slice_get answers k ≡ Some r

@@ -4,8 +4,7 @@ use Rattle.kinds.specs.declared.ConceptName.{ConceptName}
 use Rattle.kinds.specs.declared.Individual.{Individual}
 use Rattle.kinds.specs.declared.SignedRole.{SignedRole}
 use Rattle.meaning.specs.Lent.{Call, collection_of}
-use Rattle.meaning.specs.Worlds.{World, Keeps, Respects, YesIn}
-use Rattle.meaning.proofs.Forced.{model_world}
+use Rattle.meaning.specs.Worlds.{World, IsWorld, YesIn}
 
 -- a world whose things are numbers: the names of each, the signed roles of an ordered pair, and
 -- which thing an individual is
@@ -24,23 +23,18 @@ world_of w = record {
   person = w.person;
 }
 
--- the canonical model of what is lent, as a world
-abbrev pub model_of : Call → World
-model_of c = model_world (collection_of c)
+-- a world that has the facts of a call, keeps its rules, and breaks no exclusion
+abbrev pub IsWorldOf : Call → World → Type 0
+IsWorldOf c = IsWorld (collection_of c)
 
--- it has the facts, keeps the rules, and breaks no exclusion
-pub record IsWorldOf (c : Call) (𝓦 : World) : Type 0 where
-  pub keeps : Keeps (collection_of c) 𝓦
-  pub respects : Respects (collection_of c) 𝓦
-
--- a path of the question leads in it from the first individual to the second
+-- a path of the question leads in a world from the first individual to the second
 abbrev pub HasPath : Call → World → Type 0
 HasPath c 𝓦 = YesIn (collection_of c) 𝓦 c.first c.second
 
--- each world of numbers has one
+-- such a path is forced: each world of numbers has one
 abbrev pub IsForced : Call → Type 0
 IsForced c = (w : Numbered) → IsWorldOf c (world_of w) → HasPath c (world_of w)
 
--- no world of numbers has the facts and keeps all rules
+-- no world of numbers has the facts, keeps the rules and breaks no exclusion
 abbrev pub HasNoWorld : Call → Type 0
 HasNoWorld c = (w : Numbered) → IsWorldOf c (world_of w) → ⊥

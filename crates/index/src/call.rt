@@ -1,16 +1,18 @@
 // One ask of a collection.
-ghost use Rattle.std.specs.Prelude.{◌≡◌, ◌↔◌, ◌≤◌, List, ℕ, length};
+ghost use Rattle.std.specs.Prelude.{◌≡◌, ◌↔◌, ◌≤◌, IfSome, IfNone, List, ℕ};
 ghost use Rattle.kinds.specs.declared.Answer.{Answer};
-ghost use Rattle.kinds.specs.Answer.{answer_number};
-ghost use Rattle.meaning.specs.Lent.{Call, CountsOk, Sound};
+ghost use Rattle.kinds.specs.Answer.{answer_number, sheet_rounds};
+ghost use Rattle.meaning.specs.Lent.{Tables, Call, collection_of, CountsOk, Sound};
 ghost use Rattle.meaning.specs.Layout.{zeros};
 ghost use Rattle.meaning.specs.Outcome.{Outcome, HoldsSheet};
-ghost use Rattle.meaning.proofs.Demands.{Enough, AsModelSays, Grown, allowed, most_rounds};
-ghost use Rattle.index.specs.Asked.{IsOutcome};
+ghost use Rattle.meaning.specs.Demands.{Enough, AsModelSays, GrowsTo, Grown, allowed};
+ghost use Rattle.meaning.specs.Demands.{most_rounds};
+ghost use Rattle.meaning.specs.SameSets.{SameSets};
+ghost use Rattle.meaning.specs.Worlds.{model_world};
 ghost use Rattle.index.specs.Clauses.{called, Refuses, FailsTables, FailsNumbers, FailsEnds, FailsAsk};
 ghost use Rattle.index.specs.Clauses.{IsContradicted, RunsOut, Settles, IsYesAfter, IsNoAfter};
-ghost use Rattle.index.specs.Clauses.{IfSheet, IfNoSheet, SameOutcome, GrowsTo};
-ghost use Rattle.index.specs.Worlds.{IsForced, HasNoWorld, IsWorldOf, HasPath, model_of};
+ghost use Rattle.index.specs.Clauses.{SameOutcome};
+ghost use Rattle.index.specs.Worlds.{IsForced, HasNoWorld, IsWorldOf, HasPath};
 
 use crate::lent::Lent;
 use crate::routes::Routes;
@@ -57,10 +59,10 @@ impl<'a> Lent<'a> {
 
         // After 0, 1 and 3 the first area holds the sheet, the second zeros; else both are untouched.
         ensures sheet { let c = called self.now ask area.old spare.old in
-            IfSheet result (λ n. HoldsSheet c n area.new) }
-        ensures cleared { IfSheet result (λ _. spare.new ≡ zeros) }
-        ensures untouched { IfNoSheet result (area.new ≡ area.old) }
-        ensures spared { IfNoSheet result (spare.new ≡ spare.old) }
+            IfSome (sheet_rounds result) (λ n. HoldsSheet c n area.new) }
+        ensures cleared { IfSome (sheet_rounds result) (λ _. spare.new ≡ zeros) }
+        ensures untouched { IfNone (sheet_rounds result) (area.new ≡ area.old) }
+        ensures spared { IfNone (sheet_rounds result) (spare.new ≡ spare.old) }
 
         // One of the listed answers; nothing else is an outcome of this call.
         ensures listed { answer_number result ≤ 8 }
@@ -85,13 +87,20 @@ impl<'a> Lent<'a> {
 
         // After 0, 1 and 3 the canonical model is such a world; after no it has no path.
         ensures a_world { let c = called self.now ask area.old spare.old in
-            IfSheet result (λ _. IsWorldOf c (model_of c)) }
+            IfSome (sheet_rounds result) (λ _. IsWorldOf c (model_world (collection_of c))) }
         ensures not_forced { let c = called self.now ask area.old spare.old in
-            (n : ℕ) → result ≡ Answer.No n → ¬ HasPath c (model_of c) }
+            (n : ℕ) → result ≡ Answer.No n → ¬ HasPath c (model_world (collection_of c)) }
+
+        // A repeated record means nothing more, and the order of the records means nothing.
+        ensures same_sets { let c = called self.now ask area.old spare.old in
+            (t : Tables) (r : Answer) (x y : List ℕ) → SameSets c t
+            → Outcome (record c { tables = t }) r x y
+            → SameOutcome r x y result area.new spare.new }
 
         // Growth: asked of a larger collection; and at a larger allowance.
         ensures grows { let c = called self.now ask area.old spare.old in
-            (d : Call) (r : Answer) → GrowsTo c d → IsOutcome d r → Grown result r }
+            (d : Call) (r : Answer) (x y : List ℕ) → GrowsTo c d → Outcome d r x y
+            → Sound c → Enough c → Sound d → Enough d → Grown result r }
         ensures returns { let c = called self.now ask area.old spare.old in
             (n : ℕ) → c.allowance ≤ n → answer_number result ≤ 2
             → Outcome (allowed c n) result area.new spare.new }

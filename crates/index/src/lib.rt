@@ -7,6 +7,7 @@ mod lent;
 mod prepared;
 mod routes;
 mod row;
+pub mod theorems;
 mod work;
 
 pub use lent::Lent;

@@ -1,8 +1,8 @@
 // A row of asks of a collection, answered in one call.
-ghost use Rattle.std.specs.Prelude.{◌≡◌, ◌↔◌, ◌+◌, IsTrue, length, min};
+ghost use Rattle.std.specs.Prelude.{◌≡◌, ◌↔◌, ◌+◌, IsTrue, Some, length, min, slice_get};
 ghost use Rattle.index.specs.Preparation.{preparation};
 ghost use Rattle.index.specs.Row.{ask_count, AnswersEach, AllAlike, KeepsRest};
-ghost use Rattle.index.specs.Row.{SomeDeclared, InTurn, StandsAt};
+ghost use Rattle.index.specs.Row.{SomeDeclared, InTurn};
 
 use crate::call::undeclared;
 use crate::lent::Lent;
@@ -33,9 +33,7 @@ fn answer_alike(asks: &Table<Ask>, answers: &mut [Answer], answer: Answer)
     ensures rest { KeepsRest asks.now.numbers.now answers.old answers.new }
 {
     let n = answers.len().min(asks.len());
-    for k in 0..n {
-        answers[k] = answer;
-    }
+    answers[..n].fill(answer);
 }
 
 impl<'a> Prepared<'a> {
@@ -80,7 +78,8 @@ impl<'a> Lent<'a> {
         ensures in_turn { let p = preparation self.now (length area.old) (length spare.old) in
             let t = asks.now.numbers.now in
             let n = min (ask_count t) (length answers.old) in
-            InTurn p t (StandsAt answers.new) area.old spare.old n area.new spare.new }
+            InTurn p t (λ k r. slice_get answers.new k ≡ Some r) area.old spare.old n
+            area.new spare.new }
         ensures rest { KeepsRest asks.now.numbers.now answers.old answers.new }
     {
         let n = answers.len().min(asks.len());

@@ -1,9 +1,10 @@
 -- The number and the count of each answer, as docs/RULES.md numbers them (section 7).
-use Rattle.std.specs.Prelude.{ℕ, ◌≤◌}
+use Rattle.std.specs.Prelude.{ℕ, ◌≤◌, Option, None, Some, unwrap_or}
 use Rattle.std.proofs.Common.{arith}
 use Rattle.kinds.specs.declared.Answer.{Answer}
 use Rattle.kinds.specs.declared.Answer.TheVariants.{No, Yes, Contradiction, AllowanceSpent, BadCount, BadTable, BadNumber, EqualEnds, BadAsk}
 
+-- the number returned
 abbrev pub answer_number : Answer → ℕ
 answer_number (No rounds) = 0
 answer_number (Yes rounds) = 1
@@ -15,16 +16,16 @@ answer_number BadNumber = 6
 answer_number EqualEnds = 7
 answer_number BadAsk = 8
 
+-- the rounds of the sheet that an answer leaves: those needed, or those allowed; after all else none
+abbrev pub sheet_rounds : Answer → Option ℕ
+sheet_rounds (No rounds) = Some rounds
+sheet_rounds (Yes rounds) = Some rounds
+sheet_rounds (AllowanceSpent allowance) = Some allowance
+sheet_rounds other = None
+
+-- the count returned
 abbrev pub answer_count : Answer → ℕ
-answer_count (No rounds) = rounds
-answer_count (Yes rounds) = rounds
-answer_count Contradiction = 0
-answer_count (AllowanceSpent allowance) = allowance
-answer_count BadCount = 0
-answer_count BadTable = 0
-answer_count BadNumber = 0
-answer_count EqualEnds = 0
-answer_count BadAsk = 0
+answer_count r = unwrap_or (sheet_rounds r) 0
 
 -- every answer has one of the numbers 0 to 8
 pub number-listed : (r : Answer) → answer_number r ≤ 8

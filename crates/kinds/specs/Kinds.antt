@@ -1,5 +1,5 @@
 -- Numbers of four kinds, signed roles and basic concepts, as docs/RULES.md has them (section 2).
-use Rattle.std.specs.Prelude.{ℕ, ◌+◌, ◌-◌, ◌*◌, ◌%◌, ◌^◌, ◌≤◌, ◌<◌, ◌≡◌, refl, Bool, true, false, ltb, nat_lt}
+use Rattle.std.specs.Prelude.{ℕ, ◌+◌, ◌-◌, ◌*◌, ◌%◌, ◌^◌, ◌≤◌, ◌<◌, ◌≡◌, refl, Bool, true, false, ltb, nat_lt, if◌then◌else◌}
 use Rattle.std.proofs.Common.{ap, arith, lt-ltb, le-ltb, ltb-false}
 use Rattle.kinds.specs.declared.ConceptName.{ConceptName}
 use Rattle.kinds.specs.declared.RoleName.{RoleName}
@@ -50,7 +50,7 @@ forward r = signed (2 * r.0)
 abbrev pub backward : RoleName → SignedRole
 backward r = signed (2 * r.0 + 1)
 
--- the number of the same role in the other direction
+-- the number of the same role in the other direction: one more if it is even, else one less
 abbrev pub flip : ℕ → ℕ
 flip r = r + 1 - 2 * (r % 2)
 
@@ -97,13 +97,9 @@ unfoldable pub number_of : Concept → ℕ
 number_of (Name A) = A.0
 number_of (Exists R) = base + R.0
 
-abbrev pub concept_by : Bool → ℕ → Concept
-concept_by true n = Name (concept_name n)
-concept_by false n = Exists (signed (n - base))
-
 -- the basic concept of a number
 unfoldable pub concept_of : ℕ → Concept
-concept_of n = concept_by (nat_lt n base) n
+concept_of n = if nat_lt n base then Name (concept_name n) else Exists (signed (n - base))
 
 -- a number is declared when it is below its count; a signed role when its role is
 abbrev pub NameDeclared : Counts → ConceptName → Type 0
@@ -144,7 +140,8 @@ pub number-concept : (n : ℕ) → number_of (concept_of n) ≡ n
 unfolding number_of concept_of
 number-concept n = by (ltb n base) refl
   where
-    by : (b : Bool) → ltb n base ≡ b → number_of (concept_by b n) ≡ n
+    by : (b : Bool) → ltb n base ≡ b
+        → number_of (if b then Name (concept_name n) else Exists (signed (n - base))) ≡ n
     by true e = refl
     by false e = omega (arith, ltb-false n base e)
 

@@ -1,32 +1,29 @@
 -- What a call gives is fixed by what is passed.
-use Rattle.std.specs.Prelude.{◌≡◌, List, ℕ, length}
+use Rattle.std.specs.Prelude.{◌≡◌, List, ℕ}
 use Rattle.std.proofs.Common.{ap, sym, ◌∙◌, ext_get_or, arith}
 use Rattle.std.proofs.lemmas.Option.{get_or_from_slice_get}
-use Rattle.kinds.specs.declared.Answer.{Answer}
 use Rattle.kinds.specs.Answer.{answer_number, answer_count}
 use Rattle.meaning.specs.Lent.{Call}
-use Rattle.meaning.specs.Outcome.{Outcome}
 use Rattle.meaning.proofs.OutcomeLaws.{outcome-unique}
 use Rattle.index.specs.Preparation.{Preparation}
-use Rattle.index.specs.Row.{ask_count, InTurn}
+use Rattle.index.specs.Row.{ask_count}
 use Rattle.index.proofs.Unique.{in-turn-once}
-use Rattle.lampsaffron.specs.Boundary.{Gives, RowFits, Tells}
-
-pub gives : (c : Call) (r : Answer) (number count : ℕ) (x y : List ℕ) → Outcome c r x y → number ≡ answer_number r → count ≡ answer_count r → Gives c number count x y
-gives c r number count x y o n k = record { answer = r; outcome = o; number_is = n; count_is = k }
+use Rattle.lampsaffron.specs.Boundary.{Gives, Tells}
+use Rattle.lampsaffron.specs.Row.{TellsRow}
 
 -- THEOREM: number, count and both areas are fixed by the call
-pub gives-once : (c : Call) {m n j k : ℕ} {x y u v : List ℕ} → Gives c m j x y → Gives c n k u v → (m ≡ n) × (j ≡ k) × (x ≡ u) × (y ≡ v)
-gives-once c a b =
+pub gives-once : (c : Call) (m n j k : ℕ) (x y u v : List ℕ) → Gives c m j x y → Gives c n k u v → (m ≡ n) × (j ≡ k) × (x ≡ u) × (y ≡ v)
+gives-once c m n j k x y u v a b =
     let e = outcome-unique c a.outcome b.outcome in
     (a.number_is ∙ ap answer_number e.0 ∙ sym b.number_is, a.count_is ∙ ap answer_count e.0 ∙ sym b.count_is, e.1, e.2)
 
 -- THEOREM: each number and count of a row, and both areas, are fixed by the call
-pub row-once : (p : Preparation) (t area spare numbers counts numbers' counts' : List ℕ) {x y u v : List ℕ} → RowFits t (length numbers) (length counts)
-    → RowFits t (length numbers') (length counts') → InTurn p t (Tells numbers counts) area spare (ask_count t) x y
-    → InTurn p t (Tells numbers' counts') area spare (ask_count t) u v → (numbers ≡ numbers') × (counts ≡ counts') × (x ≡ u) × (y ≡ v)
-row-once p t area spare numbers counts numbers' counts' f g a b =
-    let w = in-turn-once p t (Tells numbers counts) (Tells numbers' counts') area spare (ask_count t) a b in (
+pub row-once : (p : Preparation) (t area spare numbers numbers' counts counts' x y u v : List ℕ) → TellsRow p t area spare numbers counts x y
+    → TellsRow p t area spare numbers' counts' u v → (numbers ≡ numbers') × (counts ≡ counts') × (x ≡ u) × (y ≡ v)
+row-once p t area spare numbers numbers' counts counts' x y u v a b =
+    let f = a.fits in
+    let g = b.fits in
+    let w = in-turn-once p t (Tells numbers counts) (Tells numbers' counts') area spare (ask_count t) a.in_turn b.in_turn in (
       ext_get_or 0 numbers numbers' (f.number_each ∙ sym g.number_each) (λ k h.
           let s = w.2 k (omega (arith, h, f.number_each)) in
           get_or_from_slice_get numbers k _ 0 s.one.number ∙ sym (get_or_from_slice_get numbers' k _ 0 s.other.number)),

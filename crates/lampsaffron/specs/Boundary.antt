@@ -2,25 +2,18 @@
 use Rattle.std.specs.Prelude.{◌≡◌, List, ℕ, ◌<◌, Some, IfSome, length, slice_get}
 use Rattle.kinds.specs.declared.Answer.{Answer}
 use Rattle.kinds.specs.declared.Counts.{Counts}
-use Rattle.kinds.specs.Kinds.{individual, state}
+use Rattle.kinds.specs.Kinds.{state}
 use Rattle.kinds.specs.Answer.{answer_number, answer_count}
 use Rattle.meaning.specs.Lent.{Tables, Call, Whole}
 use Rattle.meaning.specs.Outcome.{Outcome}
-use Rattle.index.specs.Preparation.{Preparation}
 use Rattle.tables.specs.Asks.{ask_width}
 use Rattle.index.specs.Row.{ask_count}
 
--- the five counts as a call has them
+-- the five counts, as they are passed
 abbrev pub counted : ℕ → ℕ → ℕ → ℕ → ℕ → Counts
-counted names roles individuals states start = record {
-  names = names;
-  roles = roles;
-  individuals = individuals;
-  states = states;
-  start = state start;
-}
+counted n r i s t = record { names = n; roles = r; individuals = i; states = s; start = state t }
 
--- the eight tables as a call has them
+-- the eight tables, as they are passed
 abbrev pub lent : List ℕ → List ℕ → List ℕ → List ℕ → List ℕ → List ℕ → List ℕ → List ℕ → Tables
 lent cr ce rr re cf rf st fi = record {
   concept-rules = cr;
@@ -31,28 +24,6 @@ lent cr ce rr re cf rf st fi = record {
   role-facts = rf;
   steps = st;
   finals = fi;
-}
-
--- a pair asked of them
-abbrev pub calls : Counts → Tables → ℕ → List ℕ → List ℕ → ℕ → ℕ → Call
-calls counts tables allowance area spare first second = record {
-  counts = counts;
-  tables = tables;
-  first = individual first;
-  second = individual second;
-  allowance = allowance;
-  area = area;
-  spare = spare;
-}
-
--- all that asks of a row share
-abbrev pub made_of : Counts → Tables → ℕ → List ℕ → List ℕ → Preparation
-made_of counts tables allowance area spare = record {
-  counts = counts;
-  tables = tables;
-  allowance = allowance;
-  area = length area;
-  spare = length spare;
 }
 
 -- the outcome of a call, its answer as number and count
@@ -66,7 +37,7 @@ pub record Gives (c : Call) (number count : ℕ) (x y : List ℕ) : Type 0 where
 abbrev pub most_pairs : ℕ
 most_pairs = 256
 
--- whole pairs, not too many, and an entry for each in both
+-- whole pairs, not too many, and an entry for each in both rows that the answers are told in
 pub record RowFits (pairs : List ℕ) (numbers counts : ℕ) : Type 0 where
   pub whole : Whole ask_width most_pairs pairs
   pub number_each : numbers ≡ ask_count pairs

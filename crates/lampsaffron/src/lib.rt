@@ -5,9 +5,12 @@
 ghost use Rattle.std.specs.Prelude.{◌≡◌, ◌↔◌, IsTrue, length};
 ghost use Rattle.std.specs.Bool.{OnTrue, OnFalse};
 ghost use Rattle.kinds.specs.Kinds.{individual};
+ghost use Rattle.index.specs.Asked.{asked};
+ghost use Rattle.index.specs.Preparation.{made_of};
 ghost use Rattle.index.specs.Row.{ask_count, InTurn};
-ghost use Rattle.lampsaffron.specs.Boundary.{counted, lent, calls, made_of};
-ghost use Rattle.lampsaffron.specs.Boundary.{Gives, RowFits, Tells, TellsEach};
+ghost use Rattle.lampsaffron.specs.Boundary.{counted, lent, Gives, RowFits, Tells, TellsEach};
+
+pub mod theorems;
 
 use index::Lent;
 use kinds::{Answer, Counts, Individual, State};
@@ -42,7 +45,9 @@ pub extern "C" fn lampsaffron_ask(
     ensures { let counts = counted names roles individuals states start in
         let tables = lent concept_rules.now concept_exclusions.now role_rules.now
         role_exclusions.now concept_facts.now role_facts.now steps.now finals.now in
-        let c = calls counts tables allowance area.old spare.old first second in
+        let p = made_of counts tables allowance (length area.old) (length spare.old) in
+        let ask = Ask.Pair (individual first) (individual second) in
+        let c = asked p ask area.old spare.old in
         Gives c result count.new area.new spare.new }
 {
     let counts = Counts {
@@ -122,7 +127,7 @@ pub extern "C" fn lampsaffron_ask_all(
     ensures in_turn { let declared = counted names roles individuals states start in
         let tables = lent concept_rules.now concept_exclusions.now role_rules.now
         role_exclusions.now concept_facts.now role_facts.now steps.now finals.now in
-        let p = made_of declared tables allowance area.old spare.old in
+        let p = made_of declared tables allowance (length area.old) (length spare.old) in
         let told = Tells numbers.new counts.new in
         let n = ask_count pairs.now in
         OnTrue result (InTurn p pairs.now told area.old spare.old n area.new spare.new) }

@@ -11,7 +11,7 @@ use Rattle.kinds.specs.declared.Answer.TheVariants.{No, Yes, Contradiction, Allo
 use Rattle.kinds.specs.Kinds.{most_names, most_roles, most_individuals, most_states}
 use Rattle.laws.specs.Search.{and, every, pick}
 use Rattle.meaning.specs.Collection.{Collection, Letter, role, test, Step, step}
-use Rattle.meaning.specs.Lent.{Tables, Call, collection, collection_of, kinds}
+use Rattle.meaning.specs.Lent.{Tables, Call, collection, collection_of, records, field}
 use Rattle.meaning.specs.Lent.{rule_width, concept_fact_width, role_fact_width, step_width, final_width, most_concept_rules, most_concept_exclusions, most_role_rules, most_role_exclusions, most_concept_facts, most_role_facts, most_steps, most_finals}
 use Rattle.meaning.specs.Layout.{area_length, zeros}
 use Rattle.meaning.proofs.LayoutLaws.{state_declared, concept_declared, image}
@@ -94,7 +94,7 @@ abbrev pub kind_ok : ℕ → Bool
 kind_ok k = leb k 1
 
 unfoldable pub numbers_ok : Counts → Tables → Bool
-numbers_ok c t = let b = every (kinds t.steps) kind_ok in and (numbers_declared (collection c t)) b
+numbers_ok c t = let b = every (records 4 (λ t k. field 4 t 0 k) t.steps) kind_ok in and (numbers_declared (collection c t)) b
 
 abbrev pub ends_differ : RoleName × Individual × Individual → Bool
 ends_differ f = not (same_individual f.1 f.2)

@@ -13,7 +13,7 @@ use Rattle.meaning.specs.Collection.{Collection, Letter, role, test, Step, step,
 use Rattle.meaning.specs.Sheet.{Markable, Mark}
 use Rattle.meaning.proofs.SheetLaws.{mark-markable}
 use Rattle.meaning.specs.Lite.{lite}
-use Rattle.meaning.specs.Lent.{Tables, Call, collection_of, kinds, Whole, ShapesOk, TablesOk, NumbersOk, EndsOk, EndsDiffer, AskOk, rule_width, concept_fact_width, role_fact_width, step_width, final_width, most_concept_rules, most_concept_exclusions, most_role_rules, most_role_exclusions, most_concept_facts, most_role_facts, most_steps, most_finals}
+use Rattle.meaning.specs.Lent.{Tables, Call, collection_of, records, field, Whole, ShapesOk, TablesOk, NumbersOk, EndsOk, EndsDiffer, AskOk, rule_width, concept_fact_width, role_fact_width, step_width, final_width, most_concept_rules, most_concept_exclusions, most_role_rules, most_role_exclusions, most_concept_facts, most_role_facts, most_steps, most_finals}
 use Rattle.meaning.specs.Layout.{area_length, Lays}
 use Rattle.meaning.proofs.LayoutLaws.{state_declared, concept_declared, concept_declared-in, concept_declared-out, image, image-lays}
 use Rattle.meaning.proofs.Declared.{state-in, state-out, concept-in, concept-out}
@@ -127,7 +127,7 @@ declared-test 𝓒 =
 pub numbers-test : (c : Call) → IsTrue (numbers_ok c.counts c.tables) ↔ (NumbersOk c)
 unfolding numbers_ok
 numbers-test c =
-    test-same (test-and (declared-test (collection_of c)) (test-every (kinds c.tables.steps) kind_ok (λ k. k ≤ 1) (λ k. test-most k 1)))
+    test-same (test-and (declared-test (collection_of c)) (test-every (records 4 (λ t k. field 4 t 0 k) c.tables.steps) kind_ok (λ k. k ≤ 1) (λ k. test-most k 1)))
     (λ h. record { declared = h.0; step-kinds = h.1 })
     (λ h. (h.declared, h.step-kinds))
 

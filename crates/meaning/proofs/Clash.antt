@@ -4,30 +4,17 @@ use Rattle.std.proofs.Common.{ap, arith}
 use Rattle.kinds.specs.declared.Individual.{Individual}
 use Rattle.kinds.specs.declared.SignedRole.{SignedRole}
 use Rattle.kinds.specs.declared.Concept.{Concept}
-use Rattle.kinds.specs.declared.Concept.TheVariants.{Exists}
 use Rattle.kinds.specs.Kinds.{inverse, signed, IndividualDeclared, ConceptDeclared}
 use Rattle.laws.specs.Member.{◌∈◌}
 use Rattle.meaning.specs.Collection.{Collection, NumbersDeclared}
-use Rattle.meaning.specs.Orders.{RoleLe, ConceptLe}
+use Rattle.meaning.specs.Orders.{RoleLe}
 use Rattle.meaning.specs.Tree.{root, ◌▹◌}
-use Rattle.meaning.specs.Model.{Belongs, ModelEdge, fact, child, parent, individuals, Element, Typed, named, first, second, IndividualHas, FactEdge, Contradiction, at-element, at_pair}
+use Rattle.meaning.specs.Model.{Belongs, ModelEdge, fact, child, parent, individuals, Element, Typed, named, first, second, FactEdge, Contradiction, at-element, at_pair}
+use Rattle.meaning.specs.Clash.{Alive, sprouts, grows, Clash, individual-clash, unnamed-clash, fact-clash, down-clash, up-clash}
 use Rattle.meaning.proofs.ModelLaws.{born}
 
 module _ (𝓒 : Collection) where
-  -- a signed role by which some unnamed element ends
-  pub data Alive : SignedRole → Type 0 where
-    sprouts : (a : Individual) (R : SignedRole) → IndividualHas 𝓒 a (Exists R) → Alive R
-    grows : (R S : SignedRole) → Alive R → ConceptLe 𝓒 (Exists (inverse R)) (Exists S) → Alive S
-
-  pub data Clash : Type 0 where
-    individual-clash : (a : Individual) (C D : Concept) → (C, D) ∈ 𝓒.concept-exclusions → IndividualHas 𝓒 a C → IndividualHas 𝓒 a D → Clash
-    unnamed-clash : (R : SignedRole) (C D : Concept) → (C, D) ∈ 𝓒.concept-exclusions → Alive R → ConceptLe 𝓒 (Exists (inverse R)) C
-        → ConceptLe 𝓒 (Exists (inverse R)) D → Clash
-    fact-clash : (a b : Individual) (R S : SignedRole) → (R, S) ∈ 𝓒.role-exclusions → FactEdge 𝓒 a R b → FactEdge 𝓒 a S b → Clash
-    down-clash : (Q R S : SignedRole) → (R, S) ∈ 𝓒.role-exclusions → Alive Q → RoleLe 𝓒 Q R → RoleLe 𝓒 Q S → Clash
-    up-clash : (Q R S : SignedRole) → (inverse R, inverse S) ∈ 𝓒.role-exclusions → Alive Q → RoleLe 𝓒 Q R → RoleLe 𝓒 Q S → Clash
-
-  living : (x : Element 𝓒) (R : SignedRole) → Belongs 𝓒 (individuals 𝓒) (x ▹ R) → Alive R
+  living : (x : Element 𝓒) (R : SignedRole) → Belongs 𝓒 (individuals 𝓒) (x ▹ R) → Alive 𝓒 R
   living (root a) R b = sprouts a R (born 𝓒 (individuals 𝓒) b).1
   living (x ▹ Q) R b = grows Q R (living x Q (born 𝓒 (individuals 𝓒) b).0) (born 𝓒 (individuals 𝓒) b).1
 
@@ -36,7 +23,7 @@ module _ (𝓒 : Collection) where
   depth (root a) = zero
   depth (x ▹ R) = suc (depth x)
 
-  abbrev last : Element 𝓒 → SignedRole
+  abbrev pub last : Element 𝓒 → SignedRole
   last (root a) = signed 0
   last (x ▹ R) = R
 
@@ -58,7 +45,7 @@ module _ (𝓒 : Collection) where
   flat-role (child c l) a b e g = absurd (omega (arith, ap depth g))
   flat-role (parent c l) a b e g = absurd (omega (arith, ap depth e))
 
-  find-pair : {x y : Element 𝓒} {R S : SignedRole} → (R, S) ∈ 𝓒.role-exclusions → ModelEdge 𝓒 (individuals 𝓒) x R y → ModelEdge 𝓒 (individuals 𝓒) x S y → Clash
+  find-pair : {x y : Element 𝓒} {R S : SignedRole} → (R, S) ∈ 𝓒.role-exclusions → ModelEdge 𝓒 (individuals 𝓒) x R y → ModelEdge 𝓒 (individuals 𝓒) x S y → Clash 𝓒
   find-pair m (fact {a = a} {b = b} f) g = fact-clash a b _ _ m f (flat-role g a b refl refl)
   find-pair {S = S} m (child {x = x} {R = Q} {S = R} c l) g = down-clash Q R S m (living x Q c) l (down-role g Q refl)
   find-pair m (parent {x = x} {R = Q} {S = R} c l) g =
@@ -66,7 +53,7 @@ module _ (𝓒 : Collection) where
       up-clash Q R w.0 (rw w.1 m) (living x Q c) l w.2
 
   -- THEOREM: a contradiction is a clash
-  pub find : Contradiction 𝓒 → Clash
+  pub find : Contradiction 𝓒 → Clash 𝓒
   find (at-element (root a) C D m b h k) = individual-clash a C D m h k
   find (at-element (x ▹ R) C D m b h k) = unnamed-clash R C D m (living x R b) h k
   find (at_pair x y R S m g h) = find-pair m g h

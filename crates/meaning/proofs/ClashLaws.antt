@@ -16,7 +16,8 @@ use Rattle.meaning.specs.Orders.{RoleLe, ConceptLe}
 use Rattle.meaning.specs.Lite.{signed_roles}
 use Rattle.meaning.specs.Model.{IndividualHas, Contradiction}
 use Rattle.meaning.proofs.ModelWalk.{edge-declared}
-use Rattle.meaning.proofs.Clash.{Alive, sprouts, grows, Clash, individual-clash, unnamed-clash, fact-clash, down-clash, up-clash, typed-declared}
+use Rattle.meaning.specs.Clash.{Alive, sprouts, grows, Clash, individual-clash, unnamed-clash, fact-clash, down-clash, up-clash}
+use Rattle.meaning.proofs.Clash.{typed-declared}
 use Rattle.meaning.proofs.ClashShown.{contradiction↔clash}
 use Rattle.meaning.proofs.Declared.{signed-in, signed-out, concept-declared}
 use Rattle.meaning.proofs.LiteTests.{same_role, role_same, role_le, role_le-in, role_le-out, concept_le, concept_le-in, concept_le-out}

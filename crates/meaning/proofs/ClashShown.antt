@@ -8,8 +8,10 @@ use Rattle.meaning.specs.Collection.{Collection, NumbersDeclared}
 use Rattle.meaning.specs.Orders.{ConceptLe}
 use Rattle.meaning.specs.Tree.{root, ◌▹◌}
 use Rattle.meaning.specs.Model.{Has, Belongs, bare, grown, fact, child, parent, individuals, Element, Contradiction, at-element, at_pair}
+use Rattle.meaning.specs.LawsOfModel.{NothingExcluded}
 use Rattle.meaning.proofs.ModelLaws.{has_above}
-use Rattle.meaning.proofs.Clash.{Alive, sprouts, grows, Clash, individual-clash, unnamed-clash, fact-clash, down-clash, up-clash, find, typed-declared}
+use Rattle.meaning.specs.Clash.{Alive, sprouts, grows, Clash, individual-clash, unnamed-clash, fact-clash, down-clash, up-clash}
+use Rattle.meaning.proofs.Clash.{find, typed-declared}
 
 module _ (𝓒 : Collection) where
   module _ (ok : NumbersDeclared 𝓒) where
@@ -39,3 +41,8 @@ module _ (𝓒 : Collection) where
   pub empty-concept : (x : Element 𝓒) (C D E : Concept) → ConceptLe 𝓒 C D → ConceptLe 𝓒 C E → (D, E) ∈ 𝓒.concept-exclusions
       → Belongs 𝓒 (individuals 𝓒) x → Has 𝓒 (individuals 𝓒) x C → Contradiction 𝓒
   empty-concept x C D E d e m b h = at-element x D E m b (has_above 𝓒 x h d) (has_above 𝓒 x h e)
+
+  -- THEOREM: where nobody has what is excluded there is no contradiction
+  pub nothing-excluded : NothingExcluded 𝓒 → Contradiction 𝓒 → ⊥
+  nothing-excluded n (at-element x C D m b h k) = n.concepts C D m x b h k
+  nothing-excluded n (at_pair x y R S m e f) = n.roles R S m x y e f

@@ -1,19 +1,19 @@
--- What is demanded of a library call (docs/RULES.md, section 9), about its outcome.
-use Rattle.std.specs.Prelude.{◌≡◌, refl, ◌↔◌, ◌⊎◌, List, ℕ, ◌+◌, ◌*◌, ◌-◌, ◌≤◌, ◌<◌}
+-- What is demanded of a library call (docs/RULES.md, section 9) holds of its outcome.
+use Rattle.std.specs.Prelude.{◌≡◌, refl, ◌↔◌, List, ℕ, ◌+◌, ◌*◌, ◌-◌, ◌≤◌, ◌<◌}
 use Rattle.std.proofs.Common.{inl, inr, mul-le-mul, arith}
 use Rattle.kinds.specs.declared.State.{State}
 use Rattle.kinds.specs.declared.Concept.{Concept}
 use Rattle.kinds.specs.declared.Answer.{Answer}
 use Rattle.kinds.specs.declared.Counts.{Counts}
 use Rattle.kinds.specs.Kinds.{CountsFit, StateDeclared, ConceptDeclared}
-use Rattle.kinds.specs.Answer.{answer_number, number-listed}
+use Rattle.kinds.specs.Answer.{answer_number}
 use Rattle.meaning.specs.Collection.{Collection, WellFormed}
 use Rattle.meaning.specs.Sheet.{Mark, Needed}
 use Rattle.meaning.proofs.SheetLaws.{rounds-unique, mark→loop, loop→mark}
 use Rattle.meaning.specs.Tree.{root}
 use Rattle.meaning.specs.Lite.{lite}
 use Rattle.meaning.specs.Model.{tree_of}
-use Rattle.meaning.specs.Question.{PathIn, SpellsWord}
+use Rattle.meaning.specs.Question.{PathIn}
 use Rattle.meaning.proofs.QuestionLaws.{yes↔word}
 use Rattle.meaning.proofs.ModelWalk.{loop↔tree_of}
 use Rattle.meaning.proofs.Declared.{concepts-count, states-count, state-in, concept-in, lite-sane}
@@ -21,14 +21,9 @@ use Rattle.meaning.proofs.Tests.{rounds-bound}
 use Rattle.meaning.proofs.LiteTests.{lite_tests, lite-decides}
 use Rattle.meaning.specs.Lent.{Call, collection_of, Sound}
 use Rattle.meaning.specs.Outcome.{Outcome, bad-count, bad-table, bad-number, equal-ends, bad-ask, contradiction, spent, says-yes, says-no, Breaks, Reached, RoundsNeeded}
-use Rattle.meaning.proofs.OutcomeExists.{sound-well-formed, outcome-exists}
-use Rattle.meaning.proofs.OutcomeLaws.{outcome-unique}
-use Rattle.meaning.proofs.Calculate.{answer, area_after, spare_after}
-use Rattle.meaning.proofs.Larger.{Larger, yes-grows, contradiction-grows}
-
--- concepts × states × (states − 1)
-abbrev pub most_rounds : Counts → ℕ
-most_rounds c = (c.names + 2 * c.roles) * c.states * (c.states - 1)
+use Rattle.meaning.proofs.OutcomeExists.{sound-well-formed}
+use Rattle.meaning.specs.Demands.{most_rounds, Enough, AsModelSays, Larger, Grown, allowed}
+use Rattle.meaning.proofs.Larger.{yes-grows, contradiction-grows}
 
 -- never more than 30,720
 pub most-rounds : (c : Counts) → CountsFit c → most_rounds c ≤ 30720
@@ -53,30 +48,11 @@ module _ (𝓒 : Collection) (ok : WellFormed 𝓒) where
     λ p. loop→mark (lite 𝓒) (lite-sane 𝓒 ok.numbers) n needed.holds ((loop↔tree_of 𝓒 B s t).1 p) (concept-in 𝓒.counts B d) (state-in 𝓒.counts s h),
   )
 
--- THEOREM: every input gets one of the listed answers, and only one; what it leaves in both areas is fixed
-pub every-input-answered : (c : Call)
-    → (r : Answer) × (x y : List ℕ) × Outcome c r x y × (answer_number r ≤ 8) × ((r' : Answer) (x' y' : List ℕ) → Outcome c r' x' y' → (r' ≡ r) × (x' ≡ x) × (y' ≡ y))
-every-input-answered c = (answer c, area_after c (answer c), spare_after c (answer c), outcome-exists c, number-listed (answer c), λ r' x' y' o. outcome-unique c o (outcome-exists c))
-
--- with enough rounds
-abbrev pub Enough : Call → Type 0
-Enough c = (n : ℕ) × RoundsNeeded c n × (n ≤ c.allowance)
-
--- a path in the model from the first individual to the second spells a word of the question
-abbrev pub Spelled : Call → Type 0
-Spelled c = SpellsWord (collection_of c) c.first c.second
-
 -- yes, no and contradiction as the canonical model says
 pub data Verdict (c : Call) (r : Answer) : Type 0 where
   is-contradiction : answer_number r ≡ 2 → Breaks c → Verdict c r
   is-yes : answer_number r ≡ 1 → (Breaks c → ⊥) → Reached c → Verdict c r
   is-no : answer_number r ≡ 0 → (Breaks c → ⊥) → (Reached c → ⊥) → Verdict c r
-
--- what a well-formed call answers with enough rounds
-pub record AsModelSays (c : Call) (r : Answer) : Type 0 where
-  pub contradiction : (answer_number r ≡ 2) ↔ Breaks c
-  pub yes : (Breaks c → ⊥) → (answer_number r ≡ 1) ↔ Spelled c
-  pub no : (Breaks c → ⊥) → (answer_number r ≡ 0) ↔ (Spelled c → ⊥)
 
 module _ (c : Call) where
   -- an allowance of concepts × states × (states − 1) is always enough
@@ -121,13 +97,6 @@ module _ (c : Call) where
   pub says-what-the-model-says : {r : Answer} {x y : List ℕ} → Sound c → Enough c → Outcome c r x y → AsModelSays c r
   says-what-the-model-says s e o = decided (verdict s e o)
 
--- an answer r, and the answer q that a larger collection gives: a yes is kept or turned into contradiction, a contradiction
--- is kept, and a no was a no before
-pub record Grown (r q : Answer) : Type 0 where
-  pub yes-kept : answer_number r ≡ 1 → (answer_number q ≡ 1) ⊎ (answer_number q ≡ 2)
-  pub contradiction-kept : answer_number r ≡ 2 → answer_number q ≡ 2
-  pub no-before : answer_number q ≡ 0 → answer_number r ≡ 0
-
 -- growth, between two collections: a shared start state and pair, the records of the first among those of the second
 module _ (c d : Call) (more : Larger (collection_of c) (collection_of d)) (first : c.first ≡ d.first) (second : c.second ≡ d.second) where
   module _ (s : Sound c) (s' : Sound d) where
@@ -154,10 +123,6 @@ module _ (c d : Call) (more : Larger (collection_of c) (collection_of d)) (first
     -- THEOREM: the larger collection's answer has grown from the smaller one's
     pub grows : Enough c → Enough d → {r q : Answer} {x y x' y' : List ℕ} → Outcome c r x y → Outcome d q x' y' → Grown r q
     grows e e' o p = grown (verdict c s e o) (verdict d s' e' p)
-
--- within one collection: the same call with another allowance
-abbrev pub allowed : Call → ℕ → Call
-allowed c n = record { counts = c.counts; tables = c.tables; first = c.first; second = c.second; allowance = n; area = c.area; spare = c.spare }
 
 module _ (c : Call) (n : ℕ) (h : c.allowance ≤ n) where
   sound-allowed : Sound c → Sound (allowed c n)

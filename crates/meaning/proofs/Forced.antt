@@ -12,9 +12,9 @@ use Rattle.meaning.specs.Run.{Run, stop, go, one, carry}
 use Rattle.meaning.specs.Model.{Has, Belongs, bare, ModelEdge, fact, child, parent, individuals, Element, Typed, named, first, second, FactEdge, ahead, behind, canonical, Contradiction, at-element, at_pair}
 use Rattle.meaning.proofs.ModelLaws.{born, edge-back, edge-above, edge-has, has-neighbour, concept-fact-holds, role-fact-holds, concept-rule-kept}
 use Rattle.meaning.specs.Question.{Going, along-role, at_name, Yes}
-use Rattle.meaning.proofs.Clash.{Alive, sprouts, grows, Clash, individual-clash, unnamed-clash, fact-clash, down-clash, up-clash}
-use Rattle.meaning.proofs.ClashShown.{contradiction↔clash}
-use Rattle.meaning.specs.Worlds.{World, In, Keeps, Respects, YesIn, Forced, NoWorld}
+use Rattle.meaning.specs.Clash.{Alive, sprouts, grows, Clash, individual-clash, unnamed-clash, fact-clash, down-clash, up-clash}
+use Rattle.meaning.proofs.Clash.{find}
+use Rattle.meaning.specs.Worlds.{World, In, Keeps, Respects, IsWorld, YesIn, model_world}
 
 -- a thing of a world stands for an element: it is the individual, or a neighbour, by the element's last role, of one that stands for its parent
 pub data Stands (𝓒 : Collection) (𝓦 : World) : Element 𝓒 → 𝓦.structure.Thing → Type 0 where
@@ -100,17 +100,6 @@ module _ (𝓒 : Collection) (𝓦 : World) (keeps : Keeps 𝓒 𝓦) where
     clash-fails (down-clash Q R S m v l k) = let p = alive v in respects.roles m (edge-up l _ _ p.2) (edge-up k _ _ p.2)
     clash-fails (up-clash Q R S m v l k) = let p = alive v in respects.roles m (keeps.back (edge-up l _ _ p.2)) (keeps.back (edge-up k _ _ p.2))
 
--- the canonical model as a world: the elements that belong, with their names and edges; each individual is itself
-abbrev pub model_world : Collection → World
-model_world 𝓒 = record {
-  structure = record {
-    Thing = Element 𝓒;
-    name = λ x A. Belongs 𝓒 (individuals 𝓒) x × Has 𝓒 (individuals 𝓒) x (Name A);
-    edge = λ x S y. Belongs 𝓒 (individuals 𝓒) x × Belongs 𝓒 (individuals 𝓒) y × ModelEdge 𝓒 (individuals 𝓒) x S y;
-  };
-  person = root;
-}
-
 module _ (𝓒 : Collection) where
   -- in this world an element is in the concepts that it has
   in-has : (x : Element 𝓒) (C : Concept) → In (model_world 𝓒).structure x C → Belongs 𝓒 (individuals 𝓒) x × Has 𝓒 (individuals 𝓒) x C
@@ -142,20 +131,10 @@ module _ (𝓒 : Collection) where
   going x y s t (along-role S m e) = one (along-role S m e.2)
   going x y s t (at_name A m h) = one (at_name A m h.1)
 
-  module _ (ok : NumbersDeclared 𝓒) where
-    -- THEOREM: a contradiction leaves no world
-    pub contradiction-no-world : Contradiction 𝓒 → NoWorld 𝓒
-    contradiction-no-world h 𝓦 keeps respects = clash-fails 𝓒 𝓦 keeps respects ((contradiction↔clash 𝓒 ok).0 h)
+  -- THEOREM: where it has a path as a world, the pair is yes
+  pub yes-out : (a b : Individual) → YesIn 𝓒 (model_world 𝓒) a b → Yes 𝓒 a b
+  yes-out a b y = (y.0, y.1, carry (λ x. x) going y.2)
 
-    -- THEOREM: where there is no contradiction, there is a world
-    pub no-world-contradiction : NoWorld 𝓒 → (Contradiction 𝓒 → ⊥) → ⊥
-    no-world-contradiction none sane = none (model_world 𝓒) (model-keeps ok) (model-respects sane)
-
-    -- THEOREM: a yes is forced, and where there is no contradiction only a yes is
-    pub yes-forced : (a b : Individual) → Yes 𝓒 a b → Forced 𝓒 a b
-    yes-forced a b y 𝓦 keeps respects = yes-in 𝓒 𝓦 keeps a b y
-
-    pub forced-yes : (Contradiction 𝓒 → ⊥) → (a b : Individual) → Forced 𝓒 a b → Yes 𝓒 a b
-    forced-yes sane a b f =
-        let w = f (model_world 𝓒) (model-keeps ok) (model-respects sane) in
-        (w.0, w.1, carry (λ x. x) going w.2)
+-- THEOREM: a contradiction leaves no world
+pub no-world : (𝓒 : Collection) (𝓦 : World) → Contradiction 𝓒 → IsWorld 𝓒 𝓦 → ⊥
+no-world 𝓒 𝓦 h w = clash-fails 𝓒 𝓦 w.keeps w.respects (find 𝓒 h)

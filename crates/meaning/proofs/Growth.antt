@@ -1,19 +1,8 @@
 -- Growth: a rules' kind that yields more yields every loop, walk and path again.
-use Rattle.std.specs.Prelude.{◌≡◌}
 use Rattle.meaning.specs.Run.{Run, stop, go}
 use Rattle.meaning.specs.Kind.{Kind}
+use Rattle.meaning.specs.Grows.{Grows}
 use Rattle.meaning.specs.Tree.{root, Loop, here, tested, twice, below, Move, Stride, along, by, path↔walk}
-
--- 𝓛 yields, of the same concepts, states and edges under another name, all that 𝓚 yields
-pub record Grows (𝓚 𝓛 : Kind) : Type 0 where
-  pub con : 𝓚.Concept → 𝓛.Concept
-  pub state : 𝓚.State → 𝓛.State
-  pub edge : 𝓚.Edge → 𝓛.Edge
-  pub ends : (R : 𝓚.Edge) → con (𝓚.end R) ≡ 𝓛.end (edge R)
-  pub children : (B : 𝓚.Concept) (R : 𝓚.Edge) → 𝓚.child B R → 𝓛.child (con B) (edge R)
-  pub tests : (B : 𝓚.Concept) (s t : 𝓚.State) → 𝓚.test B s t → 𝓛.test (con B) (state s) (state t)
-  pub downs : (R : 𝓚.Edge) (s t : 𝓚.State) → 𝓚.down R s t → 𝓛.down (edge R) (state s) (state t)
-  pub ups : (R : 𝓚.Edge) (s t : 𝓚.State) → 𝓚.up R s t → 𝓛.up (edge R) (state s) (state t)
 
 module _ {𝓚 𝓛 : Kind} (g : Grows 𝓚 𝓛) where
   open g use {con, state, edge}

@@ -1,43 +1,32 @@
 -- A larger collection: its canonical model has every path and every contradiction of the smaller one's.
-use Rattle.std.specs.Prelude.{◌≡◌, refl}
+use Rattle.std.specs.Prelude.{refl}
 use Rattle.kinds.specs.declared.Individual.{Individual}
 use Rattle.kinds.specs.declared.State.{State}
 use Rattle.kinds.specs.declared.SignedRole.{SignedRole}
 use Rattle.kinds.specs.declared.Concept.{Concept}
 use Rattle.kinds.specs.declared.Concept.TheVariants.{Exists}
 use Rattle.kinds.specs.Kinds.{IndividualDeclared}
-use Rattle.laws.specs.Member.{Within}
 use Rattle.meaning.specs.Collection.{Collection, step, role, WellFormed}
 use Rattle.meaning.specs.Orders.{RoleLe, ConceptLe, same, then, rule, turned, wider}
 use Rattle.meaning.specs.Tree.{root, ◌▹◌}
 use Rattle.meaning.specs.Model.{Has, Belongs, bare, grown, ModelEdge, fact, child, parent, individuals, Element, Typed, named, first, second, IndividualHas, FactEdge, ahead, behind, Contradiction, at-element, at_pair}
 use Rattle.meaning.specs.Question.{Yes}
-use Rattle.meaning.proofs.Growth.{Grows, walk-grows}
+use Rattle.meaning.specs.Grows.{Grows}
+use Rattle.meaning.specs.Demands.{Larger}
+use Rattle.meaning.proofs.Growth.{walk-grows}
 use Rattle.meaning.specs.Lite.{lite}
-use Rattle.meaning.proofs.ModelMoves.{Near}
-use Rattle.meaning.proofs.ModelWalk.{IndividualsWalk, path↔individuals-walk}
+use Rattle.meaning.specs.Walk.{Near, IndividualsWalk}
+use Rattle.meaning.proofs.ModelWalk.{path↔individuals-walk}
 use Rattle.meaning.proofs.Clash.{typed-declared}
 
--- a shared start state, and the records of the first among those of the second; nothing is asked of the other counts
-pub record Larger (𝓒 𝓓 : Collection) : Type 0 where
-  pub start : 𝓒.counts.start ≡ 𝓓.counts.start
-  pub concept-rules : Within 𝓒.concept-rules 𝓓.concept-rules
-  pub concept-exclusions : Within 𝓒.concept-exclusions 𝓓.concept-exclusions
-  pub role-rules : Within 𝓒.role-rules 𝓓.role-rules
-  pub role-exclusions : Within 𝓒.role-exclusions 𝓓.role-exclusions
-  pub concept-facts : Within 𝓒.concept-facts 𝓓.concept-facts
-  pub role-facts : Within 𝓒.role-facts 𝓓.role-facts
-  pub steps : Within 𝓒.steps 𝓓.steps
-  pub finals : Within 𝓒.finals 𝓓.finals
-
 module _ {𝓒 𝓓 : Collection} (more : Larger 𝓒 𝓓) where
-  role-grows : {R S : SignedRole} → RoleLe 𝓒 R S → RoleLe 𝓓 R S
+  pub role-grows : {R S : SignedRole} → RoleLe 𝓒 R S → RoleLe 𝓓 R S
   role-grows same = same
   role-grows (then l m) = then (role-grows l) (role-grows m)
   role-grows (rule {R = R} {S = S} m) = rule (more.role-rules (R, S) m)
   role-grows (turned l) = turned (role-grows l)
 
-  concept-grows : {C D : Concept} → ConceptLe 𝓒 C D → ConceptLe 𝓓 C D
+  pub concept-grows : {C D : Concept} → ConceptLe 𝓒 C D → ConceptLe 𝓓 C D
   concept-grows same = same
   concept-grows (then l m) = then (concept-grows l) (concept-grows m)
   concept-grows (rule {C = C} {D = D} m) = rule (more.concept-rules (C, D) m)
@@ -55,7 +44,7 @@ module _ {𝓒 𝓓 : Collection} (more : Larger 𝓒 𝓓) where
   fact-grows (ahead {r = r} {a = a} {b = b} m l) = ahead (more.role-facts (r, a, b) m) (role-grows l)
   fact-grows (behind {r = r} {a = a} {b = b} m l) = behind (more.role-facts (r, a, b) m) (role-grows l)
 
-  abbrev lite-grows : Grows (lite 𝓒) (lite 𝓓)
+  abbrev pub lite-grows : Grows (lite 𝓒) (lite 𝓓)
   lite-grows = record {
     con = λ B. B;
     state = λ s. s;
@@ -75,7 +64,7 @@ module _ {𝓒 𝓓 : Collection} (more : Larger 𝓒 𝓓) where
     pub yes-grows : (a b : Individual) → IndividualDeclared 𝓒.counts a → IndividualDeclared 𝓓.counts a → Yes 𝓒 a b → Yes 𝓓 a b
     yes-grows a b i j y =
         let w = (path↔individuals-walk 𝓒 ok a b 𝓒.counts.start y.0 i).0 y.2 in
-        let v : IndividualsWalk 𝓓 ok' a 𝓒.counts.start b y.0 = walk-grows lite-grows (λ a. a) individual-grows near-grows w in
+        let v : IndividualsWalk 𝓓 a 𝓒.counts.start b y.0 = walk-grows lite-grows (λ a. a) individual-grows near-grows w in
         (y.0, more.finals y.0 y.1, (path↔individuals-walk 𝓓 ok' a b 𝓓.counts.start y.0 j).1 (rw more.start at v))
 
     has-grows : (x : Element 𝓒) (D : Concept) → Has 𝓒 (individuals 𝓒) x D → Has 𝓓 (individuals 𝓓) x D

@@ -165,3 +165,13 @@ module _ (c : Counts) (fit : CountsFit c) where
                 let d = declared s t B w.3 in
                 let l = place-below s t B d.0 d.1 d.2 in
                 rw (← w.4) (byte-in (place s t B) l ∙ bit-set (stands c f (place s t B)) (stands-in s t B w.3))
+
+  -- two declared marks at one place are one
+  pub place-once : (s t : State) (B : Concept) (s' t' : State) (B' : Concept)
+      → StateDeclared c t → ConceptDeclared c B → StateDeclared c t' → ConceptDeclared c B'
+      → place s t B ≡ place s' t' B' → (s ≡ s') × (t ≡ t') × (B ≡ B')
+  place-once s t B s' t' B' k d k' d' e = (
+    sym (state-of-place s t B k d) ∙ ap state_of e ∙ state-of-place s' t' B' k' d',
+    sym (next-of-place s t B k d) ∙ ap next_of e ∙ next-of-place s' t' B' k' d',
+    sym (concept-of-place s t B d) ∙ ap concept_at e ∙ concept-of-place s' t' B' d',
+  )

@@ -1,7 +1,9 @@
 -- Theorems about the definitions.
 pub mod SheetLaws
 pub mod Growth
+pub mod MarksGrow
 pub mod RoleTurned
+pub mod Least
 pub mod ModelLaws
 pub mod ModelMoves
 pub mod ModelPaths
@@ -13,6 +15,8 @@ pub mod StraightBack
 pub mod Forced
 pub mod Larger
 pub mod Declared
+pub mod RoundLaws
+pub mod RoundFrom
 -- Calculation: the same as tests that compute, and that they say what the definitions say.
 pub mod Tests
 pub mod LiteTests
@@ -21,11 +25,14 @@ pub mod Reply
 pub mod ReplyLaws
 pub mod ClashLaws
 pub mod LayoutLaws
+pub mod AreaLaws
 pub mod Calculate
 pub mod CalculateLaws
 -- What follows from both: one outcome for every input, the demands, the worked cases.
 pub mod OutcomeExists
 pub mod OutcomeLaws
 pub mod Demands
+pub mod Repeated
+pub mod ExcludedLaws
 pub mod WorldsSay
 pub mod CasesHold

@@ -18,7 +18,7 @@ use Rattle.meaning.specs.Orders.{RoleLe, ConceptLe, same, then, rule, turned, wi
 use Rattle.meaning.specs.Lite.{signed_roles, valid_concepts, lite}
 use Rattle.meaning.proofs.Declared.{signed-in, signed-out, concept-in, concept-out, role-declared, concept-declared}
 use Rattle.meaning.proofs.RoleTurned.{inverses-follow}
-use Rattle.meaning.proofs.Tests.{Tests, Decides}
+use Rattle.meaning.specs.Tests.{Tests, AreTestsOf}
 
 -- equality of each kind
 abbrev pub same_name : ConceptName → ConceptName → Bool
@@ -285,7 +285,7 @@ module _ (𝓒 : Collection) where
     unfolding concept_le
     concept_le-in C D h l = closed_in same_concept (valid_concepts 𝓒.counts) concept_base concept-same.is concept-base-to C D (concept-in 𝓒.counts C h) (concept-links l h)
 
-    pub lite-decides : Decides (lite 𝓒) lite_tests
+    pub lite-decides : AreTestsOf (lite 𝓒) lite_tests
     lite-decides = record {
       states-same = state-same;
       concepts-same = concept-same;

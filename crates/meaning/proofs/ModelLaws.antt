@@ -1,21 +1,33 @@
 -- The canonical model has every fact and keeps every rule: edges read both ways and follow the role order, concepts follow the concept order.
+use Rattle.std.specs.Prelude.{◌≡◌, refl, List, [], ◌∷◌}
+use Rattle.std.proofs.Common.{ap}
 use Rattle.kinds.specs.declared.ConceptName.{ConceptName}
 use Rattle.kinds.specs.declared.RoleName.{RoleName}
 use Rattle.kinds.specs.declared.Individual.{Individual}
 use Rattle.kinds.specs.declared.SignedRole.{SignedRole}
 use Rattle.kinds.specs.declared.Concept.{Concept}
 use Rattle.kinds.specs.declared.Concept.TheVariants.{Name, Exists}
-use Rattle.kinds.specs.Kinds.{inverse, inverse-inverse, inverse-forward, forward, backward}
+use Rattle.kinds.specs.Kinds.{inverse, inverse-inverse, inverse-forward, forward, backward, IndividualDeclared}
 use Rattle.laws.specs.Member.{◌∈◌}
 use Rattle.meaning.specs.Collection.{Collection}
 use Rattle.meaning.specs.Orders.{RoleLe, ConceptLe, same, then, rule, turned, wider}
 use Rattle.meaning.specs.Tree.{Elem, root, ◌▹◌}
-use Rattle.meaning.specs.Model.{Roots, Has, Belongs, grown, ModelEdge, fact, child, parent, individuals, Element, named, first, second, IndividualHas, FactEdge, ahead, behind}
+use Rattle.meaning.specs.Model.{Roots, Has, Belongs, bare, grown, ModelEdge, fact, child, parent, individuals, Element, named, first, second, IndividualHas, FactEdge, ahead, behind}
+use Rattle.meaning.specs.LawsOfModel.{followed}
 use Rattle.meaning.proofs.RoleTurned.{turn}
 
 -- a child's parent belongs, and has what the child was promised by
 pub born : (𝓒 : Collection) (𝓡 : Roots) {x : Elem 𝓡.Root SignedRole} {R : SignedRole} → Belongs 𝓒 𝓡 (x ▹ R) → Belongs 𝓒 𝓡 x × Has 𝓒 𝓡 x (Exists R)
 born 𝓒 𝓡 (grown b h) = (b, h)
+
+-- a bare individual that belongs is declared
+pub bare-declared : (𝓒 : Collection) {a : Individual} → Belongs 𝓒 (individuals 𝓒) (root a) → IndividualDeclared 𝓒.counts a
+bare-declared 𝓒 (bare d) = d
+
+-- the row that leads to an element
+pub row-of : (𝓒 : Collection) (x : Element 𝓒) → (a : Individual) × (w : List SignedRole) × (x ≡ followed 𝓒 a w)
+row-of 𝓒 (root a) = (a, [], refl)
+row-of 𝓒 (x ▹ R) = let w = row-of 𝓒 x in (w.0, R ∷ w.1, ap (λ y. y ▹ R) w.2)
 
 module _ (𝓒 : Collection) where
   fact-back : {a b : Individual} {S : SignedRole} → FactEdge 𝓒 a S b → FactEdge 𝓒 b (inverse S) a

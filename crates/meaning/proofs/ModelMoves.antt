@@ -5,17 +5,14 @@ use Rattle.kinds.specs.declared.SignedRole.{SignedRole}
 use Rattle.kinds.specs.declared.Concept.{Concept}
 use Rattle.kinds.specs.declared.Concept.TheVariants.{Exists}
 use Rattle.kinds.specs.Kinds.{inverse}
-use Rattle.meaning.specs.Collection.{Collection, RoleStep}
+use Rattle.meaning.specs.Collection.{Collection}
 use Rattle.meaning.specs.Orders.{ConceptLe, same}
 use Rattle.meaning.specs.Tree.{Elem, root, ◌▹◌, Holds, Move, tests, downs, ups, hops}
 use Rattle.meaning.specs.Model.{Roots, Has, fact, child, parent, grown_from}
 use Rattle.meaning.proofs.ModelLaws.{born}
 use Rattle.meaning.specs.Question.{Going, along-role, at_name}
 use Rattle.meaning.specs.Lite.{lite}
-
--- a role step along an edge between roots
-abbrev pub Near : (𝓒 : Collection) (𝓡 : Roots) → 𝓡.Root → State → 𝓡.Root → State → Type 0
-Near 𝓒 𝓡 a s b t = (S : SignedRole) × RoleStep 𝓒 s S t × 𝓡.edge a S b
+use Rattle.meaning.specs.Walk.{Near}
 
 module _ (𝓒 : Collection) (𝓡 : Roots) where
   has→holds : (x : Elem 𝓡.Root SignedRole) {D : Concept} → Has 𝓒 𝓡 x D → (B : Concept) × Holds (lite 𝓒) 𝓡.has (Near 𝓒 𝓡) x B × ConceptLe 𝓒 B D

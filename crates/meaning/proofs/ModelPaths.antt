@@ -13,7 +13,8 @@ use Rattle.meaning.specs.Model.{Roots, Has, Belongs, bare, grown, fact, child, p
 use Rattle.meaning.proofs.ModelLaws.{born}
 use Rattle.meaning.specs.Question.{along-role, at_name, PathIn}
 use Rattle.meaning.specs.Lite.{lite}
-use Rattle.meaning.proofs.ModelMoves.{Near, to-move}
+use Rattle.meaning.specs.Walk.{Near}
+use Rattle.meaning.proofs.ModelMoves.{to-move}
 
 -- what roots must keep: their concepts are closed under ≤, and edges lead to roots that belong
 pub record RootsKeep (𝓒 : Collection) (𝓡 : Roots) : Type 0 where

@@ -12,7 +12,7 @@ use Rattle.meaning.specs.Tree.{root, Loop, here, tested, twice, below, Stride, a
 use Rattle.meaning.specs.Model.{individuals, canonical, only, tree_of, FactEdge, ahead, behind}
 use Rattle.meaning.specs.Question.{PathIn}
 use Rattle.meaning.specs.Lite.{lite}
-use Rattle.meaning.proofs.ModelMoves.{Near}
+use Rattle.meaning.specs.Walk.{Near, IndividualsWalk}
 use Rattle.meaning.proofs.ModelPaths.{RootsKeep, path↔steps}
 
 module _ (𝓒 : Collection) (ok : WellFormed 𝓒) where
@@ -26,13 +26,9 @@ module _ (𝓒 : Collection) (ok : WellFormed 𝓒) where
       record
       { upward = λ a C D h k. (h.0, h.1, then h.2 k); within = λ a b S e. (edge-declared e).1 }
 
-  -- the individuals' walk: by fact edges, by tests, and from s to t at a when a has some B with (s, t, B)
-  abbrev pub IndividualsWalk : Individual → State → Individual → State → Type 0
-  IndividualsWalk = Run (Stride (lite 𝓒) (individuals 𝓒).has (Near 𝓒 (individuals 𝓒)))
-
   -- THEOREM: a path of the canonical model leads from individual to individual exactly when the individuals' walk does
   pub path↔individuals-walk : (a b : Individual) (s t : State) → IndividualDeclared 𝓒.counts a
-      → PathIn 𝓒 (canonical 𝓒) (root a) s (root b) t ↔ IndividualsWalk a s b t
+      → PathIn 𝓒 (canonical 𝓒) (root a) s (root b) t ↔ IndividualsWalk 𝓒 a s b t
   path↔individuals-walk = path↔steps 𝓒 (individuals 𝓒) individuals-keep
 
 module _ (𝓒 : Collection) (B : Concept) where

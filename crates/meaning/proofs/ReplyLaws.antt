@@ -23,7 +23,8 @@ use Rattle.meaning.specs.Tree.{Loop, here, tested, twice, below, along, by}
 use Rattle.meaning.specs.Lite.{valid_concepts, declared_states, lite}
 use Rattle.meaning.specs.Model.{Typed, named, first, second, IndividualHas, FactEdge, ahead, behind}
 use Rattle.meaning.specs.Question.{Yes}
-use Rattle.meaning.proofs.ModelWalk.{edge-declared, IndividualsWalk, path↔individuals-walk}
+use Rattle.meaning.specs.Walk.{IndividualsWalk}
+use Rattle.meaning.proofs.ModelWalk.{edge-declared, path↔individuals-walk}
 use Rattle.meaning.proofs.Declared.{concept-in, state-in, concept-declared, role-step-to, test-step-to}
 use Rattle.meaning.proofs.LiteTests.{same_individual, same_state, same_concept, individual-same, state-same, concept-same, leads, role_letter, role_le, role_le-in, role_le-out, concept_le, concept_le-in, concept_le-out, role-step-in, role-step-out}
 use Rattle.meaning.proofs.Reply.{declared_individuals, fact_types, end_types, is_typed, typed_to, individual_has, joins_by, fact_edge, marked, stride, walks, reaches_in, reaches}
@@ -157,7 +158,7 @@ module _ (𝓒 : Collection) (ok : WellFormed 𝓒) where
     steps_at p q = any 𝓒.steps (leads p.1 q.1 (role_letter (λ S. fact_edge 𝓒 p.0 S q.0)))
 
     abbrev Found : Individual × State → Individual × State → Type 0
-    Found p q = (q ∈ nodes) × IndividualsWalk 𝓒 ok p.0 p.1 q.0 q.1
+    Found p q = (q ∈ nodes) × IndividualsWalk 𝓒 p.0 p.1 q.0 q.1
 
     stride-out : (p q : Individual × State) → p ∈ nodes → Links p q → Found p q
     unfolding stride marked
@@ -197,7 +198,7 @@ module _ (𝓒 : Collection) (ok : WellFormed 𝓒) where
     unfolding stride
     rests a s = or_left (and (same_individual a a) _) _ (and_both (same_individual a a) _ (individual-same.self a) (or_left (same_state s s) _ (state-same.self s)))
 
-    walk→chain : {a b : Individual} {s t : State} → IndividualsWalk 𝓒 ok a s b t → s ∈ declared_states 𝓒.counts → Chain Links (a, s) (b, t)
+    walk→chain : {a b : Individual} {s t : State} → IndividualsWalk 𝓒 a s b t → s ∈ declared_states 𝓒.counts → Chain Links (a, s) (b, t)
     unfolding stride marked
     walk→chain (stop {x = a} {s = s}) m = link (rests a s)
     walk→chain (go (along {a = a} {b = b} {s = s} {t = t} e) w) m =
@@ -213,7 +214,7 @@ module _ (𝓒 : Collection) (ok : WellFormed 𝓒) where
     stride-to p q m h = (stride-out p q m h).0
 
     walks-is : (a b : Individual) (s t : State) → a ∈ declared_individuals 𝓒.counts → s ∈ declared_states 𝓒.counts
-        → T (walks 𝓒 f (a, s) (b, t)) ↔ IndividualsWalk 𝓒 ok a s b t
+        → T (walks 𝓒 f (a, s) (b, t)) ↔ IndividualsWalk 𝓒 a s b t
     unfolding walks
     walks-is a b s t i m =
         let same = both-same same_individual same_state individual-same state-same in (

@@ -6,13 +6,13 @@ use Rattle.kinds.specs.declared.SignedRole.{SignedRole}
 use Rattle.kinds.specs.declared.Concept.{Concept}
 use Rattle.kinds.specs.declared.Concept.TheVariants.{Name, Exists}
 use Rattle.kinds.specs.Kinds.{inverse, inverse-inverse, IndividualDeclared}
-use Rattle.laws.specs.Member.{◌∈◌}
 use Rattle.laws.specs.Truth.{test-equals, test-false}
 use Rattle.meaning.specs.Collection.{Collection, WellFormed}
 use Rattle.meaning.specs.Orders.{RoleLe, ConceptLe}
 use Rattle.meaning.specs.Run.{stop, go, one, carry}
 use Rattle.meaning.specs.Tree.{root, ◌▹◌}
-use Rattle.meaning.specs.Model.{Structure, Has, Belongs, ModelEdge, individuals, Element, FactEdge, canonical, Contradiction}
+use Rattle.meaning.specs.Model.{Has, Belongs, ModelEdge, individuals, Element, canonical, Contradiction}
+use Rattle.meaning.specs.StraightBack.{GoesBack, Lean, bare, grown, LeanEdge, fact, child, parent, lean_model, LeanContradiction, at-element, at_pair, LeanYes}
 use Rattle.meaning.proofs.ModelLaws.{born, has_above}
 use Rattle.meaning.proofs.RoleTurned.{turn}
 use Rattle.meaning.proofs.ModelWalk.{edge-declared}
@@ -20,53 +20,26 @@ use Rattle.meaning.specs.Question.{Going, along-role, at_name, PathIn, Yes}
 use Rattle.meaning.proofs.LiteTests.{same_role, role_same}
 
 module _ (𝓒 : Collection) where
-  -- S goes straight back from an element: it is the inverse of the role that the element ends in
-  abbrev pub GoesBack : Element 𝓒 → SignedRole → Type 0
-  GoesBack (root a) S = ⊥
-  GoesBack (x ▹ R) S = S ≡ inverse R
-
-  -- the elements that are left: as `Belongs`, but no S follows R where S goes straight back
-  pub data Lean : Element 𝓒 → Type 0 where
-    bare : {a : Individual} → IndividualDeclared 𝓒.counts a → Lean (root a)
-    grown : {x : Element 𝓒} {R : SignedRole} → Lean x → Has 𝓒 (individuals 𝓒) x (Exists R) → (GoesBack x R → ⊥) → Lean (x ▹ R)
-
-  -- as `ModelEdge`, between elements that are left
-  pub data LeanEdge : Element 𝓒 → SignedRole → Element 𝓒 → Type 0 where
-    fact : {a b : Individual} {S : SignedRole} → FactEdge 𝓒 a S b → LeanEdge (root a) S (root b)
-    child : {x : Element 𝓒} {R S : SignedRole} → Lean (x ▹ R) → RoleLe 𝓒 R S → LeanEdge x S (x ▹ R)
-    parent : {x : Element 𝓒} {R S : SignedRole} → Lean (x ▹ R) → RoleLe 𝓒 R S → LeanEdge (x ▹ R) (inverse S) x
-
-  abbrev pub lean_model : Structure
-  lean_model = record { Thing = Element 𝓒; name = λ x A. Has 𝓒 (individuals 𝓒) x (Name A); edge = LeanEdge }
-
-  pub data LeanContradiction : Type 0 where
-    at-element : (x : Element 𝓒) (C D : Concept) → (C, D) ∈ 𝓒.concept-exclusions → Lean x → Has 𝓒 (individuals 𝓒) x C → Has 𝓒 (individuals 𝓒) x D
-        → LeanContradiction
-    at_pair : (x y : Element 𝓒) (R S : SignedRole) → (R, S) ∈ 𝓒.role-exclusions → LeanEdge x R y → LeanEdge x S y → LeanContradiction
-
-  abbrev pub LeanYes : Individual → Individual → Type 0
-  LeanYes a b = (t : State) × (t ∈ 𝓒.finals) × PathIn 𝓒 lean_model (root a) 𝓒.counts.start (root b) t
-
   -- what is left was there before
-  lean-belongs : {x : Element 𝓒} → Lean x → Belongs 𝓒 (individuals 𝓒) x
+  lean-belongs : {x : Element 𝓒} → Lean 𝓒 x → Belongs 𝓒 (individuals 𝓒) x
   lean-belongs (bare i) = Belongs.bare i
   lean-belongs (grown l h n) = Belongs.grown (lean-belongs l) h
 
-  lean-edge : {x y : Element 𝓒} {S : SignedRole} → LeanEdge x S y → ModelEdge 𝓒 (individuals 𝓒) x S y
+  lean-edge : {x y : Element 𝓒} {S : SignedRole} → LeanEdge 𝓒 x S y → ModelEdge 𝓒 (individuals 𝓒) x S y
   lean-edge (fact f) = ModelEdge.fact f
   lean-edge (child l k) = ModelEdge.child (lean-belongs l) k
   lean-edge (parent l k) = ModelEdge.parent (lean-belongs l) k
 
-  lean-going : {x y : Element 𝓒} {s t : State} → Going 𝓒 lean_model x s y t → Going 𝓒 (canonical 𝓒) x s y t
+  lean-going : {x y : Element 𝓒} {s t : State} → Going 𝓒 (lean_model 𝓒) x s y t → Going 𝓒 (canonical 𝓒) x s y t
   lean-going (along-role S e g) = along-role S e (lean-edge g)
   lean-going (at_name A e h) = at_name A e h
 
-  lean-born : {x : Element 𝓒} {R : SignedRole} → Lean (x ▹ R) → Lean x × Has 𝓒 (individuals 𝓒) x (Exists R)
+  lean-born : {x : Element 𝓒} {R : SignedRole} → Lean 𝓒 (x ▹ R) → Lean 𝓒 x × Has 𝓒 (individuals 𝓒) x (Exists R)
   lean-born (grown l h n) = (l, h)
 
   -- where y ▹ R is folded to: the parent of y if R goes straight back, else y ▹ R itself
   data Next : Element 𝓒 → SignedRole → Element 𝓒 → Type 0 where
-    on : {y : Element 𝓒} {R : SignedRole} → (GoesBack y R → ⊥) → Next y R (y ▹ R)
+    on : {y : Element 𝓒} {R : SignedRole} → (GoesBack 𝓒 y R → ⊥) → Next y R (y ▹ R)
     back : {z : Element 𝓒} {Q : SignedRole} → Next (z ▹ Q) (inverse Q) z
 
   next : (y : Element 𝓒) (R : SignedRole) → (z : Element 𝓒) × Next y R z
@@ -82,49 +55,49 @@ module _ (𝓒 : Collection) where
   fold (root a) = root a
   fold (x ▹ R) = (next (fold x) R).0
 
-  next-lean : {y z : Element 𝓒} {R : SignedRole} → Next y R z → Lean y → Has 𝓒 (individuals 𝓒) y (Exists R) → Lean z
+  next-lean : {y z : Element 𝓒} {R : SignedRole} → Next y R z → Lean 𝓒 y → Has 𝓒 (individuals 𝓒) y (Exists R) → Lean 𝓒 z
   next-lean (on n) l h = grown l h n
   next-lean back l h = (lean-born l).0
 
   -- gone back to z, the concepts of y ▹ R are those above ∃Q, which z has since z ▹ Q is its child
-  next-has : {y z : Element 𝓒} {R : SignedRole} {D : Concept} → Next y R z → Lean y → ConceptLe 𝓒 (Exists (inverse R)) D → Has 𝓒 (individuals 𝓒) z D
+  next-has : {y z : Element 𝓒} {R : SignedRole} {D : Concept} → Next y R z → Lean 𝓒 y → ConceptLe 𝓒 (Exists (inverse R)) D → Has 𝓒 (individuals 𝓒) z D
   next-has (on n) l k = k
   next-has (back {z = z} {Q = Q}) l k = has_above 𝓒 z (lean-born l).1 (rw (inverse-inverse Q) at k)
 
   -- gone back, the edge down to y ▹ R is the edge up to z, and the edge up is the edge down
-  next-child : {y z : Element 𝓒} {R S : SignedRole} → Next y R z → Lean y → Lean z → RoleLe 𝓒 R S → LeanEdge y S z
+  next-child : {y z : Element 𝓒} {R S : SignedRole} → Next y R z → Lean 𝓒 y → Lean 𝓒 z → RoleLe 𝓒 R S → LeanEdge 𝓒 y S z
   next-child (on n) l m k = child m k
   next-child {S = S} (back {z = z} {Q = Q}) l m k =
-      let g : LeanEdge (z ▹ Q) (inverse (inverse S)) z = parent l (turn 𝓒 k) in
+      let g : LeanEdge 𝓒 (z ▹ Q) (inverse (inverse S)) z = parent l (turn 𝓒 k) in
       rw (inverse-inverse S) at g
 
-  next-parent : {y z : Element 𝓒} {R S : SignedRole} → Next y R z → Lean y → Lean z → RoleLe 𝓒 R S → LeanEdge z (inverse S) y
+  next-parent : {y z : Element 𝓒} {R S : SignedRole} → Next y R z → Lean 𝓒 y → Lean 𝓒 z → RoleLe 𝓒 R S → LeanEdge 𝓒 z (inverse S) y
   next-parent (on n) l m k = parent m k
   next-parent {S = S} (back {Q = Q}) l m k = child l (turn 𝓒 k)
 
   -- an element that belongs is folded to one that is left and has all its concepts
-  fold-lean : {x : Element 𝓒} → Belongs 𝓒 (individuals 𝓒) x → Lean (fold x) × ((D : Concept) → Has 𝓒 (individuals 𝓒) x D → Has 𝓒 (individuals 𝓒) (fold x) D)
+  fold-lean : {x : Element 𝓒} → Belongs 𝓒 (individuals 𝓒) x → Lean 𝓒 (fold x) × ((D : Concept) → Has 𝓒 (individuals 𝓒) x D → Has 𝓒 (individuals 𝓒) (fold x) D)
   fold-lean (Belongs.bare i) = (bare i, λ D h. h)
   fold-lean (Belongs.grown {x = x} {R = R} b h) =
       let w = fold-lean b in
       let n = next (fold x) R in
       (next-lean n.1 w.0 (w.1 (Exists R) h), λ D k. next-has n.1 w.0 k)
 
-  fold-edge : {x y : Element 𝓒} {S : SignedRole} → ModelEdge 𝓒 (individuals 𝓒) x S y → LeanEdge (fold x) S (fold y)
+  fold-edge : {x y : Element 𝓒} {S : SignedRole} → ModelEdge 𝓒 (individuals 𝓒) x S y → LeanEdge 𝓒 (fold x) S (fold y)
   fold-edge (ModelEdge.fact f) = fact f
   fold-edge (ModelEdge.child {x = x} {R = R} b k) = next-child (next (fold x) R).1 (fold-lean (born 𝓒 (individuals 𝓒) b).0).0 (fold-lean b).0 k
   fold-edge (ModelEdge.parent {x = x} {R = R} b k) = next-parent (next (fold x) R).1 (fold-lean (born 𝓒 (individuals 𝓒) b).0).0 (fold-lean b).0 k
 
-  fold-contradiction : Contradiction 𝓒 → LeanContradiction
+  fold-contradiction : Contradiction 𝓒 → LeanContradiction 𝓒
   fold-contradiction (Contradiction.at-element x C D m b h k) = let w = fold-lean b in at-element (fold x) C D m w.0 (w.1 C h) (w.1 D k)
   fold-contradiction (Contradiction.at_pair x y R S m g h) = at_pair (fold x) (fold y) R S m (fold-edge g) (fold-edge h)
 
-  lean-contradiction : LeanContradiction → Contradiction 𝓒
+  lean-contradiction : LeanContradiction 𝓒 → Contradiction 𝓒
   lean-contradiction (at-element x C D m l h k) = Contradiction.at-element x C D m (lean-belongs l) h k
   lean-contradiction (at_pair x y R S m g h) = Contradiction.at_pair x y R S m (lean-edge g) (lean-edge h)
 
   -- THEOREM: without the children that go straight back, the same collections are contradictory
-  pub straight-back-contradiction : Contradiction 𝓒 ↔ LeanContradiction
+  pub straight-back-contradiction : Contradiction 𝓒 ↔ LeanContradiction 𝓒
   straight-back-contradiction = (fold-contradiction, lean-contradiction)
 
   module _ (ok : WellFormed 𝓒) where
@@ -134,13 +107,13 @@ module _ (𝓒 : Collection) where
     edge-belongs (ModelEdge.child b k) = b
     edge-belongs (ModelEdge.parent b k) = (born 𝓒 (individuals 𝓒) b).0
 
-    fold-path : {x y : Element 𝓒} {s t : State} → PathIn 𝓒 (canonical 𝓒) x s y t → Belongs 𝓒 (individuals 𝓒) x → PathIn 𝓒 lean_model (fold x) s (fold y) t
+    fold-path : {x y : Element 𝓒} {s t : State} → PathIn 𝓒 (canonical 𝓒) x s y t → Belongs 𝓒 (individuals 𝓒) x → PathIn 𝓒 (lean_model 𝓒) (fold x) s (fold y) t
     fold-path stop b = stop
     fold-path (go (along-role S e g) p) b = go (along-role S e (fold-edge g)) (fold-path p (edge-belongs g))
     fold-path (go (at_name A e h) p) b = go (at_name A e ((fold-lean b).1 (Name A) h)) (fold-path p b)
 
     -- THEOREM: without the children that go straight back, the same pairs are yes
-    pub straight-back-yes : (a b : Individual) → IndividualDeclared 𝓒.counts a → Yes 𝓒 a b ↔ LeanYes a b
+    pub straight-back-yes : (a b : Individual) → IndividualDeclared 𝓒.counts a → Yes 𝓒 a b ↔ LeanYes 𝓒 a b
     straight-back-yes a b i = (
       λ y. (y.0, y.1, fold-path y.2 (Belongs.bare i)),
       λ y. (y.0, y.1, carry (λ x. x) (λ x y s t m. one (lean-going m)) y.2),

@@ -7,12 +7,12 @@ use Rattle.std.proofs.Math.Nat.{mul-le-mul_right}
 use Rattle.std.proofs.Math.Dec.{T}
 use Rattle.laws.specs.Member.{◌∈◌}
 use Rattle.laws.specs.Search.{any, any-in, any_out, or, or_left, or_right, or_case, and, and_left, and_right, and_both}
-use Rattle.laws.specs.Same.{Same}
 use Rattle.laws.specs.Count.{count}
 use Rattle.laws.specs.Pairs.{pairs, pairs-in, pairs-out, length_pairs, count-pairs, count-each}
 use Rattle.laws.specs.Rounds.{Least, least-same, Still, needed}
 use Rattle.laws.specs.Settle.{memo, memo-is, settle, settled}
 use Rattle.meaning.specs.Kind.{Kind, Sane}
+use Rattle.meaning.specs.Tests.{Tests, AreTestsOf}
 use Rattle.meaning.specs.Sheet.{Markable, Round, kept, tested, joined, hung, Mark, Unchanged, Needed}
 use Rattle.meaning.proofs.SheetLaws.{mark-markable}
 
@@ -23,30 +23,6 @@ fit n c (suc s) k h g = let e : suc s - 1 ≡ s = omega arith in rw e (omega ari
 room : (c s k : ℕ) → s * c ≤ k → s * s * c ≤ k + c * s * (s - 1)
 room c zero k g = omega arith
 room c (suc s) k g = let e : suc s - 1 ≡ s = omega arith in rw e (omega arith)
-
--- the same rules, as tests
-pub record Tests (𝓚 : Kind) : Type 0 where
-  pub edges : List 𝓚.Edge
-  pub same-state : 𝓚.State → 𝓚.State → Bool
-  pub same-concept : 𝓚.Concept → 𝓚.Concept → Bool
-  pub has-child : 𝓚.Concept → 𝓚.Edge → Bool
-  pub has-test : 𝓚.Concept → 𝓚.State → 𝓚.State → Bool
-  pub has-down : 𝓚.Edge → 𝓚.State → 𝓚.State → Bool
-  pub has-up : 𝓚.Edge → 𝓚.State → 𝓚.State → Bool
-
--- the tests say what the rules say, of what is declared
-pub record Decides (𝓚 : Kind) (𝓣 : Tests 𝓚) : Type 0 where
-  pub states-same : Same 𝓣.same-state
-  pub concepts-same : Same 𝓣.same-concept
-  pub edge_in : (B : 𝓚.Concept) (R : 𝓚.Edge) → B ∈ 𝓚.concepts → 𝓚.child B R → R ∈ 𝓣.edges
-  pub child-in : (B : 𝓚.Concept) (R : 𝓚.Edge) → B ∈ 𝓚.concepts → 𝓚.child B R → T (𝓣.has-child B R)
-  pub child-out : (B : 𝓚.Concept) (R : 𝓚.Edge) → B ∈ 𝓚.concepts → T (𝓣.has-child B R) → 𝓚.child B R
-  pub test_in : (B : 𝓚.Concept) (s t : 𝓚.State) → B ∈ 𝓚.concepts → 𝓚.test B s t → T (𝓣.has-test B s t)
-  pub test-out : (B : 𝓚.Concept) (s t : 𝓚.State) → B ∈ 𝓚.concepts → T (𝓣.has-test B s t) → 𝓚.test B s t
-  pub down-in : (R : 𝓚.Edge) (s t : 𝓚.State) → R ∈ 𝓣.edges → 𝓚.down R s t → T (𝓣.has-down R s t)
-  pub down_out : (R : 𝓚.Edge) (s t : 𝓚.State) → R ∈ 𝓣.edges → T (𝓣.has-down R s t) → 𝓚.down R s t
-  pub up_in : (R : 𝓚.Edge) (s t : 𝓚.State) → R ∈ 𝓣.edges → 𝓚.up R s t → T (𝓣.has-up R s t)
-  pub up-out : (R : 𝓚.Edge) (s t : 𝓚.State) → R ∈ 𝓣.edges → T (𝓣.has-up R s t) → 𝓚.up R s t
 
 module _ (𝓚 : Kind) (𝓣 : Tests 𝓚) where
   open 𝓚 use {Concept, State, Edge, concepts, states, end}
@@ -178,7 +154,7 @@ module _ (𝓚 : Kind) (𝓣 : Tests 𝓚) where
       let v = pairs-out states states w.0 in
       record { from = v.0; to = v.1; of = w.1 }
 
-  module _ (ok : Decides 𝓚 𝓣) (sane : Sane 𝓚) where
+  module _ (ok : AreTestsOf 𝓚 𝓣) (sane : Sane 𝓚) where
     -- in each round the sheet that is computed is the definition's
     pub mark-in : (n : ℕ) (s t : State) (B : Concept) → Mark 𝓚 n s t B → T (sheet n s t B)
     unfolding sheet

@@ -1,5 +1,5 @@
--- A collection: five counts and eight lists of records. It is well-formed when its counts fit and
--- its numbers are declared.
+-- A collection: five counts and eight lists of records (docs/RULES.md, section 3). It is well-formed
+-- when its counts fit and its numbers are declared.
 use Rattle.std.specs.Prelude.{List}
 use Rattle.kinds.specs.declared.ConceptName.{ConceptName}
 use Rattle.kinds.specs.declared.RoleName.{RoleName}
@@ -16,9 +16,11 @@ pub data Letter : Type 0 where
   role : SignedRole → Letter
   test : ConceptName → Letter
 
+-- a step of the question: from a state, what it reads, to a state
 pub data Step : Type 0 where
   step : State → Letter → State → Step
 
+-- what is declared, and the records of each table
 pub record Collection : Type 0 where
   pub counts : Counts
   pub concept-rules : List (Concept × Concept)

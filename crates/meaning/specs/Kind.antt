@@ -1,4 +1,5 @@
--- The rules' kind: all that the tree, the loop sheet and its rounds know of rules and question.
+-- The rules' kind: all that the tree, the loop sheet and its rounds (docs/RULES.md, section 6) know of
+-- rules and question.
 -- DL-Lite is one instance.
 use Rattle.std.specs.Prelude.{List}
 use Rattle.laws.specs.Member.{◌∈◌}

@@ -1,4 +1,5 @@
--- Where a mark stands in an area: a place for each state, state and concept, one byte to a place.
+-- Where a mark stands in an area (docs/RULES.md, section 6): a place for each state, state and
+-- concept, one byte to a place.
 -- The sheet itself knows nothing of it.
 use Rattle.std.specs.Prelude.{◌≡◌, ◌↔◌, List, ℕ, ◌+◌, ◌*◌, ◌≤◌, length, slice_index, replicate}
 use Rattle.kinds.specs.declared.State.{State}
@@ -7,15 +8,15 @@ use Rattle.kinds.specs.Kinds.{most_states, most_roles, base, number_of}
 use Rattle.laws.specs.Member.{◌∈◌}
 use Rattle.laws.specs.Select.{Rising}
 
--- the numbers that basic concepts may have, 128 of them
+-- the numbers that basic concepts may have: 128
 abbrev pub concept_numbers : ℕ
 concept_numbers = base + 2 * most_roles
 
--- s × 2,048 + t × 128 + B
+-- the byte at which the mark (s, t, B) stands: s × 2,048 + t × 128 + B
 abbrev pub place : State → State → Concept → ℕ
 place s t B = s.0 * (most_states * concept_numbers) + t.0 * concept_numbers + number_of B
 
--- 32,768 bytes
+-- the bytes of an area: 32,768
 abbrev pub area_length : ℕ
 area_length = most_states * (most_states * concept_numbers)
 

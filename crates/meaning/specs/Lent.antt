@@ -1,5 +1,5 @@
 -- What a library call is lent: five counts, eight tables of 16-bit numbers, a pair, an allowance
--- and two areas; and its tests 4 to 8.
+-- and two areas (docs/RULES.md, section 3); and its tests 4 to 8 (section 7).
 use Rattle.std.specs.Prelude.{◌≡◌, List, ℕ, zero, suc, ◌+◌, ◌*◌, ◌/◌, ◌%◌, ◌≤◌, length, slice_index}
 use Rattle.kinds.specs.declared.ConceptName.{ConceptName}
 use Rattle.kinds.specs.declared.RoleName.{RoleName}
@@ -13,7 +13,7 @@ use Rattle.laws.specs.Numbers.{numbered}
 use Rattle.meaning.specs.Collection.{Collection, Letter, role, test, Step, step, NumbersDeclared, Each}
 use Rattle.meaning.specs.Layout.{area_length}
 
--- the tables as they are lent
+-- the tables as they are lent, record after record
 pub record Tables : Type 0 where
   pub concept-rules : List ℕ
   pub concept-exclusions : List ℕ
@@ -40,7 +40,7 @@ step_width = 4
 abbrev pub final_width : ℕ
 final_width = 1
 
--- the most records of each table
+-- and the most records of each table
 abbrev pub most_concept_rules : ℕ
 most_concept_rules = 512
 
@@ -65,14 +65,15 @@ most_steps = 512
 abbrev pub most_finals : ℕ
 most_finals = 16
 
--- field j of record k, in a table of a width
+-- number j of record k, in a table with so many numbers to a record
 abbrev pub field : ℕ → List ℕ → ℕ → ℕ → ℕ
 field width t j k = slice_index t (width * k + j)
 
--- the whole records of a table, each read as its kind
+-- the whole records of a table, in order, each read as its kind
 unfoldable pub records : {A : Type 0} → ℕ → (List ℕ → ℕ → A) → List ℕ → List A
 records width read t = numbered (read t) (length t / width)
 
+-- record k of each table (docs/RULES.md, section 3)
 abbrev pub concept_pair : List ℕ → ℕ → Concept × Concept
 concept_pair t k = (concept_of (field rule_width t 0 k), concept_of (field rule_width t 1 k))
 
@@ -120,6 +121,7 @@ collection c t = record {
   finals = records final_width final_at t.finals;
 }
 
+-- all that a call is lent
 pub record Call : Type 0 where
   pub counts : Counts
   pub tables : Tables
@@ -136,7 +138,7 @@ collection_of c = collection c.counts c.tables
 abbrev pub CountsOk : Call → Type 0
 CountsOk c = CountsFit c.counts
 
--- test 5: whole records, not too many of them, and areas of the right length
+-- test 5: whole records of so many numbers, not too many of them, and areas of the right length
 pub record Whole (width most : ℕ) (t : List ℕ) : Type 0 where
   pub unbroken : length t % width ≡ 0
   pub few : length t / width ≤ most
@@ -159,13 +161,14 @@ pub record TablesFit (t : Tables) (long long' : ℕ) : Type 0 where
 abbrev pub TablesOk : Call → Type 0
 TablesOk c = TablesFit c.tables (length c.area) (length c.spare)
 
--- test 6: every number in a record is declared, and no step kind is above 1
-abbrev pub kinds : List ℕ → List ℕ
-kinds t = records step_width (λ t k. field step_width t 0 k) t
+-- the kind of step k
+abbrev pub step_kind : List ℕ → ℕ → ℕ
+step_kind t k = field step_width t 0 k
 
+-- test 6: every number in a record is declared, and no step kind is above 1
 pub record NumbersFit (c : Counts) (t : Tables) : Type 0 where
   pub declared : NumbersDeclared (collection c t)
-  pub step-kinds : Each (kinds t.steps) (λ k. k ≤ 1)
+  pub step-kinds : Each (records step_width step_kind t.steps) (λ kind. kind ≤ 1)
 
 abbrev pub NumbersOk : Call → Type 0
 NumbersOk c = NumbersFit c.counts c.tables

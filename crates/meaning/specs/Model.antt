@@ -1,4 +1,5 @@
--- The canonical model to any depth: its elements, their concepts, its edges and contradictions.
+-- The canonical model to any depth (docs/RULES.md, section 5): its elements, their concepts, its
+-- edges and contradictions.
 use Rattle.kinds.specs.declared.ConceptName.{ConceptName}
 use Rattle.kinds.specs.declared.RoleName.{RoleName}
 use Rattle.kinds.specs.declared.Individual.{Individual}
@@ -84,7 +85,8 @@ module _ (𝓒 : Collection) where
     edge = FactEdge;
   }
 
-  -- an element of the canonical model: an individual followed by a finite row of signed roles
+  -- an individual followed by a finite row of signed roles; those that belong are the elements of the
+  -- canonical model, and no edge leads to another
   abbrev pub Element : Type 0
   Element = Elem Individual SignedRole
 

@@ -1,4 +1,5 @@
--- The outcome of a library call: for every input its answer, and what both areas hold after it.
+-- The outcome of a library call (docs/RULES.md, section 7): for every input its answer, and what both
+-- areas hold after it.
 use Rattle.std.specs.Prelude.{List, ℕ, ◌≤◌, ◌<◌}
 use Rattle.kinds.specs.declared.Answer.{Answer}
 use Rattle.kinds.specs.declared.Answer.TheVariants.{No, Yes, Contradiction, AllowanceSpent, BadCount, BadTable, BadNumber, EqualEnds, BadAsk}

@@ -1,5 +1,5 @@
--- The question: paths with elements and states in step, the words they spell, and when a pair is
--- yes.
+-- The question (docs/RULES.md, section 5): paths with elements and states in step, the words they
+-- spell, and when a pair is yes.
 use Rattle.std.specs.Prelude.{List, [], ◌∷◌}
 use Rattle.kinds.specs.declared.ConceptName.{ConceptName}
 use Rattle.kinds.specs.declared.Individual.{Individual}

@@ -1,4 +1,5 @@
--- A run: finitely many moves, things and states in step. One notion serves the canonical model, its
+-- A run: finitely many moves, things and states in step (docs/RULES.md, section 5, a path). One
+-- notion serves the canonical model, its
 -- trees and every world.
 
 pub data Run {X S : Type 0} (Move : X → S → X → S → Type 0) : X → S → X → S → Type 0 where

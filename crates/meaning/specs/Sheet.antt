@@ -1,4 +1,5 @@
--- The loop sheet, round by round; the rounds needed; what it is for a sheet to be closed.
+-- The loop sheet, round by round (docs/RULES.md, section 6); the rounds needed; what it is for a
+-- sheet to be closed.
 use Rattle.std.specs.Prelude.{◌≡◌, ℕ, zero, suc}
 use Rattle.laws.specs.Member.{◌∈◌}
 use Rattle.laws.specs.Rounds.{Least}

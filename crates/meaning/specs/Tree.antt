@@ -1,4 +1,5 @@
--- Elements grown from roots, paths over them, and the loops at a concept, for any rules' kind.
+-- Elements grown from roots (docs/RULES.md, section 5), paths over them, and the loops at a concept
+-- (section 6), for any rules' kind.
 use Rattle.std.specs.Prelude.{◌↔◌, ◌≡◌, refl}
 use Rattle.meaning.specs.Run.{Run, stop, go, one, join}
 use Rattle.meaning.specs.Kind.{Kind}

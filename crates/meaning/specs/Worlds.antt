@@ -1,5 +1,5 @@
--- The worlds that a collection may speak of, and what its facts and rules force: what holds in each
--- world that has the facts and keeps the rules.
+-- The worlds that a collection may speak of (docs/RULES.md, section 1). What holds in each of them
+-- its facts and rules force.
 use Rattle.kinds.specs.declared.ConceptName.{ConceptName}
 use Rattle.kinds.specs.declared.RoleName.{RoleName}
 use Rattle.kinds.specs.declared.Individual.{Individual}
@@ -10,7 +10,8 @@ use Rattle.kinds.specs.declared.Concept.TheVariants.{Name, Exists}
 use Rattle.kinds.specs.Kinds.{inverse, forward}
 use Rattle.laws.specs.Member.{◌∈◌}
 use Rattle.meaning.specs.Collection.{Collection}
-use Rattle.meaning.specs.Model.{Structure}
+use Rattle.meaning.specs.Tree.{root}
+use Rattle.meaning.specs.Model.{Structure, Element, Belongs, individuals, canonical}
 use Rattle.meaning.specs.Question.{PathIn}
 
 -- a world: a structure, and the thing that each individual is. Different individuals may be one
@@ -48,16 +49,25 @@ module _ (𝓒 : Collection) (𝓦 : World) where
     pub roles : {R S : SignedRole} → (R, S) ∈ 𝓒.role-exclusions → {x y : structure.Thing}
         → structure.edge x R y → structure.edge x S y → ⊥
 
+  -- a world of the collection: both
+  pub record IsWorld : Type 0 where
+    pub keeps : Keeps
+    pub respects : Respects
+
   -- a path of the question leads in it from one individual to the other
   abbrev pub YesIn : Individual → Individual → Type 0
   YesIn a b =
       (t : State) × (t ∈ 𝓒.finals) × PathIn 𝓒 structure (person a) 𝓒.counts.start (person b) t
 
-module _ (𝓒 : Collection) where
-  -- the facts and rules together force a path: every world has one
-  abbrev pub Forced : Individual → Individual → Type 1
-  Forced a b = (𝓦 : World) → Keeps 𝓒 𝓦 → Respects 𝓒 𝓦 → YesIn 𝓒 𝓦 a b
-
-  -- no world has the facts and keeps all rules
-  abbrev pub NoWorld : Type 1
-  NoWorld = (𝓦 : World) → Keeps 𝓒 𝓦 → Respects 𝓒 𝓦 → ⊥
+-- the canonical model as a world: the elements that belong, with their names and edges; each
+-- individual is itself
+abbrev pub model_world : Collection → World
+model_world 𝓒 = record {
+  structure = record {
+    Thing = Element 𝓒;
+    name = λ x A. Belongs 𝓒 (individuals 𝓒) x × (canonical 𝓒).name x A;
+    edge = λ x S y. Belongs 𝓒 (individuals 𝓒) x × Belongs 𝓒 (individuals 𝓒) y
+        × (canonical 𝓒).edge x S y;
+  };
+  person = root;
+}

@@ -1,2 +1,10 @@
-// What the rules of docs/RULES.md mean stands in specs/, and the theorems about it in proofs/. No code.
+// What the rules of docs/RULES.md mean stands in specs/; that it has the laws which a reader expects
+// is what the functions here promise. They have nothing to do: each clause is a law.
 #![tactic(auto)]
+
+pub mod calls;
+pub mod excluded;
+pub mod model;
+pub mod orders;
+pub mod sheet;
+pub mod worlds;

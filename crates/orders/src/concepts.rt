@@ -99,13 +99,24 @@ fn turned(rows: &ConceptRows) -> ConceptRows
     ensures { IsTurned concept_width (concept_marks rows.now) (concept_marks result) }
 {
     let mut out = [ConceptSet::EMPTY; Concept::NUMBERS];
-    for i in 0..Concept::NUMBERS {
+    for (i, row) in rows.iter().enumerate() {
         let below = Concept::read(i as u16);
-        for above in rows[i].iter() {
+        for above in row.iter() {
             out[above.number()].insert(below);
         }
     }
     out
+}
+
+// The row of a concept; of a number that has no row none.
+fn row_of(rows: &ConceptRows, c: Concept) -> ConceptSet
+    ensures { result ≡ slice_index_or rows.now (number_of c) no_concepts }
+{
+    let k = c.number();
+    if k < Concept::NUMBERS {
+        return rows[k];
+    }
+    ConceptSet::EMPTY
 }
 
 /// C ≤ D: for each concept those above it, and those below it.
@@ -134,21 +145,13 @@ impl ConceptOrder {
     pub fn above(&self, c: Concept) -> ConceptSet
         ensures { result ≡ slice_index_or self.now.above (number_of c) no_concepts }
     {
-        let k = c.number();
-        if k < Concept::NUMBERS {
-            return self.above[k];
-        }
-        ConceptSet::EMPTY
+        row_of(&self.above, c)
     }
 
     /// The concepts C with C ≤ D; below a number that no concept has is none.
     pub fn below(&self, d: Concept) -> ConceptSet
         ensures { result ≡ slice_index_or self.now.below (number_of d) no_concepts }
     {
-        let k = d.number();
-        if k < Concept::NUMBERS {
-            return self.below[k];
-        }
-        ConceptSet::EMPTY
+        row_of(&self.below, d)
     }
 }

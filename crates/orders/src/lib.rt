@@ -3,6 +3,7 @@
 
 mod concepts;
 mod roles;
+pub mod theorems;
 
 pub use concepts::{ConceptOrder, mark_pairs};
 pub use roles::RoleOrder;

@@ -1,10 +1,10 @@
 // R ≤ S: the marks of the rules in an array of row arrays, closed by value, and then packed into rows of sets.
 
-ghost use Rattle.std.specs.Prelude.{◌<◌, ◌≡◌, length, slice_index_or};
+ghost use Rattle.std.specs.Prelude.{◌<◌, ◌≡◌, length};
 ghost use Rattle.laws.specs.Warshall.{Stepped, Closes};
 ghost use Rattle.laws.specs.Marks.{mark};
 ghost use Rattle.sets.specs.Bits.{role_width};
-ghost use Rattle.sets.specs.Rows.{Adds, role_marks, no_roles};
+ghost use Rattle.sets.specs.Rows.{Adds, role_marks};
 ghost use Rattle.orders.specs.Rows.{IsRoleOrder};
 ghost use Rattle.orders.specs.Marks.{Square, Pair, Diagonal, OrRow, Turned, RoleListed, Packs, PacksRows};
 
@@ -119,8 +119,8 @@ fn pack_row(row: &RoleRow) -> RoleSet
     ensures { Packs row.now result.0 }
 {
     let mut out = RoleSet::EMPTY;
-    for j in 0..SignedRole::NUMBERS {
-        out.insert_if(SignedRole(j as u16), row[j]);
+    for (j, on) in row.iter().enumerate() {
+        out.insert_if(SignedRole(j as u16), *on);
     }
     out
 }
@@ -155,16 +155,5 @@ impl RoleOrder {
         RoleOrder {
             above: pack(&closed),
         }
-    }
-
-    /// The roles S with R ≤ S; above a number that no role has is none.
-    pub fn above(&self, role: SignedRole) -> RoleSet
-        ensures { result ≡ slice_index_or self.now.above role.0 no_roles }
-    {
-        let k = role.0 as usize;
-        if k < SignedRole::NUMBERS {
-            return self.above[k];
-        }
-        RoleSet::EMPTY
     }
 }

@@ -19,7 +19,7 @@ use Rattle.streams.specs.Lines.{lines}
 use Rattle.frames.specs.declared.Frame.{Frame}
 use Rattle.frames.specs.declared.Frame.TheVariants.{Declared, ConceptRule, ConceptExclusion, RoleRule, RoleExclusion, ConceptFact, RoleFact, RoleStep, TestStep, Final, Ask, Allowance}
 use Rattle.reading.specs.Tables.{Kind, concept_rules, concept_exclusions, role_rules, role_exclusions, concept_facts, role_facts, steps, finals, asks, record_in, width, most, entries, table, declared_by}
-use Rattle.reading.specs.File.{file_of, asked}
+use Rattle.reading.specs.File.{asked}
 use Rattle.reading.specs.Reading.{Verdict, sound, frames_of, Reading, empty, whole, stopped, onward, Taken, none, more}
 use Rattle.reading.proofs.TableLaws.{record-width, entries-cons, table-length}
 use Rattle.reading.proofs.Passed.{Passed, judged_ok, taken-keeps}
@@ -168,7 +168,7 @@ module _ {fs : List Frame} (t : Taken fs) where
 
   -- the tests 5 to 8; line 1's counts have passed test 4
   module _ (k : ℕ) where
-    tables-ok : TablesOk (asked (file_of fs) k)
+    tables-ok : TablesOk (asked fs k)
     tables-ok = record {
       tables = record {
         concept-rules = whole-table concept_rules (omega arith);
@@ -184,7 +184,7 @@ module _ {fs : List Frame} (t : Taken fs) where
       spare = length-replicate {A = ℕ} area_length 0;
     }
 
-    numbers-ok : NumbersOk (asked (file_of fs) k)
+    numbers-ok : NumbersOk (asked fs k)
     numbers-ok = record {
       declared = record {
         concept-rules = each concept_rules (omega arith) concept_pair (ConceptsDeclared (declared_by fs)) (record-passes concept_rules);
@@ -199,7 +199,7 @@ module _ {fs : List Frame} (t : Taken fs) where
       step-kinds = each steps (omega arith) (λ t k. field step_width t 0 k) (λ n. n ≤ 1) (λ i h. (record-passes steps i h).0);
     }
 
-    ends-ok : EndsOk (asked (file_of fs) k)
+    ends-ok : EndsOk (asked fs k)
     ends-ok = each role_facts (omega arith) role_fact EndsDiffer (λ i h. (record-passes role_facts i h).1)
 
 -- a file with a record in some table has its line 1
@@ -209,7 +209,7 @@ some-begun kind k [] h e = omega arith
 some-begun kind k (f ∷ fs) h e = cc
 
 -- THEOREM: where frames are taken, the call of each ask among them passes the library's tests 4 to 8
-pub accepted : (fs : List Frame) → Taken fs → (k : ℕ) → k < entries asks fs → Sound (asked (file_of fs) k)
+pub accepted : (fs : List Frame) → Taken fs → (k : ℕ) → k < entries asks fs → Sound (asked fs k)
 accepted fs t k h =
     record {
       counts = fitting fs t (some-begun asks k fs h);
@@ -227,5 +227,5 @@ reading-taken (stopped before l ls r h) t = t
 reading-taken (onward before l ls f v h rest) t = reading-taken rest (more before f t (judged_ok h))
 
 -- THEOREM: a file that is read whole is accepted
-pub whole-accepted : (input : List ℕ) (fs : List Frame) → Reading [] (lines input) (sound fs) → (k : ℕ) → k < entries asks fs → Sound (asked (file_of fs) k)
+pub whole-accepted : (input : List ℕ) (fs : List Frame) → Reading [] (lines input) (sound fs) → (k : ℕ) → k < entries asks fs → Sound (asked fs k)
 whole-accepted input fs r = accepted fs (reading-taken r none)

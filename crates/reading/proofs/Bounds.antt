@@ -1,28 +1,12 @@
 -- Frames that are taken stay within the most of each table, so that there are at most 7,186 of them.
-use Rattle.std.specs.Prelude.{ℕ, ◌+◌, ◌≤◌, ◌≡◌, Bool, true, false, List, [], ◌∷◌, ◌++◌, Option, None, Some, cond, is_some, IsSome, length}
+use Rattle.std.specs.Prelude.{ℕ, ◌+◌, ◌≤◌, ◌≡◌, Bool, true, false, List, [], ◌∷◌, ◌++◌, Option, None, Some, cond, is_some, length}
 use Rattle.std.proofs.Common.{refl, ap, ◌∙◌, arith, length-append}
-use Rattle.meaning.specs.Lent.{most_concept_rules, most_concept_exclusions, most_role_rules, most_role_exclusions, most_concept_facts, most_role_facts, most_steps, most_finals}
 use Rattle.frames.specs.declared.Frame.{Frame}
 use Rattle.frames.specs.declared.Frame.TheVariants.{Declared, ConceptRule, ConceptExclusion, RoleRule, RoleExclusion, ConceptFact, RoleFact, RoleStep, TestStep, Final, Ask, Allowance}
-use Rattle.reading.specs.Tables.{Kind, concept_rules, concept_exclusions, role_rules, role_exclusions, concept_facts, role_facts, steps, finals, asks, record_in, most, most_asks, entries, allowance_given}
-use Rattle.reading.specs.Judged.{Room, HasRoom}
+use Rattle.reading.specs.Tables.{Kind, concept_rules, concept_exclusions, role_rules, role_exclusions, concept_facts, role_facts, steps, finals, asks, record_in, most, entries, allowance_given}
 use Rattle.reading.specs.Reading.{Taken}
 use Rattle.reading.proofs.TableLaws.{added, entries-more}
 use Rattle.reading.proofs.Passed.{Passed, taken-keeps}
-
--- the table that a frame goes into is the one that was tested
-room-of : (before : List Frame) (kind : Kind) (f : Frame) → IsSome (record_in kind f) → HasRoom before f → Room before kind
-room-of before concept_rules (ConceptRule C D) s h = h
-room-of before concept_exclusions (ConceptExclusion C D) s h = h
-room-of before role_rules (RoleRule R S) s h = h
-room-of before role_exclusions (RoleExclusion R S) s h = h
-room-of before concept_facts (ConceptFact A a) s h = h
-room-of before role_facts (RoleFact r a b) s h = h
-room-of before steps (RoleStep p R q) s h = h
-room-of before steps (TestStep p A q) s h = h
-room-of before finals (Final p) s h = h
-room-of before asks (Ask a b) s h = h
-room-of before kind f s h = absurd cc
 
 no_entries : (kind : Kind) → entries kind [] ≤ most kind
 unfolding entries
@@ -32,7 +16,7 @@ pub few : (kind : Kind) (fs : List Frame) → Taken fs → entries kind fs ≤ m
 few kind = taken-keeps (λ fs. entries kind fs ≤ most kind) (no_entries kind) step
   where
     by : (before : List Frame) (f : Frame) → Passed before f → entries kind before ≤ most kind → (b : Bool) → is_some (record_in kind f) ≡ b → entries kind (before ++ f ∷ []) ≤ most kind
-    by before f p h true e = let r = room-of before kind f e p.room in rw (entries-more kind before f, e) (omega arith)
+    by before f p h true e = let r = p.room kind e in rw (entries-more kind before f, e) (omega arith)
     by before f p h false e = rw (entries-more kind before f, e) (omega arith)
 
     step : (before : List Frame) (f : Frame) → Taken before → Passed before f → entries kind before ≤ most kind → entries kind (before ++ f ∷ []) ≤ most kind
@@ -96,7 +80,7 @@ module _ (before : List Frame) where
 
 -- the most lines of a sound file: line 1, the allowance, and as many as the tables have records; 7,186
 abbrev pub most_lines : ℕ
-most_lines = 2 + most_concept_rules + most_concept_exclusions + most_role_rules + most_role_exclusions + most_concept_facts + most_role_facts + most_steps + most_finals + most_asks
+most_lines = 2 + most concept_rules + most concept_exclusions + most role_rules + most role_exclusions + most concept_facts + most role_facts + most steps + most finals + most asks
 
 given-most : (o : Option ℕ) → cond (is_some o) 1 0 ≤ 1
 given-most None = omega arith

@@ -1,5 +1,5 @@
 -- What a frame is judged by what is held is what it is judged after the frames.
-use Rattle.std.specs.Prelude.{◌<◌, ◌≡◌, ◌≢◌, ◌↔◌, List, [], ◌∷◌, Result, Ok, Err, length}
+use Rattle.std.specs.Prelude.{IsSome, ◌<◌, ◌≡◌, ◌≢◌, ◌↔◌, List, [], ◌∷◌, Result, Ok, Err, length}
 use Rattle.std.proofs.Common.{refl, arith}
 use Rattle.laws.specs.First.{First, fails, holds, first-onward}
 use Rattle.frames.specs.declared.Frame.{Frame}
@@ -7,9 +7,9 @@ use Rattle.frames.specs.declared.Frame.TheVariants.{Declared, ConceptRule, Conce
 use Rattle.reading.specs.declared.File.{File}
 use Rattle.reading.specs.declared.Refusal.{Refusal}
 use Rattle.reading.specs.declared.Refusal.TheVariants.{BadCount, BadTable, BadNumber, EqualEnds, BadAsk, OutOfPlace}
-use Rattle.reading.specs.Tables.{Kind, concept_rules, concept_exclusions, role_rules, role_exclusions, concept_facts, role_facts, steps, finals, asks, table}
+use Rattle.reading.specs.Tables.{Kind, concept_rules, concept_exclusions, role_rules, role_exclusions, concept_facts, role_facts, steps, finals, asks, record_in, most, entries, table}
 use Rattle.reading.specs.File.{file_of, IsInPlace, HasShelfRoom, RoomIn}
-use Rattle.reading.specs.Judged.{InPlace, CountsOk, Room, HasRoom, NumbersOk, EndsDiffer, AskOk, Judged}
+use Rattle.reading.specs.Judged.{InPlace, CountsOk, HasRoom, NumbersOk, EndsDiffer, AskOk, Judged}
 use Rattle.reading.specs.Turns.{JudgedBy}
 use Rattle.reading.proofs.TableLaws.{table-length}
 
@@ -27,7 +27,11 @@ module _ (before : List Frame) where
   in_place (Allowance n) = (λ h. ((begun before).0 h.0, h.1), λ h. ((begun before).1 h.0, h.1))
   in_place f = begun before
 
-  room-in : (kind : Kind) → RoomIn kind (table kind before) ↔ Room before kind
+  -- room for one more record
+  abbrev Room : Kind → Type 0
+  Room kind = entries kind before < most kind
+
+  room-in : (kind : Kind) → RoomIn kind (table kind before) ↔ Room kind
   room-in concept_rules = (λ h. omega (arith, table-length concept_rules before), λ h. omega (arith, table-length concept_rules before))
   room-in concept_exclusions = (λ h. omega (arith, table-length concept_exclusions before), λ h. omega (arith, table-length concept_exclusions before))
   room-in role_rules = (λ h. omega (arith, table-length role_rules before), λ h. omega (arith, table-length role_rules before))
@@ -38,18 +42,34 @@ module _ (before : List Frame) where
   room-in finals = (λ h. omega (arith, table-length finals before), λ h. omega (arith, table-length finals before))
   room-in asks = (λ h. omega (arith, table-length asks before), λ h. omega (arith, table-length asks before))
 
+  room-to : (kind : Kind) (f : Frame) → HasShelfRoom (file_of before) f → IsSome (record_in kind f) → Room kind
+  room-to concept_rules (ConceptRule C D) h e = (room-in concept_rules).0 h
+  room-to concept_exclusions (ConceptExclusion C D) h e = (room-in concept_exclusions).0 h
+  room-to role_rules (RoleRule R S) h e = (room-in role_rules).0 h
+  room-to role_exclusions (RoleExclusion R S) h e = (room-in role_exclusions).0 h
+  room-to concept_facts (ConceptFact A a) h e = (room-in concept_facts).0 h
+  room-to role_facts (RoleFact r a b) h e = (room-in role_facts).0 h
+  room-to steps (RoleStep s R t) h e = (room-in steps).0 h
+  room-to steps (TestStep s A t) h e = (room-in steps).0 h
+  room-to finals (Final s) h e = (room-in finals).0 h
+  room-to asks (Ask a b) h e = (room-in asks).0 h
+  room-to kind f h e = absurd cc
+
+  room-from : (f : Frame) → HasRoom before f → HasShelfRoom (file_of before) f
+  room-from (ConceptRule C D) h = (room-in concept_rules).1 (h concept_rules refl)
+  room-from (ConceptExclusion C D) h = (room-in concept_exclusions).1 (h concept_exclusions refl)
+  room-from (RoleRule R S) h = (room-in role_rules).1 (h role_rules refl)
+  room-from (RoleExclusion R S) h = (room-in role_exclusions).1 (h role_exclusions refl)
+  room-from (ConceptFact A a) h = (room-in concept_facts).1 (h concept_facts refl)
+  room-from (RoleFact r a b) h = (room-in role_facts).1 (h role_facts refl)
+  room-from (RoleStep s R t) h = (room-in steps).1 (h steps refl)
+  room-from (TestStep s A t) h = (room-in steps).1 (h steps refl)
+  room-from (Final s) h = (room-in finals).1 (h finals refl)
+  room-from (Ask a b) h = (room-in asks).1 (h asks refl)
+  room-from f h = tt
+
   pub room : (f : Frame) → HasShelfRoom (file_of before) f ↔ HasRoom before f
-  room (ConceptRule C D) = room-in concept_rules
-  room (ConceptExclusion C D) = room-in concept_exclusions
-  room (RoleRule R S) = room-in role_rules
-  room (RoleExclusion R S) = room-in role_exclusions
-  room (ConceptFact A a) = room-in concept_facts
-  room (RoleFact r a b) = room-in role_facts
-  room (RoleStep s R t) = room-in steps
-  room (TestStep s A t) = room-in steps
-  room (Final s) = room-in finals
-  room (Ask a b) = room-in asks
-  room f = (λ h. h, λ h. h)
+  room f = (λ h kind. room-to kind f h, room-from f)
 
 -- a row of conditions of which one is put in other words
 first-same : {A : Type 0} {P Q : Type 0} {answer : A} {Rest Other : A → Type 0} {r : A} → P ↔ Q → (Rest r → Other r) → First P answer Rest r → First Q answer Other r

@@ -8,3 +8,4 @@ pub mod GoingOn
 pub mod Once
 pub mod Accepted
 pub mod Prefix
+pub mod Listed

@@ -3,12 +3,12 @@ use Rattle.std.specs.Prelude.{ℕ, zero, suc, ◌+◌, ◌-◌, ◌*◌, ◌<◌
 use Rattle.std.proofs.Common.{refl, sym, ap, subst, take_all, take-take, length-append, arith}
 use Rattle.std.proofs.Math.Seq.{take-append-add}
 use Rattle.std.proofs.lemmas.Bool.Decides.{nat_tests}
-use Rattle.streams.specs.Lines.{newline, longer, lines}
-use Rattle.frames.specs.Digits.{line_length}
+use Rattle.streams.specs.Lines.{longer, lines}
 use Rattle.frames.specs.declared.Frame.{Frame}
 use Rattle.frames.specs.declared.Misread.TheVariants as misread
 use Rattle.reading.specs.declared.Refusal.TheVariants.{BadLine}
 use Rattle.reading.specs.Reading.{Finds, unread, Verdict, Reading, stopped, onward, Taken, none, more}
+use Rattle.reading.specs.Laws.{Alike, far, ended, same, long}
 use Rattle.reading.proofs.Passed.{judged_ok}
 use Rattle.reading.proofs.Bounds.{most_lines, within-lines}
 use Rattle.reading.proofs.GoingOn.{long_line}
@@ -16,18 +16,11 @@ use Rattle.reading.proofs.Once.{finds-once}
 
 -- the bytes of a line of the most characters and its end
 abbrev pub line_bytes : ℕ
-line_bytes = line_length + 1
+line_bytes = 64 + 1
 
 -- one line more than a sound file can have
 abbrev pub most_bytes : ℕ
 most_bytes = (most_lines + 1) * line_bytes
-
--- two rows of lines that read alike for r lines: the same lines, up to one that is too long in both
-pub data Alike : ℕ → List (List ℕ) → List (List ℕ) → Type 0 where
-  far : {ls ms : List (List ℕ)} → Alike 0 ls ms
-  ended : {r : ℕ} → Alike r [] []
-  same : {r : ℕ} {ls ms : List (List ℕ)} (l : List ℕ) → Alike r ls ms → Alike (suc r) (l ∷ ls) (l ∷ ms)
-  long : {r : ℕ} {ls ms : List (List ℕ)} (l m : List ℕ) → line_length < length l → line_length < length m → Alike r (l ∷ ls) (m ∷ ms)
 
 alike-back : {r : ℕ} {ls ms : List (List ℕ)} → Alike r ls ms → Alike r ms ls
 alike-back far = far
@@ -36,8 +29,8 @@ alike-back (same l a) = same l (alike-back a)
 alike-back (long l m h k) = long m l k h
 
 -- a line that is too long is no line
-finds_long : (before : List Frame) (l : List ℕ) → line_length < length l → Finds before l (Err BadLine)
-finds_long before l h = unread misread.BadLine (long_line l line_length (omega arith) h)
+finds_long : (before : List Frame) (l : List ℕ) → 64 < length l → Finds before l (Err BadLine)
+finds_long before l h = unread misread.BadLine (long_line l 64 (omega arith) h)
 
 pub reading-alike : {r : ℕ} {ls ms : List (List ℕ)} {before : List Frame} {v : Verdict} → Alike r ls ms → Taken before → most_lines < r + length before
     → Reading before ls v → Reading before ms v
@@ -56,7 +49,7 @@ reading-alike (long l m h k) t u (onward before _ ls f v g rest) =
 
 -- characters without a line's end
 record Plain (l : List ℕ) : Type 0 where
-  none-here : (k : ℕ) → k < length l → get_or l k 0 ≢ newline
+  none-here : (k : ℕ) → k < length l → get_or l k 0 ≢ 0x0A
 
 plain-rest : (c : ℕ) (l : List ℕ) → Plain (c ∷ l) → Plain l
 plain-rest c l p = record { none-here = λ k h. p.none-here (suc k) (omega arith) }
@@ -65,18 +58,18 @@ no_lines : lines [] ≡ []
 unfolding lines
 no_lines = refl
 
-lines-longer : (c : ℕ) (x : List ℕ) → c ≢ newline → lines (c ∷ x) ≡ longer c (lines x)
+lines-longer : (c : ℕ) (x : List ℕ) → c ≢ 0x0A → lines (c ∷ x) ≡ longer c (lines x)
 unfolding lines
-lines-longer c x n = let e : (c == newline) ≡ false = grind (arith, nat_tests) in rw e refl
+lines-longer c x n = let e : (c == 0x0A) ≡ false = grind (arith, nat_tests) in rw e refl
 
-lines-newline : (x : List ℕ) → lines (newline ∷ x) ≡ [] ∷ lines x
+lines-newline : (x : List ℕ) → lines (0x0A ∷ x) ≡ [] ∷ lines x
 unfolding lines
 lines-newline x = refl
 
 -- the first line, up to its end
-line_first : (l rest : List ℕ) → Plain l → lines (l ++ newline ∷ rest) ≡ l ∷ lines rest
+line_first : (l rest : List ℕ) → Plain l → lines (l ++ 0x0A ∷ rest) ≡ l ∷ lines rest
 line_first [] rest p = lines-newline rest
-line_first (c ∷ l) rest p = rw (lines-longer c (l ++ newline ∷ rest) (p.none-here 0 (omega arith)), line_first l rest (plain-rest c l p)) refl
+line_first (c ∷ l) rest p = rw (lines-longer c (l ++ 0x0A ∷ rest) (p.none-here 0 (omega arith)), line_first l rest (plain-rest c l p)) refl
 
 -- a last line without its end
 line-last : (c : ℕ) (l : List ℕ) → Plain (c ∷ l) → lines (c ∷ l) ≡ (c ∷ l) ∷ []
@@ -85,30 +78,30 @@ line-last c (d ∷ l) p = rw (lines-longer c (d ∷ l) (p.none-here 0 (omega ari
 
 -- the start of an input, looked at for k characters: a line that ends, a last line, or a line that is longer
 data Scanned (k : ℕ) (x : List ℕ) : Type 0 where
-  at-end : (l rest : List ℕ) → Plain l → length l < k → x ≡ l ++ newline ∷ rest → Scanned k x
+  at-end : (l rest : List ℕ) → Plain l → length l < k → x ≡ l ++ 0x0A ∷ rest → Scanned k x
   at_last : Plain x → length x < k → Scanned k x
   beyond : k ≤ length x → Plain (take k x) → Scanned k x
 
 plain-none : Plain []
 plain-none = record { none-here = λ k h. absurd (omega arith) }
 
-plain_more : (c : ℕ) (l : List ℕ) → c ≢ newline → Plain l → Plain (c ∷ l)
+plain_more : (c : ℕ) (l : List ℕ) → c ≢ 0x0A → Plain l → Plain (c ∷ l)
 plain_more c l n p = record { none-here = by }
   where
-    by : (k : ℕ) → k < suc (length l) → get_or (c ∷ l) k 0 ≢ newline
+    by : (k : ℕ) → k < suc (length l) → get_or (c ∷ l) k 0 ≢ 0x0A
     by zero h = n
     by (suc k) h = p.none-here k (omega arith)
 
 scan : (k : ℕ) (x : List ℕ) → Scanned k x
 scan zero x = beyond (omega arith) plain-none
 scan (suc k) [] = at_last plain-none (omega arith)
-scan (suc k) (c ∷ x) = by (c == newline) refl (scan k x)
+scan (suc k) (c ∷ x) = by (c == 0x0A) refl (scan k x)
   where
-    other : (c == newline) ≡ false → c ≢ newline
+    other : (c == 0x0A) ≡ false → c ≢ 0x0A
     other e = grind (arith, nat_tests)
 
-    by : (b : Bool) → (c == newline) ≡ b → Scanned k x → Scanned (suc k) (c ∷ x)
-    by true e s = let i : c ≡ newline = grind (arith, nat_tests) in at-end [] x plain-none (omega arith) (ap (λ d. d ∷ x) i)
+    by : (b : Bool) → (c == 0x0A) ≡ b → Scanned k x → Scanned (suc k) (c ∷ x)
+    by true e s = let i : c ≡ 0x0A = grind (arith, nat_tests) in at-end [] x plain-none (omega arith) (ap (λ d. d ∷ x) i)
     by false e (at-end l rest p h i) = at-end (c ∷ l) rest (plain_more c l (other e) p) (omega arith) (ap (λ y. c ∷ y) i)
     by false e (at_last p h) = at_last (plain_more c x (other e) p) (omega arith)
     by false e (beyond h p) = beyond (omega arith) (plain_more c (take k x) (other e) p)
@@ -150,13 +143,13 @@ lines-alike (suc r) x n h = by (scan line_bytes x) (λ y m. lines-alike r y m)
     by (at-end l rest p g e) on =
         let m = n - suc (length l) in
         let d : n ≡ length l + suc m = omega arith in
-        rw (e, d, take-append-add l (newline ∷ rest) (suc m), line_first l rest p, line_first l (take m rest) p) (same l (on rest m (omega arith)))
+        rw (e, d, take-append-add l (0x0A ∷ rest) (suc m), line_first l rest p, line_first l (take m rest) p) (same l (on rest m (omega arith)))
     by (at_last p g) on = rw (take_all n x (omega arith)) (last-alike r x p)
     by (beyond g p) on =
-        let f = first-line line_length x g p in
+        let f = first-line 64 x g p in
         let i = take_long line_bytes n x (omega arith) g in
         let q = subst Plain (sym (take-take line_bytes n x (omega arith))) p in
-        let k = first-line line_length (take n x) i q in
+        let k = first-line 64 (take n x) i q in
         rw (f.is, k.is) (long f.line k.line (omega (arith, f.long-enough)) (omega (arith, k.long-enough)))
 
 -- THEOREM: what reading finds of the first 467,155 bytes of an input, or of any more of them, it finds of the whole, and the other way

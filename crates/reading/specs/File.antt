@@ -1,5 +1,5 @@
--- What is held of the frames that are read, each fact about them in its own field, and what is
--- asked of the library.
+-- What each ask is as a call of the library (docs/RULES.md, section 8); and what is held of the
+-- frames that are read, each fact about them in its own field.
 use Rattle.std.specs.Prelude.{ℕ, ◌+◌, ◌*◌, ◌^◌, ◌<◌, ◌≤◌, ◌≡◌, List, [], ◌∷◌, ◌++◌, None, Some, ⊤, length, unwrap_or}
 use Rattle.kinds.specs.Kinds.{number_of}
 use Rattle.meaning.specs.Lent.{Tables, Call}
@@ -9,8 +9,34 @@ use Rattle.tables.specs.Asks.{read_ask, first_of, second_of}
 use Rattle.frames.specs.declared.Frame.{Frame}
 use Rattle.frames.specs.declared.Frame.TheVariants.{Declared, ConceptRule, ConceptExclusion, RoleRule, RoleExclusion, ConceptFact, RoleFact, RoleStep, TestStep, Final, Ask, Allowance}
 use Rattle.reading.specs.declared.File.{File}
-use Rattle.reading.specs.Tables.{Kind, concept_rules, concept_exclusions, role_rules, role_exclusions, concept_facts, role_facts, steps, finals, asks, width, most, table, declared_by, allowance_given, usual_allowance}
+use Rattle.reading.specs.Tables.{Kind, concept_rules, concept_exclusions, role_rules, role_exclusions, concept_facts, role_facts, steps, finals, asks, width, most, table, declared_by, allowance_given, usual_allowance, rounds_allowed}
 
+-- the tables that some frames fill
+abbrev pub tables_of : List Frame → Tables
+tables_of fs = record {
+  concept-rules = table concept_rules fs;
+  concept-exclusions = table concept_exclusions fs;
+  role-rules = table role_rules fs;
+  role-exclusions = table role_exclusions fs;
+  concept-facts = table concept_facts fs;
+  role-facts = table role_facts fs;
+  steps = table steps fs;
+  finals = table finals fs;
+}
+
+-- ask k, as a call of the library over the whole file
+abbrev pub asked : List Frame → ℕ → Call
+asked fs k = record {
+  counts = declared_by fs;
+  tables = tables_of fs;
+  first = first_of (read_ask (table asks fs) k);
+  second = second_of (read_ask (table asks fs) k);
+  allowance = rounds_allowed fs;
+  area = zeros;
+  spare = zeros;
+}
+
+-- what is held of some frames
 abbrev pub file_of : List Frame → File
 file_of fs = record {
   counts = declared_by fs;
@@ -27,7 +53,7 @@ file_of fs = record {
   lines = length fs;
 }
 
--- the tables that a call of the library is lent
+-- the tables that are held, as the library is lent them
 abbrev pub lent_tables : File → Tables
 lent_tables file = record {
   concept-rules = file.concept_rules;
@@ -40,20 +66,21 @@ lent_tables file = record {
   finals = file.finals;
 }
 
+-- the allowance, and where none is given the usual one
 abbrev pub allowance_in : File → ℕ
 allowance_in file = unwrap_or file.allowance usual_allowance
 
--- ask k, and its call of the library over the whole file
+-- ask k of what is held, and its call of the library
 module _ (file : File) (k : ℕ) where
-  abbrev pub ask_at : tables.Ask
-  ask_at = read_ask file.asks k
+  abbrev pub held_ask : tables.Ask
+  held_ask = read_ask file.asks k
 
-  abbrev pub asked : Call
-  asked = record {
+  abbrev pub held_call : Call
+  held_call = record {
     counts = file.counts;
     tables = lent_tables file;
-    first = first_of ask_at;
-    second = second_of ask_at;
+    first = first_of held_ask;
+    second = second_of held_ask;
     allowance = allowance_in file;
     area = zeros;
     spare = zeros;

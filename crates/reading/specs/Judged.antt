@@ -1,6 +1,6 @@
--- The number that refuses a frame, or none: of its tests, in the order of their numbers, the first
--- that fails.
-use Rattle.std.specs.Prelude.{◌<◌, ◌≡◌, ◌≢◌, List, [], Result, Ok, Err, None, ⊤}
+-- The number that refuses a frame, or none (docs/RULES.md, section 8): of its tests, in their
+-- order, the first that fails.
+use Rattle.std.specs.Prelude.{◌<◌, ◌≡◌, ◌≢◌, List, [], Result, Ok, Err, None, IsSome, ⊤}
 use Rattle.kinds.specs.declared.Counts.{Counts}
 use Rattle.kinds.specs.Kinds.{CountsFit, StateDeclared, IndividualDeclared}
 use Rattle.laws.specs.First.{First}
@@ -9,39 +9,25 @@ use Rattle.frames.specs.declared.Frame.{Frame}
 use Rattle.frames.specs.declared.Frame.TheVariants.{Declared, ConceptRule, ConceptExclusion, RoleRule, RoleExclusion, ConceptFact, RoleFact, RoleStep, TestStep, Final, Ask, Allowance}
 use Rattle.reading.specs.declared.Refusal.{Refusal}
 use Rattle.reading.specs.declared.Refusal.TheVariants.{BadCount, BadTable, BadNumber, EqualEnds, BadAsk, OutOfPlace}
-use Rattle.reading.specs.Tables.{Kind, concept_rules, concept_exclusions, role_rules, role_exclusions, concept_facts, role_facts, steps, finals, asks, most, entries, declared_by, allowance_given}
+use Rattle.reading.specs.Tables.{Kind, record_in, most, entries, declared_by, allowance_given}
 
--- 11: line 1 declares, and no other line does; one allowance is given at most
+-- not 11: line 1 declares, and no other line does; one allowance is given at most
 module _ (before : List Frame) where
   abbrev pub InPlace : Frame → Type 0
   InPlace (Declared c) = before ≡ []
   InPlace (Allowance n) = (before ≢ []) × (allowance_given before ≡ None)
   InPlace other = before ≢ []
 
--- 4: what is declared
+-- not 4: what is declared fits
 abbrev pub CountsOk : Frame → Type 0
 CountsOk (Declared c) = CountsFit c
 CountsOk other = ⊤
 
--- 5: one frame too many
-module _ (before : List Frame) where
-  abbrev pub Room : Kind → Type 0
-  Room kind = entries kind before < most kind
+-- not 5: the table that its record goes into has room for one more
+abbrev pub HasRoom : List Frame → Frame → Type 0
+HasRoom before f = (kind : Kind) → IsSome (record_in kind f) → entries kind before < most kind
 
-  abbrev pub HasRoom : Frame → Type 0
-  HasRoom (ConceptRule C D) = Room concept_rules
-  HasRoom (ConceptExclusion C D) = Room concept_exclusions
-  HasRoom (RoleRule R S) = Room role_rules
-  HasRoom (RoleExclusion R S) = Room role_exclusions
-  HasRoom (ConceptFact A a) = Room concept_facts
-  HasRoom (RoleFact r a b) = Room role_facts
-  HasRoom (RoleStep s R t) = Room steps
-  HasRoom (TestStep s A t) = Room steps
-  HasRoom (Final s) = Room finals
-  HasRoom (Ask a b) = Room asks
-  HasRoom other = ⊤
-
--- 6: the numbers of a record
+-- not 6: each number of its record is declared
 module _ (counts : Counts) where
   abbrev pub NumbersOk : Frame → Type 0
   NumbersOk (ConceptRule C D) = ConceptsDeclared counts (C, D)
@@ -55,18 +41,18 @@ module _ (counts : Counts) where
   NumbersOk (Final s) = StateDeclared counts s
   NumbersOk other = ⊤
 
--- 7: a role fact's ends
+-- not 7: a role fact's ends differ
 abbrev pub EndsDiffer : Frame → Type 0
 EndsDiffer (RoleFact r a b) = a ≢ b
 EndsDiffer other = ⊤
 
--- 8: an asked individual
+-- not 8: each asked individual is declared
 module _ (counts : Counts) where
   abbrev pub AskOk : Frame → Type 0
   AskOk (Ask a b) = IndividualDeclared counts a × IndividualDeclared counts b
   AskOk other = ⊤
 
--- a frame after those before it: 11, then 4, 5, 6, 7, 8, or it is taken
+-- a frame after those before it: 11, then 4, 5, 6, 7, 8, and else it is taken
 module _ (before : List Frame) (f : Frame) where
   abbrev pub Judged : Result (Unit {0}) Refusal → Type 0
   Judged =

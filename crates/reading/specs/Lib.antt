@@ -5,3 +5,4 @@ pub mod Judged
 pub mod Reading
 pub mod Reads
 pub mod Turns
+pub mod Laws

@@ -1,4 +1,5 @@
--- Reading a file line by line: what each line is found to be, and what the whole file is.
+-- Reading a file line by line (docs/RULES.md, section 8): what each line is found to be, and what
+-- the whole file is.
 use Rattle.std.specs.Prelude.{ℕ, List, [], ◌∷◌, ◌++◌, Result, Ok, Err}
 use Rattle.frames.specs.Frames.{FrameOf}
 use Rattle.frames.specs.declared.Frame.{Frame}

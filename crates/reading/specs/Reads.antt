@@ -13,7 +13,9 @@ abbrev pub told_of : Verdict → Result (Unit {0}) Fault
 told_of (sound fs) = Ok tt
 told_of (faulty before r) = Err (record { line = length before + 1; refusal = r })
 
-pub record ReadsFile (ls : List (List ℕ)) (found : Result (Unit {0}) Fault) (file : File) : Type 0 where
+-- what is told and held of some lines is so of what they are found to be
+pub record ReadsFile
+    (ls : List (List ℕ)) (found : Result (Unit {0}) Fault) (file : File) : Type 0 where
   pub verdict : Verdict
   pub reading : Reading [] ls verdict
   pub told : found ≡ told_of verdict

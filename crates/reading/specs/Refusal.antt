@@ -1,10 +1,12 @@
--- The number of each refusal, and why a line that is no frame is refused.
+-- The number of each refusal (docs/RULES.md, section 7), and why a line that is no frame is
+-- refused.
 use Rattle.std.specs.Prelude.{ℕ}
 use Rattle.frames.specs.declared.Misread.{Misread}
 use Rattle.frames.specs.declared.Misread.TheVariants as unread
 use Rattle.reading.specs.declared.Refusal.{Refusal}
 use Rattle.reading.specs.declared.Refusal.TheVariants.{BadCount, BadTable, BadNumber, EqualEnds, BadAsk, BadLine, BadFrame, OutOfPlace}
 
+-- the number of each refusal
 abbrev pub refusal_number : Refusal → ℕ
 refusal_number BadCount = 4
 refusal_number BadTable = 5
@@ -15,6 +17,7 @@ refusal_number BadLine = 9
 refusal_number BadFrame = 10
 refusal_number OutOfPlace = 11
 
+-- and of a line that is no frame
 abbrev pub refusal_of : Misread → Refusal
 refusal_of unread.BadLine = BadLine
 refusal_of unread.BadFrame = BadFrame

@@ -1,5 +1,5 @@
--- What a list of frames says: what line 1 declares, the allowance, and the tables, each with the
--- records of its kind.
+-- What a list of frames says (docs/RULES.md, sections 3 and 8): what line 1 declares, the
+-- allowance, and the tables, each with the records of its kind.
 use Rattle.std.specs.Prelude.{ℕ, List, [], ◌∷◌, Option, None, Some, unwrap_or, is_some, count_by}
 use Rattle.std.specs.List.{flat_map}
 use Rattle.kinds.specs.declared.Counts.{Counts}
@@ -9,17 +9,12 @@ use Rattle.tables.specs.Asks.{ask_width}
 use Rattle.frames.specs.declared.Frame.{Frame}
 use Rattle.frames.specs.declared.Frame.TheVariants.{Declared, ConceptRule, ConceptExclusion, RoleRule, RoleExclusion, ConceptFact, RoleFact, RoleStep, TestStep, Final, Ask, Allowance}
 
--- the kinds of table; both kinds of step stand in one
+-- the eight tables of a collection, with both kinds of step in one, and the asks
 pub data Kind : Type 0 where
-  concept_rules : Kind
-  concept_exclusions : Kind
-  role_rules : Kind
-  role_exclusions : Kind
-  concept_facts : Kind
-  role_facts : Kind
-  steps : Kind
-  finals : Kind
-  asks : Kind
+  concept_rules concept_exclusions : Kind
+  role_rules role_exclusions : Kind
+  concept_facts role_facts : Kind
+  steps finals asks : Kind
 
 -- the record that a frame adds to a table, if it adds one
 abbrev pub record_in : Kind → Frame → Option (List ℕ)
@@ -35,7 +30,7 @@ record_in finals (Final s) = Some (s.0 ∷ [])
 record_in asks (Ask a b) = Some (a.0 ∷ b.0 ∷ [])
 record_in kind f = None
 
--- the numbers in a record of each kind
+-- the numbers in a record of each table
 abbrev pub width : Kind → ℕ
 width concept_rules = rule_width
 width concept_exclusions = rule_width
@@ -47,10 +42,11 @@ width steps = step_width
 width finals = final_width
 width asks = ask_width
 
--- the most records of each table
+-- the most asks of a file
 abbrev pub most_asks : ℕ
 most_asks = 256
 
+-- the most records of each table
 abbrev pub most : Kind → ℕ
 most concept_rules = most_concept_rules
 most concept_exclusions = most_concept_exclusions
@@ -70,19 +66,20 @@ entries kind fs = count_by (λ f. is_some (record_in kind f)) fs
 unfoldable pub table : Kind → List Frame → List ℕ
 table kind fs = flat_map (λ f. unwrap_or (record_in kind f) []) fs
 
--- what line 1 declares
-abbrev pub nothing_declared : Counts
-nothing_declared = record { names = 0; roles = 0; individuals = 0; states = 0; start = state 0 }
-
+-- what line 1 declares; before it nothing is declared
 abbrev pub declared_by : List Frame → Counts
 declared_by (Declared c ∷ fs) = c
-declared_by fs = nothing_declared
+declared_by fs = record { names = 0; roles = 0; individuals = 0; states = 0; start = state 0 }
 
--- the allowance, if one is given, and where none is the usual one
+-- the allowance, if one is given
 abbrev pub allowance_given : List Frame → Option ℕ
 allowance_given [] = None
 allowance_given (Allowance n ∷ fs) = Some n
 allowance_given (f ∷ fs) = allowance_given fs
 
+-- the rounds that a file allows: 64 where it does not say
 abbrev pub usual_allowance : ℕ
 usual_allowance = 64
+
+abbrev pub rounds_allowed : List Frame → ℕ
+rounds_allowed fs = unwrap_or (allowance_given fs) usual_allowance

@@ -49,7 +49,7 @@ fn ends_differ(frame: Frame) -> bool
     ensures { IsTrue result ↔ EndsDiffer frame }
 {
     match frame {
-        Frame::RoleFact(_, i, j) => i.0 != j.0,
+        Frame::RoleFact(_, i, j) => i != j,
         _ => true,
     }
 }

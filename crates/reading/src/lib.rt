@@ -6,6 +6,7 @@ ghost use Rattle.kinds.specs.Kinds.{number_of};
 ghost use Rattle.tables.specs.Lists.{lists};
 ghost use Rattle.streams.specs.Lines.{lines};
 ghost use Rattle.reading.specs.Refusal.{refusal_number, refusal_of};
+ghost use Rattle.reading.specs.Laws.{IsListed};
 ghost use Rattle.reading.specs.File.{file_of, file_with, allowance_in, lent_tables, HasShelfRoom, IsSmall};
 ghost use Rattle.reading.specs.Reads.{IsRead, ReadsFile, told_at_end};
 ghost use Rattle.reading.specs.Turns.{TakesLine};
@@ -21,6 +22,7 @@ use tables::{Ask, Collection, ConceptFact, ConceptPair, RoleFact, RolePair, Step
 mod judge;
 pub mod shelf;
 mod sizes;
+pub mod theorems;
 
 // The most asks of a file.
 pub const ASKS: usize = 256;
@@ -76,7 +78,8 @@ pub struct File {
 
 impl Refusal {
     pub fn number(self) -> u8
-        ensures { result ≡ refusal_number self }
+        ensures number { result ≡ refusal_number self }
+        ensures listed { IsListed result }
     {
         match self {
             Refusal::BadCount => 4,

@@ -1,10 +1,10 @@
 -- The laws of the maker of rows: one turn more, and what the last makes.
-use Rattle.std.specs.Prelude.{◌≡◌, refl, ◌⊎◌, Bool, true, false, ltb, List, ℕ, zero, suc, ◌+◌, ◌<◌, get_or, set, replicate}
+use Rattle.std.specs.Prelude.{◌≡◌, refl, ◌⊎◌, Bool, true, false, ltb, if◌then◌else◌, List, ℕ, zero, suc, ◌+◌, ◌-◌, ◌<◌, get_or, set, replicate}
 use Rattle.std.proofs.Common.{ltb-true, sym, ap, ◌∙◌, inl, inr, ⊎_elim, arith, Bor}
 use Rattle.kinds.specs.declared.SignedRole.{SignedRole}
 use Rattle.kinds.specs.declared.ConceptName.{ConceptName}
 use Rattle.kinds.specs.declared.Concept.TheVariants.{Name, Exists}
-use Rattle.kinds.specs.Kinds.{base, flip, inverse, state, concept_name, concept_by, concept_of, number_of, number-concept}
+use Rattle.kinds.specs.Kinds.{base, flip, inverse, signed, state, concept_name, concept_of, number_of, number-concept}
 use Rattle.laws.specs.Numbers.{numbered}
 use Rattle.meaning.specs.Collection.{Step, step, test}
 use Rattle.meaning.specs.Lent.{step_at}
@@ -91,7 +91,7 @@ name_low : (k : ℕ) (A : ConceptName) → concept_of k ≡ Name A → k < base
 unfolding concept_of
 name_low k A e = side (ltb k base) refl e
   where
-    side : (b : Bool) → ltb k base ≡ b → concept_by b k ≡ Name A → k < base
+    side : (b : Bool) → ltb k base ≡ b → (if b then Name (concept_name k) else Exists (signed (k - base))) ≡ Name A → k < base
     side true p q = ltb-true k base p
     side false p q = let z : ◌≡◌ {A = ℕ} 0 1 = cc in absurd (omega arith)
 

@@ -21,7 +21,8 @@ use Rattle.rules.specs.declared.rows.Rows.{Rows}
 use Rattle.rules.specs.Rows.{most_concepts, most_edges, pair, At, Lists, Relates, edge}
 use Rattle.rules.specs.Steps.{Among}
 use Rattle.rules.specs.Ways.{relation, Way, IsWays}
-use Rattle.rules.specs.Made.{IsStates, IsConcepts, Passes, AreTests, AreEdgesTo, IsEdge, AreEdges}
+use Rattle.rules.specs.Made.{IsStates, IsConcepts, Passes, AreTests, AreEdgesTo, IsEdge}
+use Rattle.rules.specs.Meant.{AreMade}
 use Rattle.rules.specs.RowsOf.{AreOrders, EdgeOf, RowsOf}
 use Rattle.rules.proofs.Members.{member_in, member_out}
 
@@ -74,18 +75,23 @@ module _ (𝓒 : Collection) (fit : CountsFit 𝓒.counts) (ok : NumbersDeclared
             let low : A.0 < most_concepts = omega arith in
             record { s = s; t = t; name = A.0; from_low = hs; to_low = ht; name_low = low; there = refl; made = m; follows = (o.concepts A.0 B low hB).1 (rw n.1 l) }
 
-    down_mean : (ways : List (List StateSet)) → IsWays 𝓒.steps above ways → (R s t : ℕ) → R < most_edges → s < most_states → t < most_states
+    -- THEOREM: where the ways of a signed role lead a step down does
+    pub ways_mean : (ways : List (List StateSet)) → IsWays 𝓒.steps above ways → (R s t : ℕ) → R < most_edges
         → Relates (relation ways R) s t ↔ StepDown 𝓒 (signed R) (state s) (state t)
-    down_mean ways w R s t h hs ht = (λ x. to ((w.at R s t h).0 x), λ x. (w.at R s t h).1 (from x))
+    ways_mean ways w R s t h = (λ x. to ((w.at R s t h).0 x), λ x. (w.at R s t h).1 (from x))
       where
         to : Way 𝓒.steps above R s t → StepDown 𝓒 (signed R) (state s) (state t)
         to v = (signed v.by, v.leads.made, (o.roles R v.by h v.leads.by_low).0 v.follows)
 
         from : StepDown 𝓒 (signed R) (state s) (state t) → Way 𝓒.steps above R s t
         from (S, m, l) =
-            let d = (ok.steps (step (state s) (role S) (state t)) m).1 in
-            let low : S.0 < most_edges = (let f = fit.roles in omega arith) in
-            record { by = S.0; leads = record { by_low = low; from_low = hs; to_low = ht; made = m }; follows = (o.roles R S.0 h low).1 l }
+            let d = ok.steps (step (state s) (role S) (state t)) m in
+            let a = d.0 in
+            let k = d.1 in
+            let b = d.2 in
+            let f = fit.states in
+            let low : S.0 < most_edges = (let g = fit.roles in omega arith) in
+            record { by = S.0; leads = record { by_low = low; from_low = omega arith; to_low = omega arith; made = m }; follows = (o.roles R S.0 h low).1 l }
 
     -- back up an edge is down its inverse
     up_to : (R : SignedRole) (s t : State) → StepDown 𝓒 (inverse R) s t → StepUp 𝓒 R s t
@@ -94,11 +100,11 @@ module _ (𝓒 : Collection) (fit : CountsFit 𝓒.counts) (ok : NumbersDeclared
     up_from : (R : SignedRole) (s t : State) → StepUp 𝓒 R s t → StepDown 𝓒 (inverse R) s t
     up_from R s t (U, m, l) = (inverse U, m, turned l)
 
-    up_mean : (ways : List (List StateSet)) → IsWays 𝓒.steps above ways → (R s t : ℕ) → R < most_edges → s < most_states → t < most_states
+    up_mean : (ways : List (List StateSet)) → IsWays 𝓒.steps above ways → (R s t : ℕ) → R < most_edges
         → Relates (relation ways (flip R)) s t ↔ StepUp 𝓒 (signed R) (state s) (state t)
     unfolding inverse
-    up_mean ways w R s t h hs ht =
-        let d = down_mean ways w (flip R) s t (omega arith) hs ht in
+    up_mean ways w R s t h =
+        let d = ways_mean ways w (flip R) s t (omega arith) in
         (λ x. up_to (signed R) (state s) (state t) (d.0 x), λ x. d.1 (up_from (signed R) (state s) (state t) x))
 
     edges_to_mean : (edges_to : List RoleSet) → AreEdgesTo edges_to → (child e : ℕ) → child < most_concepts
@@ -117,21 +123,20 @@ module _ (𝓒 : Collection) (fit : CountsFit 𝓒.counts) (ok : NumbersDeclared
           let u = i.up in
           record {
             parents = λ B l. rw p (rw (role-concept R) at (o.concepts (base + R) B (omega arith) l));
-            down = λ s t hs ht. rw d (down_mean ways w R s t h hs ht);
-            up = λ s t hs ht. rw u (up_mean ways w R s t h hs ht);
+            down = λ s t hs ht. rw d (ways_mean ways w R s t h);
+            up = λ s t hs ht. rw u (up_mean ways w R s t h);
           }
 
       -- THEOREM: the rows that are made say what the collection says
-      pub rows_of : IsStates 𝓒.counts most_states rows.states.0 → IsConcepts 𝓒.counts most_concepts rows.concepts.0 → AreTests 𝓒.steps below rows.tests
-          → AreEdgesTo rows.edges_to → AreEdges below ways rows.edges → RowsOf 𝓒 rows
-      rows_of s c t k e = record {
-        states = states_mean rows.states.0 s;
-        concepts = concepts_mean rows.concepts.0 c;
-        tests = tests_mean rows.tests t;
-        edges_to = edges_to_mean rows.edges_to k;
-        edges = λ R h. edge_means R h (e.at R h);
-        low = λ R m.
-            let i = inverse-declared 𝓒.counts (inverse R) (concept-out 𝓒.counts (Exists (inverse R)) m) in
+      pub rows_of : AreMade 𝓒 below ways rows → RowsOf 𝓒 rows
+      rows_of m = record {
+        states = states_mean rows.states.0 m.states;
+        concepts = concepts_mean rows.concepts.0 m.concepts;
+        tests = tests_mean rows.tests m.tests;
+        edges_to = edges_to_mean rows.edges_to m.edges_to;
+        edges = λ R h. edge_means R h (m.edges.at R h);
+        low = λ R v.
+            let i = inverse-declared 𝓒.counts (inverse R) (concept-out 𝓒.counts (Exists (inverse R)) v) in
             let d : SignedDeclared 𝓒.counts R = rw (inverse-inverse R) at i in
             let f = fit.roles in
             omega arith;

@@ -14,6 +14,7 @@ use Rattle.rules.specs.declared.rows.Rows.{Rows}
 use Rattle.rules.specs.Rows.{most_concepts, most_edges, no_edge, May, IsMarkable}
 use Rattle.rules.specs.Steps.{Among}
 use Rattle.rules.specs.Ways.{relation, Way, IsWays}
+use Rattle.rules.specs.Meant.{WaysLong}
 use Rattle.rules.specs.Made.{IsStates, IsConcepts, Passes, AreTests, AreEdgesTo, AreEdges}
 
 same_states : (x y : StateSet) → x.0 ≡ y.0 → x ≡ y
@@ -28,11 +29,6 @@ same_roles x y e = ap (λ (n : ℕ). record { 0 = n }) e
 -- THEOREM: what may be marked at a pair of states is one set
 pub markable_once : (rows : Rows) (s t m n : ℕ) → IsMarkable rows s t m → IsMarkable rows s t n → m ≡ n
 markable_once rows s t m n a b = set-once (May rows s t) m n a.member b.member
-
--- rows as their types have them
-pub record WaysLong (ways : List (List StateSet)) : Type 0 where
-  pub long : length ways ≡ most_edges
-  pub each : (R : ℕ) → R < most_edges → length (relation ways R) ≡ most_states
 
 -- THEOREM: the ways of some steps over some order are one
 pub ways_once : (steps : List Step) (above : List RoleSet) (v w : List (List StateSet)) → IsWays steps above v → IsWays steps above w → WaysLong v → WaysLong w → v ≡ w

@@ -3,3 +3,4 @@ pub mod Steps
 pub mod Ways
 pub mod Made
 pub mod RowsOf
+pub mod Meant

@@ -3,6 +3,7 @@
 
 mod made;
 mod rows;
+pub mod theorems;
 mod ways;
 
 pub use rows::{Edge, Relation, Rows};

@@ -108,8 +108,8 @@ fn edges_to(k: usize) -> RoleSet
 fn put_edges_to(edges: &mut [RoleSet; Concept::NUMBERS])
     ensures { AreEdgesTo edges.new }
 {
-    for k in 0..Concept::NUMBERS {
-        edges[k] = edges_to(k);
+    for (k, to) in edges.iter_mut().enumerate() {
+        *to = edges_to(k);
     }
 }
 
@@ -128,8 +128,8 @@ fn put_edge(edge: &mut Edge, order: &ConceptOrder, ways: &Ways, role: SignedRole
 fn put_edges(edges: &mut [Edge; SignedRole::NUMBERS], order: &ConceptOrder, ways: &Ways)
     ensures { AreEdges order.now.below ways.now.by edges.new }
 {
-    for r in 0..SignedRole::NUMBERS {
-        put_edge(&mut edges[r], order, ways, SignedRole(r as u16));
+    for (r, edge) in edges.iter_mut().enumerate() {
+        put_edge(edge, order, ways, SignedRole(r as u16));
     }
 }
 

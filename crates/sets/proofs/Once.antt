@@ -1,10 +1,13 @@
 -- The contracts of `sets` leave one answer: a set is known by its members, rows of sets by what they relate.
 use Rattle.std.specs.Prelude.{ℕ, ◌≡◌, ◌≢◌, ◌<◌, ◌+◌, ◌*◌, ◌^◌, ◌/◌, ◌%◌, ◌↔◌, true, List, length, get_or}
 use Rattle.std.specs.Int.{bit_at}
-use Rattle.std.proofs.Common.{sym, ◌∙◌, arith, rules, ext_get_or}
+use Rattle.std.proofs.Common.{sym, ap, ◌∙◌, arith, rules, ext_get_or}
 use Rattle.std.proofs.Math.Decide.{ℕ_discrete, dec_lt}
 use Rattle.std.proofs.lemmas.Nat.Bits.{bit_at-lt, bit_at_above, same_from_bits}
-use Rattle.sets.specs.Bits.{has, Has, TakesFirst, IsBytesOf}
+use Rattle.sets.specs.Bits.{concept_width, role_width, has, Has, TakesFirst, IsBytesOf}
+use Rattle.sets.specs.Rows.{no_concepts, no_roles, concept_marks, role_marks, Fits, ConceptRows, RoleRows}
+use Rattle.sets.specs.declared.concepts.ConceptSet.{ConceptSet}
+use Rattle.sets.specs.declared.roles.RoleSet.{RoleSet}
 use Rattle.sets.proofs.Laws.{past}
 
 same_bit : (a b : ℕ) → a < 2 → b < 2 → (a ≡ 1) ↔ (b ≡ 1) → a ≡ b
@@ -59,15 +62,19 @@ below-once w m n p q each = same_from_bits m n (λ j. bit j (dec_lt j w))
     bit j (no g) = bit_at_above m w j p (omega arith) ∙ sym (bit_at_above n w j q (omega arith))
 
 module _ {A : Type 0} (number : A → ℕ) (same : (x y : A) → number x ≡ number y → x ≡ y) (d : A) where
-  -- so many rows, each of a width: the type says it
-  pub record Fits (h w : ℕ) (rows : List A) : Type 0 where
-    pub long : length rows ≡ h
-    pub small : (i : ℕ) → i < h → number (get_or rows i d) < 2 ^ w
-
   -- THEOREM: rows that relate the same numbers are the same rows
-  pub rows-once : (h w : ℕ) (m n : List A) → Fits h w m → Fits h w n
+  pub rows-once : (h w : ℕ) (m n : List A) → Fits number d h w m → Fits number d h w n
       → ((i j : ℕ) → i < h → j < w → has (number (get_or m i d)) j ≡ has (number (get_or n i d)) j) → m ≡ n
   rows-once h w m n p q each =
       ext_get_or d m n (p.long ∙ sym q.long) (λ i l.
       let hi : i < h = omega (arith, p.long) in
       same _ _ (below-once w _ _ (p.small i hi) (q.small i hi) (λ j hj. each i j hi hj)))
+
+-- THEOREM: of sets of concepts, and of signed roles
+pub concept_rows_once : (h : ℕ) (m n : List ConceptSet) → ConceptRows h m → ConceptRows h n
+    → ((i j : ℕ) → i < h → j < concept_width → concept_marks m i j ≡ concept_marks n i j) → m ≡ n
+concept_rows_once h = rows-once (λ (s : ConceptSet). s.0) (λ x y e. ap (λ (n : ℕ). record { 0 = n }) e) no_concepts h concept_width
+
+pub role_rows_once : (h : ℕ) (m n : List RoleSet) → RoleRows h m → RoleRows h n
+    → ((i j : ℕ) → i < h → j < role_width → role_marks m i j ≡ role_marks n i j) → m ≡ n
+role_rows_once h = rows-once (λ (s : RoleSet). s.0) (λ x y e. ap (λ (n : ℕ). record { 0 = n }) e) no_roles h role_width

@@ -1,7 +1,7 @@
 -- How rows of sets stand for a relation between numbers: i is related to j where the set in row i
 -- has j. Past the last row no number is related to any.
-use Rattle.std.specs.Prelude.{ℕ, ◌<◌, ◌⊎◌, ◌↔◌, IsTrue, Bool, List, slice_index_or}
-use Rattle.sets.specs.Bits.{has}
+use Rattle.std.specs.Prelude.{ℕ, ◌≡◌, ◌^◌, ◌<◌, ◌⊎◌, ◌↔◌, IsTrue, Bool, List, length, slice_index_or}
+use Rattle.sets.specs.Bits.{has, concept_width, role_width}
 use Rattle.sets.specs.declared.concepts.ConceptSet.{ConceptSet}
 use Rattle.sets.specs.declared.roles.RoleSet.{RoleSet}
 use Rattle.sets.specs.declared.states.StateSet.{StateSet}
@@ -28,3 +28,19 @@ state_marks rows i j = has (slice_index_or rows i no_states).0 j
 pub record Adds (h w : ℕ) (m : ℕ → ℕ → Bool) (E : ℕ → ℕ → Type 0) (r : ℕ → ℕ → Bool) : Type 0
   where
     pub at : (i j : ℕ) → i < h → j < w → IsTrue (r i j) ↔ (IsTrue (m i j) ⊎ E i j)
+
+-- so many rows, each a number below 2 ^ w: what the type of an array of sets says
+module _ {A : Type 0} (number : A → ℕ) (none : A) where
+  pub record Fits (h w : ℕ) (rows : List A) : Type 0 where
+    pub long : length rows ≡ h
+    pub small : (i : ℕ) → i < h → number (slice_index_or rows i none) < 2 ^ w
+
+abbrev pub ConceptRows : ℕ → List ConceptSet → Type 0
+ConceptRows h = Fits (λ (s : ConceptSet). s.0) no_concepts h concept_width
+
+abbrev pub RoleRows : ℕ → List RoleSet → Type 0
+RoleRows h = Fits (λ (s : RoleSet). s.0) no_roles h role_width
+
+-- so many bytes
+abbrev pub Bytes : ℕ → List ℕ → Type 0
+Bytes m = Fits (λ (x : ℕ). x) 0 m 8

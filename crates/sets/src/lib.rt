@@ -4,6 +4,7 @@
 mod concepts;
 mod roles;
 mod states;
+pub mod theorems;
 
 pub use concepts::{ConceptSet, Concepts};
 pub use roles::{RoleSet, SignedRoles};

@@ -1,5 +1,5 @@
 -- What the sheet of the rows means: with rows that say what a collection says, rounds, ends and areas are the collection's.
-use Rattle.std.specs.Prelude.{◌≡◌, ◌↔◌, ◌<◌, ◌≤◌, List, ℕ, suc}
+use Rattle.std.specs.Prelude.{◌≡◌, ◌<◌, ◌≤◌, ℕ, suc}
 use Rattle.std.proofs.Common.{arith}
 use Rattle.std.proofs.Math.Decide.{dec_lt}
 use Rattle.kinds.specs.declared.State.{State}
@@ -18,7 +18,7 @@ use Rattle.rules.specs.Rows.{kind_of}
 use Rattle.rules.specs.RowsOf.{RowsOf}
 use Rattle.rules.proofs.Same.{mark_to, mark_from}
 use Rattle.sheet.specs.Sheets.{place}
-use Rattle.sheet.specs.Areas.{LaysMarks}
+use Rattle.sheet.specs.Meant.{NeededMeans, AreaMeans}
 
 module _ (𝓒 : Collection) (fit : CountsFit 𝓒.counts) (rows : Rows) (r : RowsOf 𝓒 rows) where
   abbrev K : Kind
@@ -42,13 +42,12 @@ module _ (𝓒 : Collection) (fit : CountsFit 𝓒.counts) (rows : Rows) (r : Ro
   pub unchanged_from : (n : ℕ) → Unchanged L n → Unchanged K n
   unchanged_from n still s t B m = mark_from 𝓒 rows r n s t B (still (state s) (state t) (concept_of B) (mark_to 𝓒 rows r (suc n) s t B m))
 
-  -- THEOREM: one more round changes neither, or both
-  pub same_unchanged : (n : ℕ) → Unchanged K n ↔ Unchanged L n
-  same_unchanged n = (unchanged_to n, unchanged_from n)
-
-  -- THEOREM: so the rounds needed are the same
-  pub same_needed : (n : ℕ) → Needed K n → Needed L n
-  same_needed = least-same (Unchanged K) (Unchanged L) unchanged_to unchanged_from
+  -- THEOREM: one more round changes neither, or both: the rounds needed are the same
+  pub same_needed : NeededMeans 𝓒 rows
+  same_needed n = (
+    least-same (Unchanged K) (Unchanged L) unchanged_to unchanged_from n,
+    least-same (Unchanged L) (Unchanged K) unchanged_from unchanged_to n,
+  )
 
   -- THEOREM: where no round of the allowance leaves the sheet as it is, more are needed
   pub needs_more : (allowance n : ℕ) → ((m : ℕ) → m ≤ allowance → Unchanged K m → ⊥) → Needed L n → allowance < n
@@ -59,7 +58,7 @@ module _ (𝓒 : Collection) (fit : CountsFit 𝓒.counts) (rows : Rows) (r : Ro
       side (no g) = absurd (none n (omega arith) (unchanged_from n h.holds))
 
   -- THEOREM: and an area that has the rows' marks has the collection's sheet
-  pub same_lays : (n : ℕ) (area : List ℕ) → LaysMarks (Mark K n) area → layout.Lays (Mark L n) area
+  pub same_lays : AreaMeans 𝓒 rows
   same_lays n area l = record { long = l.long; bits = l.bits; marks = λ p. (λ e. to p ((l.marks p).0 e), λ w. (l.marks p).1 (from p w)) }
     where
       to : (p : ℕ) → (s t B : ℕ) × Mark K n s t B × (place s t B ≡ p) → (s t : State) × (B : Concept) × Mark L n s t B × (layout.place s t B ≡ p)

@@ -9,19 +9,19 @@ use Rattle.laws.specs.Member.{◌∈◌}
 use Rattle.laws.specs.Select.{Rising}
 use Rattle.meaning.specs.Sheet.{Mark}
 use Rattle.meaning.proofs.SheetLaws.{rounds-unique}
-use Rattle.sets.specs.Rows.{no_concepts}
 use Rattle.sets.specs.declared.concepts.ConceptSet.{ConceptSet}
-use Rattle.sets.proofs.Once.{Fits, rows-once}
+use Rattle.sets.proofs.Once.{concept_rows_once}
 use Rattle.rules.proofs.Members.{has_is, has_of}
 use Rattle.rules.specs.declared.rows.Rows.{Rows}
 use Rattle.rules.specs.Rows.{most_concepts, pair, At, kind_of}
 use Rattle.sheet.specs.declared.closing.Closing.{Closing}
 use Rattle.sheet.specs.declared.allowed.Ran.{Ran}
 use Rattle.sheet.specs.declared.allowed.Ran.TheVariants.{Needed}
-use Rattle.sheet.specs.Sheets.{Added, Holds, IsRound, Makes}
+use Rattle.sheet.specs.Sheets.{Added, Holds, Makes}
 use Rattle.sheet.specs.Ends.{Ended, needed, spent, rounds_made}
-use Rattle.meaning.specs.Layout.{area_length, zeros}
+use Rattle.meaning.specs.Layout.{area_length}
 use Rattle.sheet.specs.Areas.{LaysRows, LaysMarks}
+use Rattle.sheet.specs.Meant.{IsSheet, HasRound, SameRound, Closes}
 
 module _ (rows : Rows) (allowance : ℕ) where
   -- THEOREM: rounds end in one way
@@ -31,10 +31,6 @@ module _ (rows : Rows) (allowance : ℕ) where
   ended_once (spent none) (needed {n = n} h l) = absurd (none n l h.holds)
   ended_once (spent none) (spent other) = refl
 
--- rows as their type has them
-abbrev pub IsSheet : List ConceptSet → Type 0
-IsSheet rows = Fits (λ (s : ConceptSet). s.0) (λ x y e. ap (λ (n : ℕ). record { 0 = n }) e) no_concepts (most_states * most_states) most_concepts rows
-
 same_test : (a b : Bool) → (a ≡ true) ↔ (b ≡ true) → a ≡ b
 same_test true b h = sym (h.0 refl)
 same_test false true h = h.1 refl
@@ -43,7 +39,7 @@ same_test false false h = refl
 -- THEOREM: one sheet of rows holds some marks
 pub holds_once : (f : ℕ → ℕ → ℕ → Type 0) (v w : List ConceptSet) → Holds f v → Holds f w → IsSheet v → IsSheet w → v ≡ w
 holds_once f v w a b p q =
-    rows-once (λ (s : ConceptSet). s.0) _ no_concepts (most_states * most_states) most_concepts v w p q (λ i j hi hj. let x = at v a i j hi hj in let y = at w b i j hi hj in same_test _ _ (λ e. has_of _ j (y.1 (x.0 (has_is _ j e))), λ e. has_of _ j (x.1 (y.0 (has_is _ j e)))))
+    concept_rows_once (most_states * most_states) v w p q (λ i j hi hj. let x = at v a i j hi hj in let y = at w b i j hi hj in same_test _ _ (λ e. has_of _ j (y.1 (x.0 (has_is _ j e))), λ e. has_of _ j (x.1 (y.0 (has_is _ j e)))))
   where
     at : (x : List ConceptSet) → Holds f x → (i j : ℕ) → i < most_states * most_states → j < most_concepts → At x i j ↔ f (i / most_states) (i % most_states) j
     at x h i j hi hj =
@@ -98,10 +94,11 @@ rising_once (x ∷ l) (y ∷ m) r s to from = join first (rising_once l m (rest_
 
 module _ (rows : Rows) (n : ℕ) where
   -- THEOREM: after so many rounds there is one sheet, and one thing to come
-  pub round_once : (v w : Closing) → IsRound rows n v → IsRound rows n w → IsSheet v.sheet → IsSheet w.sheet → IsSheet v.next.marks.rows → IsSheet w.next.marks.rows
-      → (v.sheet ≡ w.sheet) × (v.next.marks.rows ≡ w.next.marks.rows)
-  round_once v w a b p q s u =
-      (holds_once (Mark (kind_of rows) n) v.sheet w.sheet a.sheet b.sheet p q, holds_once (Added (kind_of rows) n) v.next.marks.rows w.next.marks.rows a.next b.next s u)
+  pub round_once : (v w : Closing) → HasRound rows n v → HasRound rows n w → SameRound v w
+  round_once v w a b = record {
+    sheet = holds_once (Mark (kind_of rows) n) v.sheet w.sheet a.round.sheet b.round.sheet a.sheet b.sheet;
+    next = holds_once (Added (kind_of rows) n) v.next.marks.rows w.next.marks.rows a.round.next b.round.next a.next b.next;
+  }
 
   -- THEOREM: and a round adds so many marks and no other number
   pub makes_once : (m k : ℕ) → Makes rows n m → Makes rows n k → m ≡ k
@@ -126,9 +123,9 @@ rows_lay_once sheet v w a b =
     bit_once _ _ (a.bits p) (b.bits p) (λ e. (b.marks p l).1 ((a.marks p l).0 e), λ e. (a.marks p l).1 ((b.marks p l).0 e)))
 
 -- THEOREM: what `close` answers, and leaves in both areas, is given by what it is called with
-pub runs_once : (rows : Rows) (allowance : ℕ) {r q : Ran} {x y v w : List ℕ} → Ended rows allowance r → Ended rows allowance q
-    → LaysMarks (Mark (kind_of rows) (rounds_made allowance r)) x → LaysMarks (Mark (kind_of rows) (rounds_made allowance q)) v → y ≡ zeros → w ≡ zeros
-    → (r ≡ q) × (x ≡ v) × (y ≡ w)
-runs_once rows allowance {r} {q} {x} {y} {v} {w} a b f g c d =
-    let e = ended_once rows allowance a b in
-    (e, lays_once (Mark (kind_of rows) (rounds_made allowance q)) x v (rw e at f) g, c ∙ sym d)
+pub runs_once : (rows : Rows) (allowance : ℕ) (r q : Ran) (x y u v : List ℕ) → Closes rows allowance r x y → Closes rows allowance q u v
+    → (r ≡ q) × (x ≡ u) × (y ≡ v)
+runs_once rows allowance r q x y u v a b =
+    let e = ended_once rows allowance a.ended b.ended in
+    let s = a.sheet in
+    (e, lays_once (Mark (kind_of rows) (rounds_made allowance q)) x u (rw e at s) b.sheet, a.cleared ∙ sym b.cleared)

@@ -13,36 +13,31 @@ use Rattle.rules.specs.Rows.{most_concepts, pair, At, kind_of, Gets}
 use Rattle.rules.proofs.Able.{Low, low_of, may_of, of_may}
 use Rattle.sheet.specs.Finds.{Turns, Joins, Hangs, RowsOf, Blank, IsTurn, Settled, First, FirstTurn}
 use Rattle.sheet.specs.Sheets.{Added, Holds}
+use Rattle.sheet.specs.Meant.{Uses, first, second, child_of, IsKnown, AddsByNew}
 
 -- ---- any rules' kind
 
 module _ (𝓚 : Kind) where
   open 𝓚 use {Concept, State, Edge, concepts, states, end, child, test, down, up}
 
-  -- a join or a hang that uses a mark of g; the other mark of a join is of f
-  pub data Uses (f g : State → State → Concept → Type 0) (s t : State) (B : Concept) : Type 0 where
-    first : {u : State} → g s u B → f u t B → Uses f g s t B
-    second : {u : State} → f s u B → g u t B → Uses f g s t B
-    child_of : {R : Edge} {u v : State} → child B R → down R s u → g u v (end R) → up R v t → Uses f g s t B
-
   pub uses_round : (f : State → State → Concept → Type 0) (g : State → State → Concept → Type 0) → ((s t : State) (B : Concept) → g s t B → f s t B)
-      → (s t : State) (B : Concept) → Uses f g s t B → Round 𝓚 f s t B
+      → (s t : State) (B : Concept) → Uses 𝓚 f g s t B → Round 𝓚 f s t B
   uses_round f g h s t B (first {u = u} x y) = joined (h s u B x) y
   uses_round f g h s t B (second {u = u} x y) = joined x (h u t B y)
   uses_round f g h s t B (child_of {R = R} {u = u} {v = v} c d m e) = hung c d (h u v (end R) m) e
 
   -- round 1: a test, or a use of round 0's marks
-  pub first_round : (s t : State) (B : Concept) → Mark 𝓚 1 s t B → Mark 𝓚 0 s t B ⊎ (test B s t ⊎ Uses (Mark 𝓚 0) (Mark 𝓚 0) s t B)
+  pub first_round : (s t : State) (B : Concept) → Mark 𝓚 1 s t B → Mark 𝓚 0 s t B ⊎ (test B s t ⊎ Uses 𝓚 (Mark 𝓚 0) (Mark 𝓚 0) s t B)
   first_round s t B m = side m.1
     where
-      side : Round 𝓚 (Mark 𝓚 0) s t B → Mark 𝓚 0 s t B ⊎ (test B s t ⊎ Uses (Mark 𝓚 0) (Mark 𝓚 0) s t B)
+      side : Round 𝓚 (Mark 𝓚 0) s t B → Mark 𝓚 0 s t B ⊎ (test B s t ⊎ Uses 𝓚 (Mark 𝓚 0) (Mark 𝓚 0) s t B)
       side (kept m) = inl m
       side (tested e) = inr (inl e)
       side (joined x y) = inr (inr (first x y))
       side (hung c d m e) = inr (inr (child_of c d m e))
 
   -- the next rounds, where it is known what is marked
-  module _ (n : ℕ) (known : (s t : State) (B : Concept) → Markable 𝓚 s t B → Dec (Mark 𝓚 n s t B)) where
+  module _ (n : ℕ) (known : IsKnown 𝓚 n) where
     pub split : (s t : State) (B : Concept) → Mark 𝓚 (suc n) s t B → Mark 𝓚 n s t B ⊎ Added 𝓚 n s t B
     split s t B m = side (known s t B m.0)
       where
@@ -51,16 +46,16 @@ module _ (𝓚 : Kind) where
         side (no p) = inr (record { then = m; before = p })
 
     -- THEOREM: what the round after next adds uses a mark that the next round adds
-    pub adds_by_new : (s t : State) (B : Concept) → Mark 𝓚 (suc (suc n)) s t B → Mark 𝓚 (suc n) s t B ⊎ Uses (Mark 𝓚 (suc n)) (Added 𝓚 n) s t B
+    pub adds_by_new : AddsByNew 𝓚 n
     adds_by_new s t B m = side m.1
       where
         both : {u : State} → Mark 𝓚 (suc n) s u B → Mark 𝓚 (suc n) u t B → Mark 𝓚 n s u B ⊎ Added 𝓚 n s u B → Mark 𝓚 n u t B ⊎ Added 𝓚 n u t B
-            → Mark 𝓚 (suc n) s t B ⊎ Uses (Mark 𝓚 (suc n)) (Added 𝓚 n) s t B
+            → Mark 𝓚 (suc n) s t B ⊎ Uses 𝓚 (Mark 𝓚 (suc n)) (Added 𝓚 n) s t B
         both x y (inl p) (inl q) = inl (m.0, joined p q)
         both x y (inl p) (inr q) = inr (second x q)
         both x y (inr p) q = inr (first p y)
 
-        side : Round 𝓚 (Mark 𝓚 (suc n)) s t B → Mark 𝓚 (suc n) s t B ⊎ Uses (Mark 𝓚 (suc n)) (Added 𝓚 n) s t B
+        side : Round 𝓚 (Mark 𝓚 (suc n)) s t B → Mark 𝓚 (suc n) s t B ⊎ Uses 𝓚 (Mark 𝓚 (suc n)) (Added 𝓚 n) s t B
         side (kept k) = inl k
         side (tested e) = inl (m.0, tested e)
         side (joined {u = u} x y) = both x y (split s u B x) (split u t B y)

@@ -2,3 +2,4 @@ pub mod Finds
 pub mod Sheets
 pub mod Ends
 pub mod Areas
+pub mod Meant

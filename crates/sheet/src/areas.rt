@@ -42,8 +42,8 @@ fn lay_row(area: &mut [u8; AREA], row: ConceptSet, at: usize)
         return;
     }
     let bytes = row.to_le_bytes();
-    for i in 0..bytes.len() {
-        lay_byte(area, bytes[i], at + BITS * i);
+    for (i, byte) in bytes.iter().enumerate() {
+        lay_byte(area, *byte, at + BITS * i);
     }
 }
 

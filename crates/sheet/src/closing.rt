@@ -91,8 +91,8 @@ fn put_line(sheet: &mut Sheet, next: &Sheet, line: ConceptSet, s: usize)
 fn put_next(sheet: &mut Sheet, next: &Fresh)
     ensures { Gets (Turns (RowsOf next.now.marks.rows) most_states) sheet.old sheet.new }
 {
-    for s in 0..State::NUMBERS {
-        put_line(sheet, &next.marks.rows, next.marks.lines[s], s);
+    for (s, line) in next.marks.lines.iter().enumerate() {
+        put_line(sheet, &next.marks.rows, *line, s);
     }
 }
 

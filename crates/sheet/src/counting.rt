@@ -24,8 +24,8 @@ pub(crate) fn line_of(rows: &Sheet, s: usize) -> ConceptSet
 pub(crate) fn put_lines(lines: &mut LineSets, rows: &Sheet)
     ensures { Lines rows.now lines.new }
 {
-    for s in 0..State::NUMBERS {
-        lines[s] = line_of(rows, s);
+    for (s, line) in lines.iter_mut().enumerate() {
+        *line = line_of(rows, s);
     }
 }
 
@@ -50,8 +50,8 @@ pub(crate) fn count(marks: &Marks) -> u32
     ensures { result ≡ total marks.now.rows most_states }
 {
     let mut n = 0;
-    for s in 0..State::NUMBERS {
-        n += count_line(&marks.rows, marks.lines[s], s);
+    for (s, line) in marks.lines.iter().enumerate() {
+        n += count_line(&marks.rows, *line, s);
     }
     n
 }

@@ -66,8 +66,8 @@ fn image(relation: &Relation, from: StateSet) -> StateSet
     if from.is_empty() {
         return out;
     }
-    for y in 0..State::NUMBERS {
-        out = out.union(only(relation[y], from.contains(State(y as u16))));
+    for (y, to) in relation.iter().enumerate() {
+        out = out.union(only(*to, from.contains(State(y as u16))));
     }
     out
 }
@@ -144,8 +144,8 @@ fn all_lines(lines: &LineSets) -> ConceptSet
     ensures { LineBelow lines.now most_states result.0 }
 {
     let mut all = ConceptSet::EMPTY;
-    for s in 0..State::NUMBERS {
-        all = all.union(lines[s]);
+    for line in lines.iter() {
+        all = all.union(*line);
     }
     all
 }

@@ -9,6 +9,7 @@ mod fresh;
 mod hanging;
 mod joining;
 mod settling;
+pub mod theorems;
 
 pub use allowed::Ran;
 pub use areas::{AREA, close, lay};

@@ -10,20 +10,20 @@ use Rattle.std.proofs.lemmas.List.Quantifiers.{position-Some}
 use Rattle.std.specs.Io.KnownBytes.{Keeps, IsAtEnd, prepend_known}
 use Rattle.streams.specs.declared.TheConstants.{LINE}
 use Rattle.streams.specs.Gives.{ConsumesLine}
-use Rattle.streams.specs.Lines.{newline, lines, longer, TakesLine, BeginsLonger}
+use Rattle.streams.specs.Lines.{lines, longer, TakesLine, BeginsLonger}
 
 -- no line ends before n
 abbrev Plain : List ℕ → ℕ → Type 0
-Plain xs n = (k : ℕ) → k < n → (get_or xs k 0 == newline) ≡ false
+Plain xs n = (k : ℕ) → k < n → (get_or xs k 0 == 0x0A) ≡ false
 
 plain_rest : (x : ℕ) (xs : List ℕ) (n : ℕ) → Plain (x ∷ xs) (suc n) → Plain xs n
 plain_rest x xs n p = λ k h. p (suc k) (omega arith)
 
-lines_end : (x : ℕ) (xs : List ℕ) → (x == newline) ≡ true → lines (x ∷ xs) ≡ [] ∷ lines xs
+lines_end : (x : ℕ) (xs : List ℕ) → (x == 0x0A) ≡ true → lines (x ∷ xs) ≡ [] ∷ lines xs
 unfolding lines
 lines_end x xs e = rw e refl
 
-lines_more : (x : ℕ) (xs : List ℕ) → (x == newline) ≡ false → lines (x ∷ xs) ≡ longer x (lines xs)
+lines_more : (x : ℕ) (xs : List ℕ) → (x == 0x0A) ≡ false → lines (x ∷ xs) ≡ longer x (lines xs)
 unfolding lines
 lines_more x xs e = rw e refl
 
@@ -31,7 +31,7 @@ pub lines_none : lines [] ≡ []
 unfolding lines
 lines_none = refl
 
-first_line : (xs more : List ℕ) (n : ℕ) → n < length xs → (get_or xs n 0 == newline) ≡ true → Plain xs n
+first_line : (xs more : List ℕ) (n : ℕ) → n < length xs → (get_or xs n 0 == 0x0A) ≡ true → Plain xs n
     → lines (xs ++ more) ≡ take n xs ∷ lines (drop (suc n) xs ++ more)
 first_line [] more n h e p = absurd (omega arith)
 first_line (x ∷ xs) more zero h e p = lines_end x (xs ++ more) e
@@ -62,7 +62,7 @@ first_longer (x ∷ xs) more (suc n) h p =
 
 -- where the first line ends of what is held, if that is within reach
 abbrev pub ends : ℕ → Bool
-ends b = b == newline
+ends b = b == 0x0A
 
 abbrev pub end_of : List ℕ → Option ℕ
 end_of held = position ends (take (LINE + 1) held)
@@ -93,7 +93,7 @@ found_line held more n e =
     let p = position-Some ends (take (LINE + 1) held) n 0 e in
     let w = found_within held n e in
     let near : n < LINE + 1 = w.0 in
-    let here : (get_or held n 0 == newline) ≡ true = rw (get_or-take (LINE + 1) held n 0 near) at p.1 in
+    let here : (get_or held n 0 == 0x0A) ≡ true = rw (get_or-take (LINE + 1) held n 0 near) at p.1 in
     let before : Plain held n = λ k h. let close : k < LINE + 1 = omega arith in rw (get_or-take (LINE + 1) held k 0 close) at (p.2 k h) in
     let next : drop (suc n) held ≡ drop 1 (drop n held) = sym (drop-drop 1 n held ∙ ap (λ j. drop j held) (add-one n)) in
     first_line held more n w.1 here before ∙ ap (λ (r : List ℕ). take n held ∷ lines (r ++ more)) next
@@ -109,27 +109,27 @@ TakesLine-found None b held n e k = tt
 TakesLine-found (Some x) None held n e k = absurd k
 TakesLine-found (Some x) (Some y) held n e k = ap lines (sym k) ∙ found_line held y n e
 
-found_end : (held : List ℕ) (n : ℕ) → end_of held ≡ Some n → get_or held n 0 ≡ newline
+found_end : (held : List ℕ) (n : ℕ) → end_of held ≡ Some n → get_or held n 0 ≡ 0x0A
 found_end held n e =
     let p = position-Some ends (take (LINE + 1) held) n 0 e in
     let w = found_within held n e in
     let near : n < LINE + 1 = w.0 in
-    let here : (get_or held n 0 == newline) ≡ true = rw (get_or-take (LINE + 1) held n 0 near) at p.1 in
+    let here : (get_or held n 0 == 0x0A) ≡ true = rw (get_or-take (LINE + 1) held n 0 near) at p.1 in
     grind (arith, nat_tests)
 
-found_parts : (held : List ℕ) (n : ℕ) → end_of held ≡ Some n → held ≡ (take n held ++ newline ∷ []) ++ drop 1 (drop n held)
+found_parts : (held : List ℕ) (n : ℕ) → end_of held ≡ Some n → held ≡ (take n held ++ 0x0A ∷ []) ++ drop 1 (drop n held)
 found_parts held n e =
     let w = found_within held n e in
-    let here : drop n held ≡ newline ∷ drop (n + 1) held = drop_more held n 0 w.1 ∙ ap (λ (b : ℕ). b ∷ drop (n + 1) held) (found_end held n e) in
-    sym (take-append-drop n held) ∙ ap (λ (r : List ℕ). take n held ++ r) (here ∙ ap (λ (r : List ℕ). newline ∷ r) (sym (ap (drop 1) here)))
-    ∙ sym (append_assoc (take n held) (newline ∷ []) (drop 1 (drop n held)))
+    let here : drop n held ≡ 0x0A ∷ drop (n + 1) held = drop_more held n 0 w.1 ∙ ap (λ (b : ℕ). b ∷ drop (n + 1) held) (found_end held n e) in
+    sym (take-append-drop n held) ∙ ap (λ (r : List ℕ). take n held ++ r) (here ∙ ap (λ (r : List ℕ). 0x0A ∷ r) (sym (ap (drop 1) here)))
+    ∙ sym (append_assoc (take n held) (0x0A ∷ []) (drop 1 (drop n held)))
 
 pub ConsumesLine-found : (a b : Option (List ℕ)) (held : List ℕ) (n : ℕ) → end_of held ≡ Some n → Keeps a (prepend_known held b)
     → ConsumesLine a (prepend_known (drop 1 (drop n held)) b) (take n held)
 ConsumesLine-found None b held n e k = inl tt
 ConsumesLine-found (Some x) None held n e k = absurd k
 ConsumesLine-found (Some x) (Some y) held n e k =
-    inl (sym k ∙ ap (λ (l : List ℕ). l ++ y) (found_parts held n e) ∙ append_assoc (take n held ++ newline ∷ []) (drop 1 (drop n held)) y)
+    inl (sym k ∙ ap (λ (l : List ℕ). l ++ y) (found_parts held n e) ∙ append_assoc (take n held ++ 0x0A ∷ []) (drop 1 (drop n held)) y)
 
 pub TakesLine-last : (a b : Option (List ℕ)) (held : List ℕ) (n : ℕ) → end_of held ≡ None → n ≡ length held → n ≤ LINE → n ≢ 0
     → IsAtEnd b → Keeps a (prepend_known held b) → TakesLine a (prepend_known (drop n held) b) (take n held)

@@ -5,7 +5,7 @@ use Rattle.std.proofs.lemmas.List.{drop_at}
 use Rattle.streams.specs.declared.TheConstants.{LINE}
 use Rattle.streams.specs.declared.lines.Next.{Next}
 use Rattle.streams.specs.declared.lines.Next.TheVariants.{Line, TooLong, End}
-use Rattle.streams.specs.Lines.{newline, lines, BeginsLonger}
+use Rattle.streams.specs.Lines.{lines, BeginsLonger}
 use Rattle.streams.specs.Gives.{Gives, ConsumesLine, ConsumesNext}
 use Rattle.streams.proofs.FirstLine.{lines_none}
 
@@ -29,7 +29,7 @@ same-rest : (xs front ys zs : List ℕ) → xs ≡ front ++ ys → xs ≡ front 
 same-rest xs front ys zs p q = sym (drop_at front ys _ refl) ∙ ap (drop (length front)) (sym p ∙ q) ∙ drop_at front zs _ refl
 
 rest-once : (xs line ys zs : List ℕ) → ConsumesLine (Some xs) (Some ys) line → ConsumesLine (Some xs) (Some zs) line → ys ≡ zs
-rest-once xs line ys zs (inl p) (inl q) = same-rest xs (line ++ newline ∷ []) ys zs p q
+rest-once xs line ys zs (inl p) (inl q) = same-rest xs (line ++ 0x0A ∷ []) ys zs p q
 rest-once xs line ys zs (inl p) (inr (q, z)) =
     absurd (omega (
       arith,
@@ -37,8 +37,8 @@ rest-once xs line ys zs (inl p) (inr (q, z)) =
       ap (λ (l : List ℕ). length l) q,
       ap (λ (l : List ℕ). length l) z,
       length-append line zs,
-      length-append (line ++ newline ∷ []) ys,
-      length-append line (newline ∷ []),
+      length-append (line ++ 0x0A ∷ []) ys,
+      length-append line (0x0A ∷ []),
     ))
 rest-once xs line ys zs (inr (p, y)) (inl q) =
     absurd (omega (
@@ -47,8 +47,8 @@ rest-once xs line ys zs (inr (p, y)) (inl q) =
       ap (λ (l : List ℕ). length l) q,
       ap (λ (l : List ℕ). length l) y,
       length-append line ys,
-      length-append (line ++ newline ∷ []) zs,
-      length-append line (newline ∷ []),
+      length-append (line ++ 0x0A ∷ []) zs,
+      length-append line (0x0A ∷ []),
     ))
 rest-once xs line ys zs (inr (p, y)) (inr (q, z)) = y ∙ sym z
 

@@ -17,13 +17,18 @@ appends_more a b c bs at n p q =
 -- the first of them, and then no more
 pub starts_with_taken : (a b c : Option (List ℕ)) (bs : List ℕ) (at : ℕ) → Appends a b (take at bs) → Keeps b c → TakesStart a c bs
 starts_with_taken a b c bs at p k = record {
+  start = take at bs;
   rest = drop at bs;
-  takes = record {
-    start = take at bs;
-    parts = sym (take-append-drop at bs);
-    appends = Appends-kept a b c (take at bs) p k;
-  };
+  parts = sym (take-append-drop at bs);
+  appends = Appends-kept a b c (take at bs) p k;
 }
+
+-- all but the rest of some bytes is a start of them, and the other way
+start_of : {a b : Option (List ℕ)} {bs rest : List ℕ} → TakesBut rest a b bs → TakesStart a b bs
+start_of {rest = rest} t = record { start = t.start; rest = rest; parts = t.parts; appends = t.appends }
+
+but_rest : {a b : Option (List ℕ)} {bs : List ℕ} (s : TakesStart a b bs) → TakesBut s.rest a b bs
+but_rest s = record { start = s.start; parts = s.parts; appends = s.appends }
 
 -- none of them
 pub takes_none : (a : Option (List ℕ)) (bs : List ℕ) → TakesBut bs a a bs
@@ -47,17 +52,15 @@ takes_both a b c front bs rest p q none = record {
 
 -- all of some bytes, and then a start of the next
 pub starts_after : (a b c : Option (List ℕ)) (front bs : List ℕ) → Appends a b front → TakesStart b c bs → TakesStart a c (front ++ bs)
-starts_after a b c front bs p s = record { rest = s.rest; takes = takes_after a b c front bs s.rest p s.takes }
+starts_after a b c front bs p s = start_of (takes_after a b c front bs s.rest p (but_rest s))
 
 -- a start of the first bytes is one of all
 pub starts_before : (a b : Option (List ℕ)) (bs more : List ℕ) → TakesStart a b bs → TakesStart a b (bs ++ more)
 starts_before a b bs more s = record {
+  start = s.start;
   rest = s.rest ++ more;
-  takes = record {
-    start = s.takes.start;
-    parts = ap (λ l. l ++ more) s.takes.parts ∙ append_assoc s.takes.start s.rest more;
-    appends = s.takes.appends;
-  };
+  parts = ap (λ l. l ++ more) s.parts ∙ append_assoc s.start s.rest more;
+  appends = s.appends;
 }
 
 -- more bytes put behind those that are pending
@@ -74,7 +77,7 @@ module _ (a b c : Option (List ℕ)) (bytes pending more : List ℕ) (t : TakesB
   }
 
   pub starts_more : TakesStart b c (pending ++ more) → TakesStart a c (bytes ++ more)
-  starts_more s = record { rest = s.rest; takes = takes_more s.rest s.takes }
+  starts_more s = start_of (takes_more s.rest (but_rest s))
 
 -- those that are pending written too, all of them or a start
 module _ (a b c : Option (List ℕ)) (bytes pending : List ℕ) (t : TakesBut pending a b bytes) where

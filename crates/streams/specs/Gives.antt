@@ -4,7 +4,7 @@ use Rattle.std.specs.Io.KnownBytes.{Keeps, Consumes, IsAtEnd}
 use Rattle.streams.specs.declared.TheConstants.{LINE}
 use Rattle.streams.specs.declared.lines.Next.{Next}
 use Rattle.streams.specs.declared.lines.Next.TheVariants.{Line, TooLong, End}
-use Rattle.streams.specs.Lines.{newline, TakesLine, BeginsLonger}
+use Rattle.streams.specs.Lines.{TakesLine, BeginsLonger}
 
 -- a line is taken; one that is too long stays; at the end nothing is left
 abbrev pub Gives : Option (List ℕ) → Option (List ℕ) → Next → Type 0
@@ -15,7 +15,7 @@ Gives old new End = Keeps old new × IsAtEnd old
 -- of the known bytes a line is consumed with its end, or, where they are at their end, without one
 abbrev pub ConsumesLine : Option (List ℕ) → Option (List ℕ) → List ℕ → Type 0
 ConsumesLine old new line =
-    Consumes old new (line ++ newline ∷ []) ⊎ (Consumes old new line × IsAtEnd new)
+    Consumes old new (line ++ 0x0A ∷ []) ⊎ (Consumes old new line × IsAtEnd new)
 
 abbrev pub ConsumesNext : Option (List ℕ) → Option (List ℕ) → Next → Type 0
 ConsumesNext old new (Line line) = ConsumesLine old new line

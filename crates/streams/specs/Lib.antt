@@ -1,3 +1,4 @@
 pub mod Lines
 pub mod Gives
 pub mod Takes
+pub mod Laws

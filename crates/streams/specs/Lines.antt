@@ -1,19 +1,16 @@
--- The lines of an input: each ends at byte 0A, and a last line of one character or more may lack
--- it.
+-- The lines of an input (docs/RULES.md, section 8): each ends at byte 0A, and a last line of one
+-- character or more may lack it.
 use Rattle.std.specs.Prelude.{◌≡◌, ◌<◌, ℕ, List, [], ◌∷◌, ◌==◌, Option, None, Some, ⊤, length, slice_get, IsSomeAnd, if◌then◌else◌}
-
--- the byte that ends a line
-abbrev pub newline : ℕ
-newline = 0x0A
 
 -- a character at the front of the first line
 abbrev pub longer : ℕ → List (List ℕ) → List (List ℕ)
 longer c [] = (c ∷ []) ∷ []
 longer c (l ∷ ls) = (c ∷ l) ∷ ls
 
+-- a line ends at byte 0A
 unfoldable pub lines : List ℕ → List (List ℕ)
 lines [] = []
-lines (c ∷ cs) = if c == newline then [] ∷ lines cs else longer c (lines cs)
+lines (c ∷ cs) = if c == 0x0A then [] ∷ lines cs else longer c (lines cs)
 
 -- the known bytes begin with this line, and lose it with its end
 abbrev pub TakesLine : Option (List ℕ) → Option (List ℕ) → List ℕ → Type 0

@@ -10,5 +10,7 @@ pub record TakesBut (rest : List ℕ) (old new : Option (List ℕ)) (bytes : Lis
 
 -- the known bytes grow by a start of those bytes
 pub record TakesStart (old new : Option (List ℕ)) (bytes : List ℕ) : Type 0 where
+  pub start : List ℕ
   pub rest : List ℕ
-  pub takes : TakesBut rest old new bytes
+  pub parts : bytes ≡ start ++ rest
+  pub appends : Appends old new start

@@ -13,6 +13,7 @@ use std::io::{ErrorKind, Read, Write};
 pub mod lines;
 pub mod memory;
 pub mod output;
+pub mod theorems;
 mod window;
 
 // The characters of the longest line.

@@ -2,7 +2,6 @@
 // input is held than the buffer has room for.
 ghost use Rattle.std.specs.Prelude.{◌≡◌, ◌==◌, ◌+◌, ◌-◌, ◌<◌, ◌≤◌, ℕ, [], IfOk, IfErr, OnErr, IfSome, length, drop, take, position};
 ghost use Rattle.std.specs.Io.KnownBytes.{Keeps, prepend_known};
-ghost use Rattle.streams.specs.Lines.{newline};
 ghost use Rattle.streams.specs.Gives.{Gives, ConsumesNext};
 
 use crate::window::Window;
@@ -60,7 +59,7 @@ pub enum Next {
 // Where the first line ends of what is held, if that is within reach.
 #[tactic(auto, using(crate::proofs::FirstLine::reach))]
 fn line_end(held: &[u8]) -> Option<usize>
-    ensures first { result ≡ position (λ b. b == newline) (take (LINE + 1) held.now) }
+    ensures first { result ≡ position (λ b. b == 0x0A) (take (LINE + 1) held.now) }
     ensures within { IfSome result (λ n. (n ≤ LINE) × (n < length held.now)) }
 {
     held.iter().take(LINE + 1).position(|b| *b == b'\n')

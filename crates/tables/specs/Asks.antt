@@ -11,6 +11,7 @@ use Rattle.tables.specs.declared.ask.Ask.TheVariants.{Pair}
 abbrev pub ask_width : ℕ
 ask_width = 2
 
+-- ask k of a row of them
 abbrev pub read_ask : List ℕ → ℕ → Ask
 read_ask t k = Pair (individual (field ask_width t 0 k)) (individual (field ask_width t 1 k))
 

@@ -9,6 +9,7 @@ use Rattle.tables.specs.declared.records.RoleFact.{RoleFact}
 use Rattle.tables.specs.Every.{EachRecord}
 use Rattle.tables.specs.Records.{read_concept_pair, read_role_pair, read_concept_fact, read_role_fact, read_step, read_step_kind, IsConceptPairDeclared, IsRolePairDeclared, IsConceptFactDeclared, IsRoleFactDeclared, IsStepDeclared, IsStepKind}
 
+-- the numbers in each table of a collection
 abbrev pub lists : Collection → Tables
 lists c = record {
   concept-rules = c.concept_rules.numbers.now;

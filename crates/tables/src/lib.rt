@@ -6,6 +6,7 @@ pub mod collection;
 mod fields;
 pub mod records;
 pub mod table;
+pub mod theorems;
 
 pub use ask::Ask;
 pub use collection::{Collection, Refusal};

@@ -1,5 +1,5 @@
 -- What the walk means to a caller: by the tables of a collection whose numbers are declared, with its closed sheet, it is the individuals' walk.
-use Rattle.std.specs.Prelude.{◌≡◌, ◌↔◌, List, ℕ, ◌*◌, ◌/◌, ◌≤◌, ◌<◌, length}
+use Rattle.std.specs.Prelude.{◌≡◌, ◌↔◌, List, ℕ, ◌*◌, ◌/◌, ◌<◌, length}
 use Rattle.std.proofs.Common.{ap, sym, arith}
 use Rattle.std.proofs.Math.Nat.{min-eq_left}
 use Rattle.kinds.specs.declared.Individual.{Individual}
@@ -7,62 +7,37 @@ use Rattle.kinds.specs.declared.State.{State}
 use Rattle.kinds.specs.declared.Concept.{Concept}
 use Rattle.kinds.specs.declared.Concept.TheVariants.{Name, Exists}
 use Rattle.kinds.specs.declared.Counts.{Counts}
-use Rattle.kinds.specs.Kinds.{most_individuals, most_states, most_roles, individual, signed, state, number_of, concept_of, number-concept, concept-number, CountsFit, IndividualDeclared, StateDeclared, ConceptDeclared}
+use Rattle.kinds.specs.Kinds.{most_individuals, most_states, individual, state, number_of, concept_of, number-concept, concept-number, CountsFit, IndividualDeclared, StateDeclared, ConceptDeclared}
 use Rattle.sets.specs.Bits.{Has, concept_width}
 use Rattle.sets.specs.declared.states.StateSet.{StateSet}
 use Rattle.sets.specs.declared.concepts.ConceptSet.{ConceptSet}
 use Rattle.hops.specs.Chains.{hops, source, target, role_of, IsHopFrom}
+use Rattle.hops.specs.Meant.{AreFew}
 use Rattle.meaning.specs.Collection.{Collection, NumbersDeclared, WellFormed, step, role}
-use Rattle.meaning.specs.Lent.{Tables, collection, records, role_fact_width, most_role_facts, final_width, final_at}
+use Rattle.meaning.specs.Lent.{Tables, collection, records, role_fact_width, final_width, final_at}
 use Rattle.meaning.specs.Question as question
 use Rattle.laws.specs.Member.{◌∈◌}
 use Rattle.laws.specs.Numbers.{numbered-in, numbered-out}
-use Rattle.tables.specs.declared.ask.Ask.{Ask}
 use Rattle.tables.specs.declared.ask.Ask.TheVariants.{Pair}
-use Rattle.tables.specs.Asks.{first_of, second_of, IsAskDeclared}
-use Rattle.meaning.specs.Model.{individuals, IndividualHas, canonical}
+use Rattle.meaning.specs.Model.{individuals, canonical}
 use Rattle.meaning.specs.Run.{Run, stop, go}
-use Rattle.meaning.specs.Lite.{lite, StepDown}
+use Rattle.meaning.specs.Lite.{lite}
 use Rattle.meaning.specs.Tree as tree
 use Rattle.meaning.specs.Tree.{root}
 use Rattle.meaning.proofs.Clash.{typed-valid}
-use Rattle.meaning.proofs.ModelMoves.{Near}
-use Rattle.meaning.proofs.ModelWalk.{IndividualsWalk, path↔individuals-walk}
+use Rattle.meaning.specs.Walk.{Near, IndividualsWalk}
+use Rattle.meaning.proofs.ModelWalk.{path↔individuals-walk}
 use Rattle.meaning.proofs.Declared.{state-in, state-out, concept-in, concept-out, concept-declared, lite-sane}
-use Rattle.meaning.specs.Sheet.{Mark, Needed}
+use Rattle.meaning.specs.Sheet.{Needed}
 use Rattle.meaning.proofs.SheetLaws.{mark-markable, mark→loop, loop→mark}
 use Rattle.walk.specs.declared.question.Question.{Question}
-use Rattle.walk.specs.declared.strides.Strides.{Strides}
-use Rattle.walk.specs.Asks.{PairAsked, YesBy}
-use Rattle.walk.specs.Finals.{AreFinals}
-use Rattle.walk.specs.Sets.{set_at, concepts_at, row_at}
-use Rattle.walk.specs.Loops.{pair, LoopTo, AreLoops}
+use Rattle.walk.specs.Asks.{PairAsked}
+use Rattle.walk.specs.Sets.{concepts_at, row_at}
+use Rattle.walk.specs.Loops.{LoopTo, AreLoops}
 use Rattle.walk.specs.Strides.{TableStride, along, loop, Reaches}
+use Rattle.walk.specs.Meant.{LoopOf, LoopsOf, WaysOf, TablesOf, QuestionOf, ConceptsOf, SheetOf, QuestionMeans, YesMeans}
 use Rattle.walk.proofs.SetLaws.{within_row}
 use Rattle.hops.proofs.Edges.{a-hop, hop-declared, hop-edge, edge-hop}
-
--- from s to u at a: a has some B with (s, u, B) on the sheet after n rounds
-abbrev pub LoopOf : Collection → ℕ → Individual → State → State → Type 0
-LoopOf 𝓒 n a s u = (B : Concept) × IndividualHas 𝓒 a B × Mark (lite 𝓒) n s u B
-
--- the tables of a collection, with its sheet after n rounds
-pub record TablesOf (𝓒 : Collection) (n : ℕ) (loops ways : List (List StateSet)) : Type 0 where
-  pub loop_at : (a s u : ℕ) → a < most_individuals → s < most_states
-      → Has (set_at (row_at loops a) s) u ↔ LoopOf 𝓒 n (individual a) (state s) (state u)
-  pub loop_low : (a s u : ℕ) → a < most_individuals → Has (set_at (row_at loops a) s) u → s < most_states
-  pub way_at : (R s u : ℕ) → R < 2 * most_roles → Has (set_at (row_at ways R) s) u ↔ StepDown 𝓒 (signed R) (state s) (state u)
-
--- the question of a collection
-pub record QuestionOf (𝓒 : Collection) (q : Question) : Type 0 where
-  pub start : q.start ≡ 𝓒.counts.start
-  pub final : (u : State) → Has q.finals.0 u.0 ↔ (u ∈ 𝓒.finals)
-
--- the concepts of the individuals of a collection, and its sheet after n rounds, as rows hold them
-pub record ConceptsOf (𝓒 : Collection) (individuals : List ConceptSet) : Type 0 where
-  pub at : (a : ℕ) (B : Concept) → a < most_individuals → ConceptDeclared 𝓒.counts B → Has (concepts_at individuals a) (number_of B) ↔ IndividualHas 𝓒 (individual a) B
-
-pub record SheetOf (𝓒 : Collection) (n : ℕ) (sheet : List ConceptSet) : Type 0 where
-  pub at : (s u B : ℕ) → s < most_states → u < most_states → B < concept_width → Has (concepts_at sheet (pair s u)) B ↔ Mark (lite 𝓒) n (state s) (state u) (concept_of B)
 
 module _ (c : Counts) (t : Tables) (fit : CountsFit c) (ok : NumbersDeclared (collection c t)) where
   abbrev 𝓒 : Collection
@@ -103,20 +78,18 @@ module _ (c : Counts) (t : Tables) (fit : CountsFit c) (ok : NumbersDeclared (co
         }
 
     -- THEOREM: made from the concepts of the individuals of a collection and from its sheet, the loops are those of the collection
-    pub loops-mean : (loops : List (List StateSet)) → AreLoops individuals sheet loops → (a s u : ℕ) → a < most_individuals → s < most_states
-        → Has (set_at (row_at loops a) s) u ↔ LoopOf 𝓒 n (individual a) (state s) (state u)
+    pub loops-mean : (loops : List (List StateSet)) → AreLoops individuals sheet loops → LoopsOf 𝓒 n loops
     loops-mean loops l a s u ha hs = let x = l.at a s u ha hs in (λ b. loop-to a s u ha hs (x.0 b), λ y. x.1 (loop-from a s u ha hs y))
 
     -- THEOREM: with the ways of its question they are the tables of the collection
-    pub tables-mean : (loops ways : List (List StateSet)) → AreLoops individuals sheet loops
-        → ((R s u : ℕ) → R < 2 * most_roles → Has (set_at (row_at ways R) s) u ↔ StepDown 𝓒 (signed R) (state s) (state u)) → TablesOf 𝓒 n loops ways
+    pub tables-mean : (loops ways : List (List StateSet)) → AreLoops individuals sheet loops → WaysOf 𝓒 ways → TablesOf 𝓒 n loops ways
     tables-mean loops ways l w = record {
       loop_at = loops-mean loops l;
       loop_low = λ a s u h p. within_row most_states (row_at loops a) s u (l.each a h) p;
       way_at = w;
     }
 
-  module _ (few : length t.role-facts / role_fact_width ≤ most_role_facts) (n : ℕ) (needed : Needed (lite 𝓒) n) (loops ways : List (List StateSet)) (r : TablesOf 𝓒 n loops ways) where
+  module _ (few : AreFew t.role-facts) (n : ℕ) (needed : Needed (lite 𝓒) n) (loops ways : List (List StateSet)) (r : TablesOf 𝓒 n loops ways) where
     abbrev rf : List ℕ
     rf = t.role-facts
 
@@ -177,7 +150,7 @@ module _ (c : Counts) (t : Tables) (fit : CountsFit c) (ok : NumbersDeclared (co
 
     -- THEOREM: from a declared individual and state, strides lead exactly where the individuals' walk does
     pub walk-mean : (wf : WellFormed 𝓒) (a b : Individual) (s u : State) → IndividualDeclared c a → StateDeclared c s
-        → Reaches loops ways rf a.0 s.0 b.0 u.0 ↔ IndividualsWalk 𝓒 wf a s b u
+        → Reaches loops ways rf a.0 s.0 b.0 u.0 ↔ IndividualsWalk 𝓒 a s b u
     walk-mean wf a b s u ha hs =
         let f = fit.states in
         let g = fit.individuals in
@@ -200,7 +173,7 @@ module _ (c : Counts) (t : Tables) (fit : CountsFit c) (ok : NumbersDeclared (co
       )
 
   -- the set of the states of its table, with its start state, is the question of a collection
-  pub question-mean : (q : Question) → q.start ≡ c.start → AreFinals t.finals q.finals.0 → QuestionOf 𝓒 q
+  pub question-mean : QuestionMeans c t
   unfolding records
   question-mean q e f = record { start = e; final = λ u. (to u, from u) }
     where
@@ -219,8 +192,6 @@ module _ (c : Counts) (t : Tables) (fit : CountsFit c) (ok : NumbersDeclared (co
           (f.at u.0).1 (record { place = w.0; below = w.1; is = ap (λ (s : State). s.0) (sym w.2); low = omega arith })
 
   -- THEOREM: by the tables of a collection, with its closed sheet and its question, the answer to a declared ask is yes exactly where the pair is
-  pub yes-mean : (n : ℕ) → Needed (lite 𝓒) n → length t.role-facts / role_fact_width ≤ most_role_facts → (s : Strides) → s.hops.now.facts.numbers.now ≡ t.role-facts
-      → TablesOf 𝓒 n s.loops.now.rows s.ways.now → (q : Question) → QuestionOf 𝓒 q → (ask : Ask) → IsAskDeclared c ask
-      → YesBy s q ask ↔ question.Yes 𝓒 (first_of ask) (second_of ask)
-  yes-mean n needed few s e r q of (Pair a b) d =
+  pub yes-mean : AreFew t.role-facts → YesMeans c t
+  yes-mean few n needed s e r q of (Pair a b) d =
       rw e (pair-mean few n needed s.loops.now.rows s.ways.now r q of (record { counts = fit; numbers = ok }) a b d.0)

@@ -17,6 +17,7 @@ use Rattle.walk.specs.Strides.{Walked}
 use Rattle.walk.specs.Parts.{most_part, size_of, ask_in}
 use Rattle.walk.specs.Asks.{Hit, PairHit, PairAsked, Asked, YesBy, IsAnswer}
 use Rattle.walk.specs.Telling.{IsTold, Tells, TellsOf, Answering}
+use Rattle.walk.specs.Meant.{AreAnswers}
 
 -- v is as it was, or told
 abbrev pub SameOrTold : Part → Told → ℕ → Option Bool → Option Bool → Type 0
@@ -164,14 +165,13 @@ module _ (s : Strides) (question : Question) (part : Part) (answers : List (Opti
   answering_each k h = let g = a.given k h h in record { answer = g.0; is = g.1; right = a.right k g.0 g.1 }
 
 -- THEOREM: the contract of the answers leaves one outcome
-pub answers-once : (s : Strides) (question : Question) (part : Part) (r q : List (Option Bool)) → length r ≡ length q
-    → ((k : ℕ) → k < size_of part → IsAnswer s question (ask_in part k) (get_or r k None)) → ((k : ℕ) → size_of part ≤ k → get_or r k None ≡ None)
-    → ((k : ℕ) → k < size_of part → IsAnswer s question (ask_in part k) (get_or q k None)) → ((k : ℕ) → size_of part ≤ k → get_or q k None ≡ None) → r ≡ q
-answers-once s question part r q l each rest each' rest' = ext_get_or None r q l (λ i h. side i (dec_lt i (size_of part)))
+pub answers-once : (s : Strides) (question : Question) (part : Part) (n : ℕ) (r q : List (Option Bool)) → AreAnswers s question part n r
+    → AreAnswers s question part n q → r ≡ q
+answers-once s question part n r q v w = ext_get_or None r q (v.long ∙ sym w.long) (λ i h. side i (dec_lt i (size_of part)))
   where
     side : (i : ℕ) → Dec (i < size_of part) → get_or r i None ≡ get_or q i None
-    side i (no m) = rest i (omega arith) ∙ sym (rest' i (omega arith))
+    side i (no m) = v.rest i (omega arith) ∙ sym (w.rest i (omega arith))
     side i (yes m) =
-        let x = each i m in
-        let y = each' i m in
+        let x = v.each i m in
+        let y = w.each i m in
         x.is ∙ ap (λ (b : Bool). Some b) (same_test (YesBy s question (ask_in part i)) x.answer y.answer x.right y.right) ∙ sym y.is

@@ -6,6 +6,7 @@ pub mod Parts
 pub mod Asks
 pub mod Finals
 pub mod Known
+pub mod Meant
 -- What the functions keep.
 pub mod Courses
 pub mod Passes

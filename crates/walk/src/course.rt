@@ -63,8 +63,8 @@ fn back(row: &Row, m: StateSet) -> StateSet
     ensures { IsImage (Led Back row.now) m.0 result.0 }
 {
     let mut out = StateSet::EMPTY;
-    for t in 0..State::NUMBERS {
-        out = with(out, t, row[t].intersects(m));
+    for (t, set) in row.iter().enumerate() {
+        out = with(out, t, set.intersects(m));
     }
     out
 }

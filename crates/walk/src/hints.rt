@@ -54,8 +54,8 @@ pub struct Hints {
 
 // The sets of a row put into those of another.
 fn join_row(graph: &mut Row, row: &Row) {
-    for s in 0..State::NUMBERS {
-        graph[s] = graph[s].union(row[s]);
+    for (set, more) in graph.iter_mut().zip(row.iter()) {
+        *set = set.union(*more);
     }
 }
 
@@ -86,9 +86,9 @@ fn through(graph: &mut Row, k: usize)
     requires { k < most_states }
 {
     let via = graph[k];
-    for s in 0..State::NUMBERS {
-        if graph[s].contains(State(k as u16)) {
-            graph[s] = graph[s].union(via);
+    for set in graph.iter_mut() {
+        if set.contains(State(k as u16)) {
+            *set = set.union(via);
         }
     }
 }
@@ -115,10 +115,10 @@ fn turning(graph: &Row, start: State) -> State {
     }
     let mut best = start;
     let mut most = 0;
-    for t in 0..State::NUMBERS {
+    for (t, set) in graph.iter().enumerate() {
         let state = State(t as u16);
-        let onward = graph[t].len();
-        if from.contains(state) && graph[t].contains(state) && onward > most {
+        let onward = set.len();
+        if from.contains(state) && set.contains(state) && onward > most {
             best = state;
             most = onward;
         }
@@ -132,12 +132,8 @@ fn picked(reach: &Reach, turn: State) -> Option<Individual> {
     if first.0 < Individual::MOST && reach.sets[first.0 as usize].contains(turn) {
         return Some(first);
     }
-    for b in 0..Individual::NUMBERS {
-        if reach.sets[b].contains(turn) {
-            return Some(Individual(b as u16));
-        }
-    }
-    None
+    let b = reach.sets.iter().position(|set| set.contains(turn))?;
+    Some(Individual(b as u16))
 }
 
 impl Hints {

@@ -10,6 +10,7 @@ mod part;
 mod pivot;
 mod question;
 mod strides;
+pub mod theorems;
 mod walk;
 
 pub use course::Row;

@@ -38,8 +38,8 @@ fn loop_row(sheet: &Sheet, concepts: ConceptSet) -> Row
     if concepts.is_empty() {
         return out;
     }
-    for s in 0..State::NUMBERS {
-        out[s] = loops_from(sheet, s, concepts);
+    for (s, set) in out.iter_mut().enumerate() {
+        *set = loops_from(sheet, s, concepts);
     }
     out
 }

@@ -1,4 +1,7 @@
+use Rattle.std.proofs.Common.{arith, length-take}
 use Rattle.file.proofs.Served.{wrote}
+use Rattle.file.proofs.WritesLaws.{writes-once}
+use Rattle.file.proofs.Told.{listed, text-long, fault-told}
 use Rattle.file.proofs.answer.Goals as goal
 
 pub unreachable-requires : goal.unreachable-requires
@@ -6,3 +9,15 @@ unreachable-requires c = c.in-Err.ensures.fails
 
 pub returns-clause-written : goal.returns-clause-written
 returns-clause-written c = wrote _ _ _ _ (rw c.new.ensures at c.in-Ok.ensures.found) c.copy_found.ensures.written
+
+pub returns-clause-only : goal.returns-clause-only
+returns-clause-only c = λ out w. writes-once w (returns-clause-written c)
+
+pub returns-clause-long : goal.returns-clause-long
+returns-clause-long c = λ fs s. omega (arith, text-long (returns-clause-written c) fs s, length-take c.copy_found.result c.copy_found.new.text, c.copy_found.ensures.within)
+
+pub returns-clause-listed : goal.returns-clause-listed
+returns-clause-listed c = λ fs s. listed (returns-clause-written c) fs s
+
+pub returns-clause-fault : goal.returns-clause-fault
+returns-clause-fault c = λ before r f. (fault-told (returns-clause-written c) before r f).listed

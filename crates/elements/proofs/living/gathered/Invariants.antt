@@ -3,5 +3,5 @@ use Rattle.sets.specs.Rows.{concept_marks}
 use Rattle.elements.specs.Steps.{Gathers}
 use Rattle.elements.proofs.living.gathered.Given as goal
 
-abbrev pub invariant-loop-a : goal.invariant-loop-a
-invariant-loop-a l = Gathers l.a (concept_marks l.rows) l.all.0
+abbrev pub invariant-loop-row : goal.invariant-loop-row
+invariant-loop-row l = Gathers l.row-index (concept_marks l.rows) l.all.0

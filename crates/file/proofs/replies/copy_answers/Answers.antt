@@ -39,12 +39,12 @@ pub loop-ask-preserved : goal.loop-ask-preserved
 loop-ask-preserved c =
     let p = c.in-Some.ensures.steps in
     let line = answered_next _ _ _ _ _ _ _ c.loop-ask.invariant.here p.0.0 p.0.1 p.1 _ c.answer.ensures in
-    let written = copied_more _ _ _ c.args.text.now _ _ _ line c.loop-ask.invariant.written c.place.ensures.front in
+    let written = copied_more c.args.file.now _ _ c.args.text.now _ _ _ line c.loop-ask.invariant.written c.place.ensures.front in
     record {
       here = left_next _ _ _ _ _ _ _ c.loop-ask.invariant.here p.0.0 p.0.1 p.1;
       place = omega (arith, c.loop-ask.invariant.place, p.0.0.after);
       written = rw p.0.0.after written;
-      rest = kept_more _ _ _ c.args.text.now _ _ _ line c.loop-ask.invariant.rest c.place.ensures.rest;
+      rest = kept_more c.args.file.now _ _ c.args.text.now _ _ _ line c.loop-ask.invariant.rest c.place.ensures.rest;
     }
 
 pub returns-clause-within : goal.returns-clause-within

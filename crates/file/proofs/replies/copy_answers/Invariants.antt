@@ -1,5 +1,6 @@
 use Rattle.std.proofs.Common.{◌≡◌, ◌*◌, drop, take}
 use Rattle.file.specs.declared.text.TheConstants.{ANSWER_LINE}
+use Rattle.reading.specs.File.{held_call}
 use Rattle.file.specs.Writes.{Answered}
 use Rattle.std.specs.Iterator.Adapters.{zip_first, zip_second}
 use Rattle.std.specs.Slice.Iter.{iter_rest}
@@ -10,6 +11,6 @@ abbrev pub invariant-loop-ask : goal.invariant-loop-ask
 invariant-loop-ask l = record {
   here : IsLeft l.file (zip_first l.ask-iterator) (iter_rest (zip_second l.ask-iterator));
   place : l.at ≡ ANSWER_LINE * (zip_first l.ask-iterator).next;
-  written : Answered l.file (zip_first l.ask-iterator).next (take l.at l.text);
+  written : Answered (held_call l.file) (zip_first l.ask-iterator).next (take l.at l.text);
   rest : drop l.at l.text ≡ drop l.at l.fn.text;
 }

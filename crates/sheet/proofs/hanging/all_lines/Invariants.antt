@@ -2,5 +2,5 @@
 use Rattle.sheet.specs.Finds.{LineBelow}
 use Rattle.sheet.proofs.hanging.all_lines.Given as goal
 
-abbrev pub invariant-loop-s : goal.invariant-loop-s
-invariant-loop-s l = LineBelow l.lines l.s l.all.0
+abbrev pub invariant-loop-line : goal.invariant-loop-line
+invariant-loop-line l = LineBelow l.lines l.line-index l.all.0

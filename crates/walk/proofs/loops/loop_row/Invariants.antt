@@ -3,4 +3,4 @@ use Rattle.walk.proofs.LoopLaws.{RowMade}
 use Rattle.walk.proofs.loops.loop_row.Given as goal
 
 abbrev pub invariant-loop-s : goal.invariant-loop-s
-invariant-loop-s l = RowMade l.sheet l.concepts.0 l.s l.out
+invariant-loop-s l = RowMade l.sheet l.concepts.0 l.s l.set-items

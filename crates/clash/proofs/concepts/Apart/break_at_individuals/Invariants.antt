@@ -4,5 +4,5 @@ use Rattle.clash.specs.Parts.{AtIndividual}
 use Rattle.clash.proofs.SeekLaws.{Past}
 use Rattle.clash.proofs.concepts.Apart.break_at_individuals.Given as goal
 
-abbrev pub invariant-loop-a : goal.invariant-loop-a
-invariant-loop-a l = Past (AtIndividual l.self.of.numbers.now (concept_marks l.individuals)) l.a
+abbrev pub invariant-loop-row : goal.invariant-loop-row
+invariant-loop-row l = Past (AtIndividual l.self.of.numbers.now (concept_marks l.individuals)) l.row-index

@@ -1,0 +1,10 @@
+use Rattle.file.proofs.Told.{asks-answered, fault-told}
+use Rattle.file.proofs.WritesLaws.{fault-line}
+use Rattle.file.proofs.theorems.lines.Goals as goal
+
+pub returns : goal.returns
+returns c = record {
+  asks = λ input text w. asks-answered w;
+  fault = λ input text w. fault-told w;
+  near = fault-line;
+}

@@ -1,0 +1,28 @@
+// Laws of what an input writes. The functions here have nothing to do: each clause is a law.
+ghost use Rattle.file.specs.Laws.{WritesOnce, TextFits, StartWrites, WrittenOnce, ServedOnce};
+ghost use Rattle.file.specs.Laws.{AsksAnswered, FaultTold, FaultsNear};
+ghost use Rattle.file.specs.Demands.{LinesSayAsModel, LinesGrow, LinesReturn, RoundsSuffice};
+
+// One text, within its room; a start of the input decides it.
+pub fn text()
+    ensures once { WritesOnce }
+    ensures fits { TextFits }
+    ensures start { StartWrites }
+    ensures written_once { WrittenOnce }
+    ensures served_once { ServedOnce }
+{}
+
+// What stands on its lines.
+pub fn lines()
+    ensures asks { AsksAnswered }
+    ensures fault { FaultTold }
+    ensures near { FaultsNear }
+{}
+
+// What is demanded of the answers.
+pub fn demands()
+    ensures model { LinesSayAsModel }
+    ensures grows { LinesGrow }
+    ensures returns { LinesReturn }
+    ensures enough { RoundsSuffice }
+{}

@@ -1,0 +1,19 @@
+-- R ≤ S: by its constructors, its inverse, and the test that computes it.
+use Rattle.laws.specs.Truth.{test-of}
+use Rattle.meaning.specs.Orders.{same, then, rule, turned}
+use Rattle.meaning.proofs.RoleTurned.{inverses-follow}
+use Rattle.meaning.proofs.LiteTests.{role_le, role_le-in, role_le-out}
+use Rattle.meaning.proofs.orders.roles.Goals as goal
+
+pub returns : goal.returns
+returns c = record {
+  roles_ordered = λ 𝓒. record {
+    reflexive = λ R. same;
+    transitive = λ R S U l m. then l m;
+    rules = λ R S m. rule m;
+    inverses = λ R S l. turned l;
+  };
+  inverses = λ 𝓒 R S. inverses-follow 𝓒;
+  roles_computed = λ 𝓒 ok.
+      (role_le 𝓒, λ R S h. test-of (role_le 𝓒 R S) (role_le-out 𝓒 ok R S) (role_le-in 𝓒 ok R S h));
+}

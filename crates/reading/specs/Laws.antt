@@ -1,0 +1,81 @@
+-- Laws of reading a file (docs/RULES.md, sections 7 and 8).
+use Rattle.std.specs.Prelude.{ℕ, suc, ◌*◌, ◌<◌, ◌≤◌, ◌≡◌, ◌↔◌, List, [], ◌∷◌, Result, length, take}
+use Rattle.meaning.specs.Lent.{Sound}
+use Rattle.streams.specs.Lines.{lines}
+use Rattle.frames.specs.Digits.{line_length}
+use Rattle.frames.specs.declared.Frame.{Frame}
+use Rattle.reading.specs.declared.Fault.{Fault}
+use Rattle.reading.specs.declared.File.{File}
+use Rattle.reading.specs.declared.Refusal.{Refusal}
+use Rattle.reading.specs.Refusal.{refusal_number}
+use Rattle.reading.specs.Tables.{asks, entries}
+use Rattle.reading.specs.File.{asked}
+use Rattle.reading.specs.Judged.{Judged}
+use Rattle.reading.specs.Reading.{Finds, Verdict, sound, frames_of, Reading, Taken}
+use Rattle.reading.specs.Reads.{ReadsFile}
+
+-- a frame is refused for one reason, or taken
+abbrev pub JudgedOnce : Type 0
+JudgedOnce = (before : List Frame) (f : Frame) (r q : Result (Unit {0}) Refusal)
+    → Judged before f r → Judged before f q → r ≡ q
+
+-- a line is found to be one thing
+abbrev pub FindsOnce : Type 0
+FindsOnce = (before : List Frame) (line : List ℕ) (r q : Result Frame Refusal)
+    → Finds before line r → Finds before line q → r ≡ q
+
+-- and so is a file
+abbrev pub ReadingOnce : Type 0
+ReadingOnce = (before : List Frame) (ls : List (List ℕ)) (v w : Verdict)
+    → Reading before ls v → Reading before ls w → v ≡ w
+
+-- what is told of a file, and what is then held of it, is one thing
+abbrev pub ReadsOnce : Type 0
+ReadsOnce = (ls : List (List ℕ)) (r q : Result (Unit {0}) Fault) (x y : File)
+    → ReadsFile ls r x → ReadsFile ls q y → (r ≡ q) × (x ≡ y)
+
+-- the number that refuses a line is one of 4 to 11
+abbrev pub IsListed : ℕ → Type 0
+IsListed number = (4 ≤ number) × (number ≤ 11)
+
+abbrev pub RefusalsListed : Type 0
+RefusalsListed = (r : Refusal) → IsListed (refusal_number r)
+
+-- the frames that were read of a file, sound or faulty, were taken one after the other
+abbrev pub ReadingTaken : Type 0
+ReadingTaken = (ls : List (List ℕ)) (v : Verdict) → Reading [] ls v → Taken (frames_of v)
+
+-- where frames were taken, the call of each ask among them passes the library's tests 4 to 8
+abbrev pub TakenAccepted : Type 0
+TakenAccepted = (fs : List Frame) → Taken fs
+    → (k : ℕ) → k < entries asks fs → Sound (asked fs k)
+
+-- and so it does where an input is read whole
+abbrev pub WholeAccepted : Type 0
+WholeAccepted = (input : List ℕ) (fs : List Frame) → Reading [] (lines input) (sound fs)
+    → (k : ℕ) → k < entries asks fs → Sound (asked fs k)
+
+-- at most 7,186 frames are taken: line 1, the allowance, and as many as the tables have records
+abbrev pub LinesBounded : Type 0
+LinesBounded = (fs : List Frame) → Taken fs → length fs ≤ 7186
+
+-- two rows of lines that read alike for n lines: the same, up to one that is too long in both
+pub data Alike : ℕ → List (List ℕ) → List (List ℕ) → Type 0 where
+  far : {ls ms : List (List ℕ)} → Alike 0 ls ms
+  ended : {n : ℕ} → Alike n [] []
+  same : {n : ℕ} {ls ms : List (List ℕ)} (l : List ℕ) → Alike n ls ms
+      → Alike (suc n) (l ∷ ls) (l ∷ ms)
+  long : {n : ℕ} {ls ms : List (List ℕ)} (l m : List ℕ) → line_length < length l
+      → line_length < length m
+      → Alike n (l ∷ ls) (m ∷ ms)
+
+-- an input and its first n bytes read alike for as many lines as surely stand within them, each of
+-- at most 64 characters and its end
+abbrev pub StartAlike : Type 0
+StartAlike = (input : List ℕ) (r n : ℕ) → r * 65 ≤ n
+    → Alike r (lines input) (lines (take n input))
+
+-- the first 467,155 bytes of an input, or more of them, are found to be what the whole is
+abbrev pub StartDecides : Type 0
+StartDecides = (input : List ℕ) (n : ℕ) → 467155 ≤ n → (v : Verdict)
+    → Reading [] (lines (take n input)) v ↔ Reading [] (lines input) v

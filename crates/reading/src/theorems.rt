@@ -1,0 +1,27 @@
+// Laws of reading a file. The functions here have nothing to do: each clause is a law.
+ghost use Rattle.reading.specs.Laws.{JudgedOnce, FindsOnce, ReadingOnce, ReadsOnce};
+ghost use Rattle.reading.specs.Laws.{RefusalsListed, ReadingTaken, TakenAccepted, WholeAccepted};
+ghost use Rattle.reading.specs.Laws.{LinesBounded, StartAlike, StartDecides};
+
+// What is found is one thing.
+pub fn once()
+    ensures judged { JudgedOnce }
+    ensures finds { FindsOnce }
+    ensures reading { ReadingOnce }
+    ensures reads { ReadsOnce }
+{}
+
+// What is refused has one of the listed numbers; what is taken, the library does not refuse.
+pub fn accepted()
+    ensures listed { RefusalsListed }
+    ensures reading { ReadingTaken }
+    ensures taken { TakenAccepted }
+    ensures whole { WholeAccepted }
+{}
+
+// Any length of input: a start of it decides.
+pub fn start()
+    ensures bounded { LinesBounded }
+    ensures alike { StartAlike }
+    ensures decides { StartDecides }
+{}

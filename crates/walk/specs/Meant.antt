@@ -1,0 +1,120 @@
+-- What the tables of a walk, and the answers to asks, say of a collection (docs/RULES.md,
+-- section 6).
+use Rattle.std.specs.Prelude.{◌≡◌, ◌↔◌, Bool, Option, None, List, ℕ, ◌*◌, ◌<◌, ◌≤◌, length, slice_index_or}
+use Rattle.kinds.specs.declared.Individual.{Individual}
+use Rattle.kinds.specs.declared.State.{State}
+use Rattle.kinds.specs.declared.Concept.{Concept}
+use Rattle.kinds.specs.declared.Counts.{Counts}
+use Rattle.kinds.specs.Kinds.{most_individuals, most_states, most_roles, individual, signed, state, number_of, concept_of, IndividualDeclared, StateDeclared, ConceptDeclared}
+use Rattle.laws.specs.Member.{◌∈◌}
+use Rattle.meaning.specs.Collection.{Collection}
+use Rattle.meaning.specs.Lent.{Tables, collection}
+use Rattle.meaning.specs.Lite.{lite, StepDown}
+use Rattle.meaning.specs.Model.{IndividualHas}
+use Rattle.meaning.specs.Question.{Yes}
+use Rattle.meaning.specs.Sheet.{Mark, Needed}
+use Rattle.meaning.specs.Walk.{IndividualsWalk}
+use Rattle.sets.specs.Bits.{Has, concept_width}
+use Rattle.sets.specs.declared.states.StateSet.{StateSet}
+use Rattle.sets.specs.declared.concepts.ConceptSet.{ConceptSet}
+use Rattle.tables.specs.declared.ask.Ask.{Ask}
+use Rattle.tables.specs.Asks.{first_of, second_of, IsAskDeclared}
+use Rattle.walk.specs.declared.part.Part.{Part}
+use Rattle.walk.specs.declared.question.Question.{Question}
+use Rattle.walk.specs.declared.strides.Strides.{Strides}
+use Rattle.walk.specs.Asks.{YesBy, IsAnswer}
+use Rattle.walk.specs.Finals.{AreFinals}
+use Rattle.walk.specs.Loops.{pair, AreLoops}
+use Rattle.walk.specs.Parts.{size_of, ask_in}
+use Rattle.walk.specs.Sets.{set_at, concepts_at, row_at}
+use Rattle.walk.specs.Strides.{Reaches}
+
+-- r has the answers to the asks of a part, and no more: n entries
+pub record AreAnswers (s : Strides) (question : Question) (part : Part) (n : ℕ)
+    (r : List (Option Bool)) : Type 0 where
+  pub long : length r ≡ n
+  pub each : (k : ℕ) → k < size_of part
+      → IsAnswer s question (ask_in part k) (slice_index_or r k None)
+  pub rest : (k : ℕ) → size_of part ≤ k → slice_index_or r k None ≡ None
+
+-- ---- tables of a collection
+
+-- from s to u at a: a has some B with (s, u, B) on the sheet after n rounds
+abbrev pub LoopOf : Collection → ℕ → Individual → State → State → Type 0
+LoopOf 𝓒 n a s u = (B : Concept) × IndividualHas 𝓒 a B × Mark (lite 𝓒) n s u B
+
+-- loops, and ways, as tables hold them
+abbrev pub LoopsOf : Collection → ℕ → List (List StateSet) → Type 0
+LoopsOf 𝓒 n loops =
+    (a s u : ℕ) → a < most_individuals → s < most_states
+    → Has (set_at (row_at loops a) s) u ↔ LoopOf 𝓒 n (individual a) (state s) (state u)
+
+abbrev pub WaysOf : Collection → List (List StateSet) → Type 0
+WaysOf 𝓒 ways =
+    (R s u : ℕ) → R < 2 * most_roles
+    → Has (set_at (row_at ways R) s) u ↔ StepDown 𝓒 (signed R) (state s) (state u)
+
+-- the tables of a collection, with its sheet after n rounds
+pub record TablesOf (𝓒 : Collection) (n : ℕ) (loops ways : List (List StateSet)) : Type 0 where
+  pub loop_at : LoopsOf 𝓒 n loops
+  pub loop_low : (a s u : ℕ) → a < most_individuals → Has (set_at (row_at loops a) s) u
+      → s < most_states
+  pub way_at : WaysOf 𝓒 ways
+
+-- the question of a collection
+pub record QuestionOf (𝓒 : Collection) (q : Question) : Type 0 where
+  pub start : q.start ≡ 𝓒.counts.start
+  pub final : (u : State) → Has q.finals.0 u.0 ↔ (u ∈ 𝓒.finals)
+
+-- the concepts of the individuals of a collection, and its sheet after n rounds, as rows hold them
+pub record ConceptsOf (𝓒 : Collection) (individuals : List ConceptSet) : Type 0 where
+  pub at : (a : ℕ) (B : Concept) → a < most_individuals → ConceptDeclared 𝓒.counts B
+      → Has (concepts_at individuals a) (number_of B) ↔ IndividualHas 𝓒 (individual a) B
+
+pub record SheetOf (𝓒 : Collection) (n : ℕ) (sheet : List ConceptSet) : Type 0 where
+  pub at : (s u B : ℕ) → s < most_states → u < most_states → B < concept_width
+      → Has (concepts_at sheet (pair s u)) B ↔ Mark (lite 𝓒) n (state s) (state u) (concept_of B)
+
+-- ---- what they mean
+
+module _ (c : Counts) (t : Tables) where
+  -- loops made from the rows of a collection are the collection's
+  abbrev pub LoopsMean : Type 0
+  LoopsMean =
+      (n : ℕ) (individuals sheet : List ConceptSet) → ConceptsOf (collection c t) individuals
+      → SheetOf (collection c t) n sheet
+      → (loops : List (List StateSet)) → AreLoops individuals sheet loops
+      → LoopsOf (collection c t) n loops
+
+  -- with the ways of its question they are its tables
+  abbrev pub TablesMean : Type 0
+  TablesMean =
+      (n : ℕ) (individuals sheet : List ConceptSet) → ConceptsOf (collection c t) individuals
+      → SheetOf (collection c t) n sheet
+      → (loops ways : List (List StateSet)) → AreLoops individuals sheet loops
+      → WaysOf (collection c t) ways → TablesOf (collection c t) n loops ways
+
+  -- a question made from the table of finals is the collection's
+  abbrev pub QuestionMeans : Type 0
+  QuestionMeans =
+      (q : Question) → q.start ≡ c.start → AreFinals t.finals q.finals.0
+      → QuestionOf (collection c t) q
+
+  -- by such tables, with the closed sheet, strides lead exactly where the individuals' walk does
+  abbrev pub WalkMeans : Type 0
+  WalkMeans =
+      (n : ℕ) → Needed (lite (collection c t)) n
+      → (loops ways : List (List StateSet)) → TablesOf (collection c t) n loops ways
+      → (a b : Individual) (s u : State) → IndividualDeclared c a → StateDeclared c s
+      → Reaches loops ways t.role-facts a.0 s.0 b.0 u.0
+      ↔ IndividualsWalk (collection c t) a s b u
+
+  -- and the answer to a declared ask is yes exactly where the pair is
+  abbrev pub YesMeans : Type 0
+  YesMeans =
+      (n : ℕ) → Needed (lite (collection c t)) n
+      → (s : Strides) → s.hops.now.facts.numbers.now ≡ t.role-facts
+      → TablesOf (collection c t) n s.loops.now.rows s.ways.now
+      → (q : Question) → QuestionOf (collection c t) q
+      → (ask : Ask) → IsAskDeclared c ask
+      → YesBy s q ask ↔ Yes (collection c t) (first_of ask) (second_of ask)
