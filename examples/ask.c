@@ -26,5 +26,14 @@ int main(void) {
             numbers, 2, counts, 2)) return 1;
     for (int k = 0; k < 2; k++)
         printf("(%d, %d) in a row: number %d, count %d\n", pairs[2 * k], pairs[2 * k + 1], numbers[k], counts[k]);
+    /* The same question from the marks of an expression: signs, test Deed, signs backward. */
+    static const uint8_t marks_typed[] = {0x00, 0x41, 0x01};
+    static uint16_t made_steps[LAMPSAFFRON_STEPS], made_finals[LAMPSAFFRON_FINALS];
+    uint16_t states, steps_used, finals_used;
+    if (lampsaffron_expression(marks_typed, 3, made_steps, LAMPSAFFRON_STEPS, made_finals, LAMPSAFFRON_FINALS,
+            &states, &steps_used, &finals_used)) return 1;
+    uint8_t number = lampsaffron_ask(2, 2, 2, states, 0, rules, 4, none, 0, none, 0, none, 0,
+        facts, 2, none, 0, made_steps, steps_used, made_finals, finals_used, 0, 0, 64, area, sizeof area, spare, sizeof spare, &count);
+    printf("(0, 0) by an expression of %d states: number %d, count %d\n", states, number, count);
     return 0;
 }

@@ -33,6 +33,12 @@ extern "C" {
         numbers: *mut u8, numbers_len: usize,
         counts: *mut u16, counts_len: usize,
     ) -> bool;
+    fn lampsaffron_expression(
+        marks: *const u8, marks_len: usize,
+        steps: *mut u16, steps_len: usize,
+        finals: *mut u16, finals_len: usize,
+        states: *mut u16, steps_used: *mut u16, finals_used: *mut u16,
+    ) -> u8;
 }
 
 fn main() {
@@ -94,4 +100,33 @@ fn main() {
     for (pair, (number, count)) in pairs.chunks(2).zip(numbers.iter().zip(counts)) {
         println!("({}, {}) in a row: number {number}, count {count}", pair[0], pair[1]);
     }
+    // The same question from the marks of an expression: signs, test Deed, signs backward.
+    let typed = [0x00u8, 0x41, 0x01];
+    let (mut made_steps, mut made_finals) = ([0u16; 2048], [0u16; 16]);
+    let (mut states, mut steps_used, mut finals_used, mut count) = (0u16, 0u16, 0u16, 0u16);
+    // As above; both rows and the three numbers are apart from each other.
+    let number = unsafe {
+        assert_eq!(0, lampsaffron_expression(
+            typed.as_ptr(), typed.len(),
+            made_steps.as_mut_ptr(), made_steps.len(),
+            made_finals.as_mut_ptr(), made_finals.len(),
+            &mut states, &mut steps_used, &mut finals_used,
+        ));
+        lampsaffron_ask(
+            2, 2, 2, states, 0,
+            rules.as_ptr(), rules.len(),
+            none.as_ptr(), 0,
+            none.as_ptr(), 0,
+            none.as_ptr(), 0,
+            facts.as_ptr(), facts.len(),
+            none.as_ptr(), 0,
+            made_steps.as_ptr(), steps_used as usize,
+            made_finals.as_ptr(), finals_used as usize,
+            0, 0, 64,
+            area.as_mut_ptr(), area.len(),
+            spare.as_mut_ptr(), spare.len(),
+            &mut count,
+        )
+    };
+    println!("(0, 0) by an expression of {states} states: number {number}, count {count}");
 }

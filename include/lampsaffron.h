@@ -1,4 +1,4 @@
-/* The library's calls for C: one pair of individuals asked of a collection, or a row of pairs. docs/LINKING.md says how to link it. */
+/* The library's calls for C: one pair of individuals asked of a collection, or a row of pairs; and the tables of a question from an expression. docs/LINKING.md says how to link it. */
 #ifndef LAMPSAFFRON_H
 #define LAMPSAFFRON_H
 
@@ -12,6 +12,10 @@
 /* The most pairs of one row. */
 #define LAMPSAFFRON_PAIRS 256
 
+/* The numbers of the most steps and of the most final states. */
+#define LAMPSAFFRON_STEPS 2048
+#define LAMPSAFFRON_FINALS 16
+
 /* The numbers of answers. */
 enum lampsaffron_number {
     LAMPSAFFRON_NO = 0,
@@ -22,7 +26,10 @@ enum lampsaffron_number {
     LAMPSAFFRON_BAD_TABLE = 5,
     LAMPSAFFRON_BAD_NUMBER = 6,
     LAMPSAFFRON_EQUAL_ENDS = 7,
-    LAMPSAFFRON_BAD_ASK = 8
+    LAMPSAFFRON_BAD_ASK = 8,
+    LAMPSAFFRON_NO_EXPRESSION = 12,
+    LAMPSAFFRON_TOO_DEEP = 13,
+    LAMPSAFFRON_ANOTHER_SHAPE = 14
 };
 
 /* Each table is a pointer to its 16-bit numbers, record after record, and how many numbers there are (not how many records).
@@ -65,5 +72,15 @@ bool lampsaffron_ask_all(
     uint8_t *spare, size_t spare_len,
     uint8_t *numbers, size_t numbers_len,
     uint16_t *counts, size_t counts_len);
+
+/* The tables of steps and final states of a question typed as an expression, from its byte marks. Where the number is 0 they stand at the
+   front of both rows, *steps_used and *finals_used get how many numbers each has, and *states how many states to declare; the start state is 0.
+   Else nothing is written: 5, steps_len is below LAMPSAFFRON_STEPS or finals_len below LAMPSAFFRON_FINALS; 13, brackets too deep; 12, no
+   expression; 14, more role and test marks than 15. What the marks read is not tested here: the call that asks does so. */
+uint8_t lampsaffron_expression(
+    const uint8_t *marks, size_t marks_len,
+    uint16_t *steps, size_t steps_len,
+    uint16_t *finals, size_t finals_len,
+    uint16_t *states, uint16_t *steps_used, uint16_t *finals_used);
 
 #endif

@@ -1,11 +1,12 @@
-/* The library driver of PROTOCOL.md: reads a call per line, asks lampsaffron_ask or lampsaffron_ask_all, writes what they gave and hashes.
+/* The library driver of PROTOCOL.md: reads a call per line, asks lampsaffron_ask, lampsaffron_ask_all or lampsaffron_expression, writes what
+   they gave and hashes.
    No stdio and no heap: only read and write, declared by hand, and static buffers. */
 #include "lampsaffron.h"
 
 extern long read(int from, void *bytes, size_t most);
 extern long write(int to, const void *bytes, size_t length);
 
-enum { TABLES = 8, MOST_NUMBERS = 65535, MOST_AREA = 65536, MOST_ENTRIES = 1024, GUARD = 64 };
+enum { TABLES = 8, MOST_NUMBERS = 65535, MOST_AREA = 65536, MOST_ENTRIES = 1024, MOST_MADE = 4096, GUARD = 64 };
 
 /* The tables, and after them the pairs of a row. */
 enum { PAIRS = TABLES };
@@ -17,9 +18,17 @@ static uint8_t areas[2][MOST_AREA + GUARD];
 static uint8_t row_numbers[MOST_ENTRIES + GUARD];
 static uint16_t row_counts[MOST_ENTRIES + GUARD / 2];
 
-/* What a request says beside the tables. */
+/* A row of marks, and the rows for the steps and finals that are made of it, with GUARD bytes behind each. */
+static uint8_t marks[MOST_NUMBERS];
+static size_t marks_length;
+static uint16_t made[2][MOST_MADE + GUARD / 2];
+
+/* The letters that a request of another kind than a pair begins with; neither is a digit. */
+enum { ROW = 'R', EXPRESSION = 'M' };
+
+/* What a request says beside the tables and marks. */
 struct request {
-    bool row;
+    int kind;
     uint16_t counts[5], pair[2], allowance;
     size_t sizes[2], entries[2];
     uint8_t fills[2], fill;
@@ -81,9 +90,22 @@ static void fill(uint8_t *bytes, size_t length, uint8_t with) {
     while (length-- > 0) *bytes++ = with;
 }
 
+static const uint64_t hash_begin = UINT64_C(0xCBF29CE484222325);
+
+static uint64_t mix(uint64_t mixed, uint8_t byte) {
+    return (mixed ^ byte) * UINT64_C(0x00000100000001B3);
+}
+
 static uint64_t hash(const uint8_t *bytes, size_t length) {
-    uint64_t mixed = UINT64_C(0xCBF29CE484222325);
-    while (length-- > 0) mixed = (mixed ^ *bytes++) * UINT64_C(0x00000100000001B3);
+    uint64_t mixed = hash_begin;
+    while (length-- > 0) mixed = mix(mixed, *bytes++);
+    return mixed;
+}
+
+/* Each number as two bytes, the low one first, whatever the machine's order is. */
+static uint64_t hash_numbers(const uint16_t *numbers, size_t length) {
+    uint64_t mixed = hash_begin;
+    for (; length-- > 0; numbers++) mixed = mix(mix(mixed, (uint8_t)*numbers), (uint8_t)(*numbers >> 8));
     return mixed;
 }
 
@@ -139,12 +161,27 @@ static void answer_row(const struct request *asked) {
     put(hash((const uint8_t *)(row_counts + counts), GUARD), 16);
 }
 
-static void answer(const struct request *asked) {
+static void answer_expression(const struct request *asked) {
+    const size_t *lent = asked->entries;
+    uint16_t told[3] = {0xFFFF, 0xFFFF, 0xFFFF};
+    for (int i = 0; i < 2; i++) fill_lent(made[i], 2 * lent[i], asked->fill);
+    put(lampsaffron_expression(marks, marks_length, made[0], lent[0], made[1], lent[1], &told[0], &told[1], &told[2]), 2);
+    for (int i = 0; i < 3; i++) put(told[i], 4);
+    for (int i = 0; i < 2; i++) put(hash_numbers(made[i], lent[i]), 16);
+    for (int i = 0; i < 2; i++) put(hash((const uint8_t *)(made[i] + lent[i]), GUARD), 16);
+}
+
+static void answer_with_areas(const struct request *asked) {
     for (int i = 0; i < 2; i++) fill_lent(areas[i], asked->sizes[i], asked->fills[i]);
-    if (asked->row) answer_row(asked);
+    if (asked->kind == ROW) answer_row(asked);
     else answer_pair(asked);
     for (int i = 0; i < 2; i++) put(hash(areas[i], asked->sizes[i]), 16);
     for (int i = 0; i < 2; i++) put(hash(areas[i] + asked->sizes[i], GUARD), 16);
+}
+
+static void answer(const struct request *asked) {
+    if (asked->kind == EXPRESSION) answer_expression(asked);
+    else answer_with_areas(asked);
 }
 
 static void read_table(int which) {
@@ -158,20 +195,37 @@ static size_t length_within(int digits, size_t most) {
     return length;
 }
 
-static struct request read_request(void) {
-    struct request asked = {.row = next_character() == 'R'};
-    if (!asked.row) step_back();
-    for (int i = 0; i < 5; i++) asked.counts[i] = (uint16_t)number(4);
+static void read_marks(void) {
+    marks_length = number(4);
+    for (size_t i = 0; i < marks_length; i++) marks[i] = (uint8_t)number(2);
+}
+
+/* The entries of a row, or the numbers for steps and finals, and the byte that fills them. */
+static void read_entries(struct request *asked, size_t most) {
+    for (int i = 0; i < 2; i++) asked->entries[i] = length_within(4, most);
+    asked->fill = (uint8_t)number(2);
+}
+
+static void read_pair_or_row(struct request *asked) {
+    for (int i = 0; i < 5; i++) asked->counts[i] = (uint16_t)number(4);
     for (int i = 0; i < TABLES; i++) read_table(i);
-    if (asked.row) read_table(PAIRS);
+    if (asked->kind == ROW) read_table(PAIRS);
     else
-        for (int i = 0; i < 2; i++) asked.pair[i] = (uint16_t)number(4);
-    asked.allowance = (uint16_t)number(4);
-    for (int i = 0; i < 2; i++) asked.sizes[i] = length_within(8, MOST_AREA);
-    for (int i = 0; i < 2; i++) asked.fills[i] = (uint8_t)number(2);
-    if (asked.row) {
-        for (int i = 0; i < 2; i++) asked.entries[i] = length_within(4, MOST_ENTRIES);
-        asked.fill = (uint8_t)number(2);
+        for (int i = 0; i < 2; i++) asked->pair[i] = (uint16_t)number(4);
+    asked->allowance = (uint16_t)number(4);
+    for (int i = 0; i < 2; i++) asked->sizes[i] = length_within(8, MOST_AREA);
+    for (int i = 0; i < 2; i++) asked->fills[i] = (uint8_t)number(2);
+    if (asked->kind == ROW) read_entries(asked, MOST_ENTRIES);
+}
+
+static struct request read_request(void) {
+    struct request asked = {.kind = next_character()};
+    if (asked.kind == EXPRESSION) {
+        read_marks();
+        read_entries(&asked, MOST_MADE);
+    } else {
+        if (asked.kind != ROW) step_back();
+        read_pair_or_row(&asked);
     }
     end_of_line();
     return asked;

@@ -6,6 +6,7 @@ pub mod compare;
 pub mod desk;
 pub mod element;
 pub mod explain;
+pub mod expression;
 pub mod library;
 pub mod model;
 pub mod numbers;

@@ -1,7 +1,10 @@
-//! The library call over lent tables, with both areas (docs/RULES.md, sections 3 and 7).
+//! The library's calls: over lent tables, with both areas (docs/RULES.md, sections 3 and 7); from marks to tables (section 8).
 
 use crate::collection::{Collection, Counts, Step};
-use crate::numbers::{Concept, Individual, Role};
+use crate::expression::automaton::Automaton;
+use crate::expression::read::{expression, too_deep};
+use crate::expression::Letter;
+use crate::numbers::{Concept, Individual, Role, State, MOST_STATES};
 use crate::prepared::Prepared;
 use crate::sheet::AREA;
 
@@ -36,11 +39,8 @@ impl Call {
             roles(&collection.role_exclusions),
             flat(&collection.concept_facts, |fact| vec![fact.0 .0, fact.1 .0]),
             flat(&collection.role_facts, |fact| vec![fact.0 .0 / 2, fact.1 .0, fact.2 .0]),
-            flat(&collection.steps, |step| match *step {
-                Step::Role { from, role, to } => vec![0, from.0, role.0, to.0],
-                Step::Test { from, name, to } => vec![1, from.0, name.0, to.0],
-            }),
-            flat(&collection.finals, |state| vec![state.0]),
+            step_numbers(&collection.steps),
+            final_numbers(&collection.finals),
         ];
         Call { counts: sizes.map(u16::from), tables, allowance }
     }
@@ -48,6 +48,17 @@ impl Call {
 
 fn flat<T>(table: &[T], record: impl Fn(&T) -> Vec<u8>) -> Vec<u16> {
     table.iter().flat_map(record).map(u16::from).collect()
+}
+
+fn step_numbers(steps: &[Step]) -> Vec<u16> {
+    flat(steps, |step| match *step {
+        Step::Role { from, role, to } => vec![0, from.0, role.0, to.0],
+        Step::Test { from, name, to } => vec![1, from.0, name.0, to.0],
+    })
+}
+
+fn final_numbers(finals: &[State]) -> Vec<u16> {
+    flat(finals, |state| vec![state.0])
 }
 
 /// The number and its count; the areas are written after 0, 1 and 3 only.
@@ -154,4 +165,37 @@ fn step(counts: &Counts, record: &[u16]) -> Option<Step> {
         1 => Some(Step::Test { from, name: counts.name(record[2])?, to }),
         _ => None,
     }
+}
+
+/// How many numbers the rows for steps and for finals must have, whatever is put there: those of the fullest tables.
+pub const ROOM: [usize; 2] = [SHAPES[6].0 * SHAPES[6].1, SHAPES[7].0 * SHAPES[7].1];
+
+/// What is made of an expression: how many states to declare, and the numbers of its steps and of its finals.
+#[derive(Clone, Debug, PartialEq, Eq)]
+pub struct Made {
+    pub states: u16,
+    pub tables: [Vec<u16>; 2],
+}
+
+/// The tables of an expression from its marks, to be put into rows of these lengths; or the refusal, in the order 5, 13,
+/// 12, 14. Whether the marks are declared isn't asked here.
+pub fn made_of(marks: &[u8], rows: [usize; 2]) -> Result<Made, u8> {
+    if rows[0] < ROOM[0] || rows[1] < ROOM[1] {
+        return Err(5);
+    }
+    if too_deep(marks).is_some() {
+        return Err(13);
+    }
+    let read = expression(marks).map_err(|_| 12)?;
+    if role_and_test_marks(marks) >= usize::from(MOST_STATES) {
+        return Err(14);
+    }
+    let automaton = Automaton::of(&read);
+    let tables = [step_numbers(&automaton.as_steps()), final_numbers(&automaton.as_finals())];
+    Ok(Made { states: automaton.states() as u16, tables })
+}
+
+/// How many of these marks become a state.
+pub fn role_and_test_marks(marks: &[u8]) -> usize {
+    marks.iter().filter(|mark| Letter::of(**mark).is_some()).count()
 }

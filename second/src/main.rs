@@ -1,4 +1,4 @@
-//! The commands of the second program: desk, explain, paper, changes, picture, compare, answer and sample.
+//! The commands of the second program: desk, explain, paper, changes, picture, automaton, compare, answer and sample.
 
 use second::compare::{compare, protocol, Options};
 use second::explain::{Explanation, MOST_STEPS};
@@ -10,14 +10,16 @@ use std::process::ExitCode;
 const USAGE: &str = "second desk                  the desk: standard input to standard output
 second explain FILE          what stands behind the desk's answers to a file, as readable text
 second paper BLOCK FILE [WORDS]
-                             a block about a file, for a page: records, numbers, orders, people, model, ends, pairs, exclusions,
-                             ways, sheets, rounds, walks, behind or answers; empty-records and so on for the empty form; forms
-                             for all the empty forms; or figures, for a script
+                             a block about a file, for a page: records, marks, places, automaton, numbers, orders, people, model,
+                             ends, pairs, exclusions, ways, sheets, rounds, walks, behind or answers; empty-records and so on for
+                             the empty form; forms for all the empty forms; or figures, for a script
 second changes FILE OTHER [WORDS]
                              the lines in which a file differs from another, in words
 second picture TITLE FILE [WORDS]
                              the canonical model of a file as SVG, with the path or the clash
     WORDS         words for names, then for roles, as in Owner,Deed/signs,holds
+second automaton TITLE FILE [WORDS]
+                             the automaton of a file's expression as SVG
 second compare [OPTIONS]     the comparison
     --cases N     cases in each part (3000)
     --seed S      the seed of all cases (1)
@@ -42,6 +44,8 @@ fn main() -> ExitCode {
         ("changes", [file, other, words]) => changes(file, other, words),
         ("picture", [title, file]) => picture(title, file, ""),
         ("picture", [title, file, words]) => picture(title, file, words),
+        ("automaton", [title, file]) => automaton(title, file, ""),
+        ("automaton", [title, file, words]) => automaton(title, file, words),
         ("answer", []) => answer(),
         ("sample", [kind, seed]) => sample(kind, seed),
         ("compare", options) => match read_options(options) {
@@ -122,13 +126,23 @@ fn picture(title: &str, path: &str, words: &str) -> ExitCode {
     }
 }
 
+fn automaton(title: &str, path: &str, words: &str) -> ExitCode {
+    let Some((_, explained)) = sound(path) else { return ExitCode::from(2) };
+    match &explained.file.expression {
+        Some(typed) => {
+            written(second::picture::automaton::automaton(typed, &Words::read(words), title).as_bytes())
+        }
+        None => {
+            eprintln!("{path}: its question is typed as steps and finals");
+            ExitCode::FAILURE
+        }
+    }
+}
+
 fn answer() -> ExitCode {
     for line in std::io::stdin().lock().lines() {
         let line = line.expect("standard input can be read");
-        match protocol::read_request(&line) {
-            Some(lent) => println!("{}", protocol::answer(&lent).1),
-            None => println!("!"),
-        }
+        println!("{}", protocol::reply(&line));
     }
     ExitCode::SUCCESS
 }

@@ -3,9 +3,10 @@ use Rattle.std.specs.Prelude.{ℕ, ◌<◌, ◌≤◌, ◌≡◌, ◌/◌, List,
 use Rattle.std.proofs.Common.{ap, ◌∙◌, sym, subst, arith}
 use Rattle.frames.specs.declared.Frame.{Frame}
 use Rattle.tables.specs.Asks.{ask_width}
+use Rattle.expression.specs.Listed.{Listed}
 use Rattle.reading.specs.declared.File.{File}
 use Rattle.reading.specs.Tables.{asks, most, entries, table}
-use Rattle.reading.specs.File.{file_of, held_ask}
+use Rattle.reading.specs.File.{file_of, held_ask, IsQuestion}
 use Rattle.reading.specs.Reads.{IsRead}
 use Rattle.reading.proofs.TableLaws.{table-length}
 use Rattle.reading.proofs.Bounds.{few}
@@ -23,8 +24,8 @@ module _ (file : File) (read : IsRead file) where
   pub few_asks : ask_count file ≤ most asks
   few_asks = omega (arith, count_is, few asks read.frames read.taken)
 
-  pub in_bytes : (k : ℕ) → k < ask_count file → IsInBytes (held_ask file k)
-  in_bytes k h =
-      let s = accepted read.frames read.taken k (omega (arith, count_is)) in
+  pub in_bytes : (q : Listed) → IsQuestion file q → (k : ℕ) → k < ask_count file → IsInBytes (held_ask file k)
+  in_bytes q is k h =
+      let s = accepted read.frames read.taken q (rw read.kept at is) k (omega (arith, count_is)) in
       let here : IsInBytes (held_ask (file_of read.frames) k) = (omega (arith, s.counts.individuals, s.ask.0), omega (arith, s.counts.individuals, s.ask.1)) in
       subst (λ (f : File). IsInBytes (held_ask f k)) (sym read.kept) here

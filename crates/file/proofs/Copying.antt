@@ -2,6 +2,7 @@
 use Rattle.std.proofs.Common.{ℕ, ◌≡◌, ◌+◌, ◌≤◌, List, ◌++◌, length, take, drop, sym, ap, ◌∙◌, subst, append_assoc, length-append, arith}
 use Rattle.std.proofs.lemmas.List.{take_at, drop_at, drop-drop, length-take-le}
 use borrow.Rule.Slice.PartMut.{put_mid, post_of}
+use Rattle.expression.specs.Listed.{Listed}
 use Rattle.reading.specs.declared.File.{File}
 use Rattle.reading.specs.File.{held_call}
 use Rattle.file.specs.declared.text.TheConstants.{ANSWER_LINE}
@@ -28,12 +29,12 @@ module _ (old line new : List ℕ) (at k : ℕ) (fits : at + length line ≤ len
       ap (drop (at + length line)) whole ∙ drop_at front (post_of at k old) _ len ∙ drop-drop k at old ∙ ap (λ n. drop (at + n) old) long
 
 -- the line for one more ask stands after those before it
-module _ (file : File) (k at : ℕ) (start old new line : List ℕ) (w : Answers (held_call file k) line) where
-  pub copied_more : Answered (held_call file) k (take at old) → take (at + length line) new ≡ take at old ++ line
-      → Answered (held_call file) (k + 1) (take (at + ANSWER_LINE) new)
+module _ (file : File) (q : Listed) (k at : ℕ) (start old new line : List ℕ) (w : Answers (held_call file q k) line) where
+  pub copied_more : Answered (held_call file q) k (take at old) → take (at + length line) new ≡ take at old ++ line
+      → Answered (held_call file q) (k + 1) (take (at + ANSWER_LINE) new)
   copied_more r e =
       let long : at + ANSWER_LINE ≡ at + length line = omega (arith, answer-length w) in
-      subst (λ (out : List ℕ). Answered (held_call file) (k + 1) out) (sym (ap (λ n. take n new) long ∙ e)) (answered_more file k (take at old) line r w)
+      subst (λ (out : List ℕ). Answered (held_call file q) (k + 1) out) (sym (ap (λ n. take n new) long ∙ e)) (answered_more file q k (take at old) line r w)
 
   pub kept_more : drop at old ≡ drop at start → drop (at + length line) new ≡ drop (at + length line) old
       → drop (at + ANSWER_LINE) new ≡ drop (at + ANSWER_LINE) start

@@ -1,76 +1,90 @@
 -- What is demanded, of the lines that are written: it holds of the library's outcomes, and each line shows one.
-use Rattle.std.specs.Prelude.{ℕ, ◌≡◌, List, length}
-use Rattle.std.proofs.Common.{sym, ap, ◌∙◌, subst, arith}
-use Rattle.kinds.specs.declared.Answer.{Answer}
+use Rattle.std.specs.Prelude.{ℕ, ◌≡◌, ◌↔◌, List, Some}
+use Rattle.std.proofs.Common.{refl, sym, ap, ◌∙◌, subst, arith}
 use Rattle.kinds.specs.Kinds.{individual}
-use Rattle.meaning.specs.Lent.{Call}
-use Rattle.meaning.specs.Layout.{zeros}
+use Rattle.kinds.specs.declared.Individual.{Individual}
+use Rattle.meaning.specs.Lent.{Call, collection_of}
 use Rattle.meaning.specs.Outcome.{Outcome}
-use Rattle.meaning.specs.Demands.{allowed}
+use Rattle.meaning.specs.Demands.{Spelled}
 use Rattle.meaning.proofs.Demands.{most-enough, says-what-the-model-says, grows, returns}
 use Rattle.meaning.proofs.OutcomeLaws.{outcome-unique}
 use Rattle.tables.specs.declared.ask.Ask.TheVariants.{Pair}
-use Rattle.tables.specs.Asks.{read_ask, first_of, second_of}
+use Rattle.expression.specs.Tree.{Tree}
+use Rattle.expression.specs.Grammar.{IsExpression}
+use Rattle.expression.specs.Listed.{Listed, AsksBy}
+use Rattle.expression.specs.Answer.{IsAutomatonOf}
+use Rattle.expression.proofs.Clauses.{it-asks}
 use Rattle.frames.specs.declared.Frame.{Frame}
-use Rattle.reading.specs.Tables.{asks, entries, rounds_allowed}
+use Rattle.reading.specs.Tables.{expression_given}
 use Rattle.reading.specs.File.{asked}
-use Rattle.reading.proofs.TableLaws.{table-length}
-use Rattle.reading.proofs.Accepted.{whole-accepted}
+use Rattle.reading.specs.Reading as read
+use Rattle.reading.proofs.Accepted.{whole-accepted, reading-taken}
+use Rattle.reading.proofs.Questions.{row-taken}
 use Rattle.file.specs.Text.{answer_line}
-use Rattle.file.specs.Demands.{LinesSayAsModel, LinesGrow, LinesReturn, RoundsSuffice, AllowsMore}
+use Rattle.file.specs.Writes.{IsAsking}
+use Rattle.file.specs.Demands.{LinesSayAsModel, LinesSayOfExpression, SpellsWordOf, LinesGrow, LinesReturn, RoundsSuffice}
 use Rattle.file.proofs.Told.{line-answers, number-of, first-of, second-of}
 
 -- THEOREM: with enough rounds each line is as the canonical model says
 pub lines-say-as-model : LinesSayAsModel
-lines-say-as-model input text w fs s enough k h =
-    let a = line-answers w fs s k h in
-    let m = says-what-the-model-says (asked fs k) (whole-accepted input fs s k h) enough a.outcome.2 in
+lines-say-as-model input text w fs q s k h enough =
+    let a = line-answers w fs q s k h in
+    let m = says-what-the-model-says (asked fs q k) (whole-accepted input fs s.sound q s.question k h) enough a.outcome.2 in
     let n = number-of a in
     record { contradiction = rw n m.contradiction; yes = rw n m.yes; no = rw n m.no }
 
+-- a question typed as an expression asks for the expression's words
+module _ (input : List ℕ) (fs : List Frame) (q : Listed) (s : IsAsking input fs q) (row : List ℕ) (given : expression_given fs ≡ Some row) where
+  automaton-is : IsAutomatonOf row q
+  automaton-is = let x = s.question.expressed in rw given at x
+
+  asks-by : (k : ℕ) → AsksBy (collection_of (asked fs q k)) q
+  asks-by k =
+      let r = row-taken fs (reading-taken s.sound read.none) row given in
+      record { start = r.shaped.3; steps = refl; finals = refl }
+
+  spells-it : (e : Tree) (m : ℕ) → IsExpression row e m → (k : ℕ) → Spelled (asked fs q k) ↔ SpellsWordOf e (asked fs q k)
+  spells-it e m x k = it-asks q automaton-is e m x (collection_of (asked fs q k)) (asks-by k) (asked fs q k).first (asked fs q k).second
+
+-- THEOREM: and yes exactly when a path in it spells a word of the expression that is typed
+pub lines-say-of-expression : LinesSayOfExpression
+lines-say-of-expression input text w fs q s row e m given x k h enough =
+    let a = lines-say-as-model input text w fs q s k h enough in
+    let o = spells-it input fs q s row given e m x k in
+    record {
+      contradiction = a.contradiction;
+      yes = λ sane. let y = a.yes sane in (λ n. o.0 (y.0 n), λ p. y.1 (o.1 p));
+      no = λ sane. let y = a.no sane in (λ n p. y.0 n (o.1 p), λ n. y.1 (λ p. n (o.0 p)));
+    }
+
 -- THEOREM: growth, of each pair that two inputs ask
 pub lines-grow : LinesGrow
-lines-grow input other text out w v fs gs s t g j k h i p =
-    let a = line-answers w fs s j h in
-    let b = line-answers v gs t k i in
-    let sound = whole-accepted input fs s j h in
-    let sound' = whole-accepted other gs t k i in
-    let first : (asked fs j).first ≡ (asked gs k).first = ap individual (sym (first-of a sound) ∙ p.first ∙ first-of b sound') in
-    let second : (asked fs j).second ≡ (asked gs k).second = ap individual (sym (second-of a sound) ∙ p.second ∙ second-of b sound') in
-    let r = grows (asked fs j) (asked gs k) g.larger first second sound sound' g.enough g.enough' a.outcome.2 b.outcome.2 in
+lines-grow input other text out w v fs gs q r s t j k h i g p =
+    let a = line-answers w fs q s j h in
+    let b = line-answers v gs r t k i in
+    let sound = whole-accepted input fs s.sound q s.question j h in
+    let sound' = whole-accepted other gs t.sound r t.question k i in
+    let first : (asked fs q j).first ≡ (asked gs r k).first = ap individual (sym (first-of a sound) ∙ p.first ∙ first-of b sound') in
+    let second : (asked fs q j).second ≡ (asked gs r k).second = ap individual (sym (second-of a sound) ∙ p.second ∙ second-of b sound') in
+    let z = grows (asked fs q j) (asked gs r k) g.larger first second sound sound' g.enough g.enough' a.outcome.2 b.outcome.2 in
     let n = number-of a in
     let m = number-of b in
-    record { yes-kept = rw (n, m) r.yes-kept; contradiction-kept = rw (n, m) r.contradiction-kept; no-before = rw (n, m) r.no-before }
-
-module _ (fs gs : List Frame) (m : AllowsMore fs gs) where
-  asks-many : entries asks fs ≡ entries asks gs
-  asks-many = omega (arith, table-length asks fs, table-length asks gs, ap (λ (l : List ℕ). length l) m.asks-same)
-
-  -- the call of ask k, but for its allowance
-  asked-same : (k : ℕ) → allowed (asked fs k) (rounds_allowed gs) ≡ asked gs k
-  asked-same k = λ i. record {
-    counts = m.counts i;
-    tables = m.tables i;
-    first = first_of (read_ask (m.asks-same i) k);
-    second = second_of (read_ask (m.asks-same i) k);
-    allowance = rounds_allowed gs;
-    area = zeros;
-    spare = zeros;
-  }
-
-  line-same : (k : ℕ) (r : Answer) → answer_line (Pair (asked fs k).first (asked fs k).second) r ≡ answer_line (Pair (asked gs k).first (asked gs k).second) r
-  line-same k r = ap (λ (l : List ℕ). answer_line (Pair (first_of (read_ask l k)) (second_of (read_ask l k))) r) m.asks-same
+    record { yes-kept = rw (n, m) z.yes-kept; contradiction-kept = rw (n, m) z.contradiction-kept; no-before = rw (n, m) z.no-before }
 
 -- THEOREM: an answer given at one allowance returns at every larger one, in the same line
 pub lines-return : LinesReturn
-lines-return input other text out w v fs gs s t m k h n =
-    let a = line-answers w fs s k h in
-    let b = line-answers v gs t k (omega (arith, asks-many fs gs m)) in
-    let o = returns (asked fs k) (rounds_allowed gs) m.more a.outcome.2 (omega (arith, n, number-of a)) in
-    let o' = subst (λ (c : Call). Outcome c a.answer (a.outcome.0) (a.outcome.1)) (asked-same fs gs m k) o in
-    let u = (outcome-unique (asked gs k) b.outcome.2 o').0 in
-    b.written ∙ ap (answer_line (Pair (asked gs k).first (asked gs k).second)) u ∙ sym (line-same fs gs m k a.answer) ∙ sym a.written
+lines-return input other text out w v fs gs q r s t j k h i m n =
+    let a = line-answers w fs q s j h in
+    let b = line-answers v gs r t k i in
+    let o = returns (asked fs q j) (asked gs r k).allowance m.more a.outcome.2 (omega (arith, n, number-of a)) in
+    let o' = subst (λ (c : Call). Outcome c a.answer (a.outcome.0) (a.outcome.1)) m.same o in
+    let u = (outcome-unique (asked gs r k) b.outcome.2 o').0 in
+    let first : (asked gs r k).first ≡ (asked fs q j).first = ap (λ (c : Call). c.first) (sym m.same) in
+    let second : (asked gs r k).second ≡ (asked fs q j).second = ap (λ (c : Call). c.second) (sym m.same) in
+    b.written ∙ ap (answer_line (Pair (asked gs r k).first (asked gs r k).second)) u
+    ∙ ap (λ (x : Individual). answer_line (Pair x (asked gs r k).second) a.answer) first ∙ ap (λ (x : Individual). answer_line (Pair (asked fs q j).first x) a.answer) second
+    ∙ sym a.written
 
 -- THEOREM: concepts × states × (states − 1) rounds always suffice
 pub rounds-enough : RoundsSuffice
-rounds-enough input fs s some h = most-enough (asked fs 0) (whole-accepted input fs s 0 some) h
+rounds-enough input fs q s k some h = most-enough (asked fs q k) (whole-accepted input fs s.sound q s.question k some) h

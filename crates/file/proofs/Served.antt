@@ -7,7 +7,7 @@ use Rattle.reading.specs.declared.Fault.{Fault}
 use Rattle.reading.specs.Reading.{Verdict, faulty, sound, frames_of, Reading}
 use Rattle.reading.specs.File.{file_of, asked, held_call}
 use Rattle.reading.specs.Reads.{ReadsFile, told_of}
-use Rattle.file.specs.Writes.{Answered, Writes, fault, answers}
+use Rattle.file.specs.Writes.{IsAsking, Answered, Writes, fault, answers}
 use Rattle.file.specs.Serves.{Serves}
 use Rattle.file.specs.Replying.{ask_count, Tells}
 use Rattle.file.proofs.Asks.{ask_entries}
@@ -16,8 +16,10 @@ use Rattle.file.proofs.WritesLaws.{writes-once}
 told : (input : List ℕ) (file : File) (P : List ℕ → Type 0) (v : Verdict) → Reading [] (lines input) v → file ≡ file_of (frames_of v)
     → Tells file (told_of v) P → (text : List ℕ) × Writes input text × P text
 told input file P (sound fs) r e t =
-    let own : Answered (asked fs) (ask_count (file_of fs)) t.text = subst (λ (f : File). Answered (held_call f) (ask_count f) t.text) e t.answered in
-    (t.text, answers fs t.text r (subst (λ (n : ℕ). Answered (asked fs) n t.text) (ask_entries fs) own), t.so)
+    let q = t.question in
+    let own : Answered (asked fs q) (ask_count (file_of fs)) t.text = subst (λ (f : File). Answered (held_call f q) (ask_count f) t.text) e t.answered in
+    let asking : IsAsking input fs q = record { sound = r; question = rw e at t.is } in
+    (t.text, answers fs q t.text asking (subst (λ (n : ℕ). Answered (asked fs q) n t.text) (ask_entries fs) own), t.so)
 told input file P (faulty before n) r e q = (_, fault before n r, q)
 
 module _ (file : File) (found : Result (Unit {0}) Fault) where

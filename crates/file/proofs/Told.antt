@@ -12,13 +12,16 @@ use Rattle.frames.specs.Digits.{digit_of, byte_of}
 use Rattle.frames.specs.declared.Frame.{Frame}
 use Rattle.reading.specs.declared.Refusal.{Refusal}
 use Rattle.reading.specs.Refusal.{refusal_number}
-use Rattle.reading.specs.Tables.{asks, entries}
-use Rattle.reading.specs.File.{asked}
+use Rattle.tables.specs.Asks.{read_ask, first_of, second_of}
+use Rattle.expression.specs.Listed.{Listed}
+use Rattle.reading.specs.Tables.{asks, entries, table}
+use Rattle.reading.specs.File.{file_of, IsQuestion, asked}
 use Rattle.reading.proofs.Once.{reading-once}
+use Rattle.reading.proofs.Questions.{question-once}
 use Rattle.reading.proofs.Accepted.{whole-accepted}
 use Rattle.reading.proofs.Listed.{refusals-listed}
 use Rattle.file.specs.Text.{character, text, fault_line, answer_line}
-use Rattle.file.specs.Writes.{Answers, Answered, IsSound, IsFaulty, Writes, fault, answers}
+use Rattle.file.specs.Writes.{Answers, Answered, IsSound, IsAsking, IsFaulty, Writes, fault, answers}
 use Rattle.file.specs.Told.{line_at, number_on, IsAnswerLine, IsFaultLine}
 use Rattle.file.specs.Laws.{AnswersEachAsk}
 use Rattle.file.proofs.Turns.{answer-length, answered-length}
@@ -117,23 +120,36 @@ module _ (call : ℕ → Call) where
       subst (λ (l : List ℕ). Answers (call k) (line_at l k)) (sym e) (answer-next n x y (answered-length call n x a) b (answer-at n x a) k (omega arith))
 
 module _ {input text : List ℕ} (w : Writes input text) where
-  answered : (fs : List Frame) → IsSound input fs → Answered (asked fs) (entries asks fs) text
+  -- the question of a sound input, and the lines for it
+  pub record IsAnswered (fs : List Frame) (out : List ℕ) : Type 0 where
+    pub question : Listed
+    pub is : IsQuestion (file_of fs) question
+    pub lines-are : Answered (asked fs question) (entries asks fs) out
+
+  answered : (fs : List Frame) → IsSound input fs → IsAnswered fs text
   answered fs s = by w
     where
-      by : {out : List ℕ} → Writes input out → Answered (asked fs) (entries asks fs) out
+      by : {out : List ℕ} → Writes input out → IsAnswered fs out
       by (fault before r h) = let e = reading-once h s in absurd cc
-      by (answers gs out h a) =
-          let e = reading-once h s in
+      by (answers gs q out h a) =
+          let e = reading-once h.sound s in
           let d : gs ≡ fs = cc in
-          subst (λ (f : List Frame). Answered (asked f) (entries asks f) out) d a
+          subst (λ (f : List Frame). IsAnswered f out) d (record { question = q; is = h.question; lines-are = a })
+
+  -- line k of a sound input's text is the library's outcome for ask k
+  pub line-answers : (fs : List Frame) (q : Listed) → IsAsking input fs q → (k : ℕ) → k < entries asks fs → Answers (asked fs q k) (line_at text k)
+  line-answers fs q s =
+      let a = answered fs s.sound in
+      let e = question-once (file_of fs) a.question q a.is s.question in
+      answer-at (asked fs q) (entries asks fs) text (subst (λ (r : Listed). Answered (asked fs r) (entries asks fs) text) e a.lines-are)
 
   module _ (fs : List Frame) (s : IsSound input fs) where
-    -- line k of a sound input's text is the library's outcome for ask k
-    pub line-answers : (k : ℕ) → k < entries asks fs → Answers (asked fs k) (line_at text k)
-    line-answers = answer-at (asked fs) (entries asks fs) text (answered fs s)
+    -- the question that it asks
+    asking : IsAsking input fs (answered fs s).question
+    asking = record { sound = s; question = (answered fs s).is }
 
     pub text-long : length text ≡ 13 * entries asks fs
-    text-long = answered-length (asked fs) (entries asks fs) text (answered fs s)
+    text-long = let a = answered fs s in answered-length (asked fs a.question) (entries asks fs) text a.lines-are
 
   fault-text : (before : List Frame) (r : Refusal) → IsFaulty input before r → text ≡ fault_line (length before + 1) (refusal_number r)
   fault-text before r s = by w
@@ -144,9 +160,9 @@ module _ {input text : List ℕ} (w : Writes input text) where
           let d : bs ≡ before = cc in
           let f : q ≡ r = cc in
           rw (d, f) refl
-      by (answers gs out h a) = let e = reading-once h s in absurd cc
+      by (answers gs q out h a) = let e = reading-once h.sound s in absurd cc
 
-  -- THEOREM: a faulty input writes the line of its first faulty line's number, and one of 4 to 11
+  -- THEOREM: a faulty input writes the line of its first faulty line's number, and one of 4 to 14
   pub fault-told : (before : List Frame) (r : Refusal) → IsFaulty input before r → IsFaultLine (length before + 1) text
   fault-told before r s =
       subst (IsFaultLine (length before + 1)) (sym (fault-text before r s)) (fault-is (length before + 1) r (omega (arith, fault-line input before r s)))
@@ -163,7 +179,7 @@ module _ {call : Call} {line : List ℕ} (w : Answers call line) where
     pub second-of : byte_of line 2 ≡ call.second.0
     second-of = ap (λ (l : List ℕ). byte_of l 2) w.written ∙ second-is call.first call.second w.answer (omega (arith, s.counts.individuals, s.ask.1))
 
-    answer-line : IsAnswerLine call line
+    answer-line : IsAnswerLine (Pair call.first call.second) line
     answer-line = record {
       kind = ap (λ (l : List ℕ). byte_of l 0) w.written ∙ kind-is call.first call.second w.answer;
       first = first-of;
@@ -171,12 +187,18 @@ module _ {call : Call} {line : List ℕ} (w : Answers call line) where
       listed = omega (arith, number-of, sound-listed call s w.outcome.2);
     }
 
+ask-line : (fs : List Frame) (line : List ℕ) (k : ℕ) → IsAnswerLine (Pair (first_of (read_ask (table asks fs) k)) (second_of (read_ask (table asks fs) k))) line
+    → IsAnswerLine (read_ask (table asks fs) k) line
+ask-line fs line k h = record { kind = h.kind; first = h.first; second = h.second; listed = h.listed }
+
 module _ {input text : List ℕ} (w : Writes input text) (fs : List Frame) (s : IsSound input fs) where
   -- THEOREM: a sound input writes a line for each ask, with its pair and an answer from 0 to 3
   pub asks-answered : AnswersEachAsk fs text
   asks-answered = record {
     long = text-long w fs s;
-    each = λ k h. answer-line (line-answers w fs s k h) (whole-accepted input fs s k h);
+    each = λ k h.
+        let a = asking w fs s in
+        ask-line fs _ k (answer-line (line-answers w fs _ a k h) (whole-accepted input fs s _ a.question k h));
   }
 
   pub listed : (k : ℕ) → k < entries asks fs → number_on (line_at text k) ≤ 3

@@ -6,15 +6,17 @@ use Rattle.std.specs.Io.KnownBytes.{Appends}
 use Rattle.meaning.specs.Lent.{Call}
 use Rattle.tables.specs.declared.ask.Ask.TheVariants.{Pair}
 use Rattle.meaning.proofs.OutcomeLaws.{outcome-unique}
+use Rattle.expression.specs.Listed.{Listed}
 use Rattle.frames.specs.declared.Frame.{Frame}
 use Rattle.streams.specs.Lines.{lines}
 use Rattle.reading.specs.declared.Refusal.{Refusal}
 use Rattle.reading.specs.Refusal.{refusal_number}
 use Rattle.reading.specs.Tables.{asks, entries}
-use Rattle.reading.specs.File.{asked}
+use Rattle.reading.specs.File.{file_of, IsQuestion, asked}
 use Rattle.reading.specs.Reading.{Verdict, faulty, sound, Reading}
 use Rattle.reading.specs.Reading as read
 use Rattle.reading.proofs.Once.{reading-once}
+use Rattle.reading.proofs.Questions.{question-once}
 use Rattle.reading.proofs.Bounds.{few, most_lines, within-lines}
 use Rattle.reading.proofs.Accepted.{reading-taken}
 use Rattle.reading.proofs.Prefix.{most_bytes, reading-start, reading-whole}
@@ -38,11 +40,13 @@ answered-once call (suc k) x y (p, q, a, b, e) (u, v, c, d, i) =
 -- what the text of a verdict is
 abbrev TextIs : Verdict → List ℕ → Type 0
 TextIs (faulty before r) x = x ≡ fault_line (length before + 1) (refusal_number r)
-TextIs (sound fs) x = Answered (asked fs) (entries asks fs) x
+TextIs (sound fs) x = (q : Listed) × IsQuestion (file_of fs) q × Answered (asked fs q) (entries asks fs) x
 
 text-once : (v : Verdict) (x y : List ℕ) → TextIs v x → TextIs v y → x ≡ y
 text-once (faulty before r) x y a b = a ∙ sym b
-text-once (sound fs) x y a b = answered-once (asked fs) (entries asks fs) x y a b
+text-once (sound fs) x y a b =
+    let e = question-once (file_of fs) b.0 a.0 b.1 a.1 in
+    answered-once (asked fs a.0) (entries asks fs) x y a.2 (subst (λ (q : Listed). Answered (asked fs q) (entries asks fs) y) e b.2)
 
 record Found (input : List ℕ) (x : List ℕ) : Type 0 where
   verdict : Verdict
@@ -51,7 +55,7 @@ record Found (input : List ℕ) (x : List ℕ) : Type 0 where
 
 found : {input x : List ℕ} → Writes input x → Found input x
 found (fault before r h) = record { verdict = faulty before r; reading = h; text-is = refl }
-found (answers fs out h a) = record { verdict = sound fs; reading = h; text-is = a }
+found (answers fs q out h a) = record { verdict = sound fs; reading = h.sound; text-is = (q, h.question, a) }
 
 -- THEOREM: an input writes one text
 pub writes-once : {input x y : List ℕ} → Writes input x → Writes input y → x ≡ y
@@ -78,17 +82,17 @@ serves-once input old x y a b = a.so ∙ ap (λ (text : List ℕ). old ++ text) 
 module _ (input : List ℕ) (n : ℕ) (h : most_bytes ≤ n) where
   pub writes-whole : {x : List ℕ} → Writes (take n input) x → Writes input x
   writes-whole (fault f r k) = fault f r (reading-whole input n h (faulty f r) k)
-  writes-whole (answers f x k a) = answers f x (reading-whole input n h (sound f) k) a
+  writes-whole (answers f q x k a) = answers f q x (record { sound = reading-whole input n h (sound f) k.sound; question = k.question }) a
 
   pub writes_start : {x : List ℕ} → Writes input x → Writes (take n input) x
   writes_start (fault f r k) = fault f r (reading-start input n h (faulty f r) k)
-  writes_start (answers f x k a) = answers f x (reading-start input n h (sound f) k) a
+  writes_start (answers f q x k a) = answers f q x (record { sound = reading-start input n h (sound f) k.sound; question = k.question }) a
 
 -- THEOREM: no text is longer than its room
 pub writes-length : {input out : List ℕ} → Writes input out → length out ≤ MOST_TEXT
 unfolding fault_line text
 writes-length (fault before n k) = omega arith
-writes-length {input} (answers fs out k a) = omega (arith, answered-length (asked fs) (entries asks fs) out a, few asks fs (reading-taken k read.none))
+writes-length {input} (answers fs q out k a) = omega (arith, answered-length (asked fs q) (entries asks fs) out a, few asks fs (reading-taken k.sound read.none))
 
 -- THEOREM: the first faulty line of any input has a number of at most 7,187
 pub fault-line : (input : List ℕ) (before : List Frame) (r : Refusal) → Reading [] (lines input) (faulty before r) → length before + 1 ≤ most_lines + 1

@@ -1,38 +1,46 @@
 -- What is demanded (docs/RULES.md, section 9), of the lines that are written.
-use Rattle.std.specs.Prelude.{ℕ, ◌<◌, ◌≤◌, ◌≡◌, ◌↔◌, ◌⊎◌, List}
-use Rattle.meaning.specs.Collection.{Collection}
-use Rattle.meaning.specs.Lent.{Call, collection}
-use Rattle.meaning.specs.Lite.{lite}
+use Rattle.std.specs.Prelude.{ℕ, ◌<◌, ◌≤◌, ◌≡◌, ◌↔◌, ◌⊎◌, List, Some}
+use Rattle.meaning.specs.Lent.{Call, collection_of}
 use Rattle.meaning.specs.Outcome.{Breaks}
-use Rattle.meaning.specs.Sheet.{Needed}
-use Rattle.meaning.specs.Demands.{most_rounds, Larger, Spelled}
+use Rattle.meaning.specs.Demands.{most_rounds, Larger, Enough, Spelled, allowed}
+use Rattle.expression.specs.Tree.{Tree}
+use Rattle.expression.specs.Grammar.{IsExpression}
+use Rattle.expression.specs.Listed.{Listed}
+use Rattle.expression.specs.Answer.{SpellsExpression}
 use Rattle.frames.specs.Digits.{byte_of}
 use Rattle.frames.specs.declared.Frame.{Frame}
-use Rattle.reading.specs.Tables.{asks, entries, table, declared_by, rounds_allowed}
-use Rattle.reading.specs.File.{asked, tables_of}
-use Rattle.file.specs.Writes.{IsSound, Writes}
+use Rattle.reading.specs.Tables.{asks, entries, expression_given}
+use Rattle.reading.specs.File.{asked}
+use Rattle.file.specs.Writes.{IsAsking, Writes}
 use Rattle.file.specs.Told.{line_at, number_on}
 
--- the collection that some frames hold
-abbrev pub collection_by : List Frame → Collection
-collection_by fs = collection (declared_by fs) (tables_of fs)
-
--- the rounds that they allow are at least the rounds needed
-abbrev pub HasEnough : List Frame → Type 0
-HasEnough fs = (n : ℕ) × Needed (lite (collection_by fs)) n × (n ≤ rounds_allowed fs)
-
 -- a line is contradiction exactly when the canonical model breaks an exclusion, and else yes
--- exactly when a path in it from the first to the second spells a word of the question
-pub record IsAsModelSays (call : Call) (line : List ℕ) : Type 0 where
+-- exactly when such a path is there
+pub record IsAsModelSays (call : Call) (Path : Type 0) (line : List ℕ) : Type 0 where
   pub contradiction : (number_on line ≡ 2) ↔ Breaks call
-  pub yes : (¬ Breaks call) → (number_on line ≡ 1) ↔ Spelled call
-  pub no : (¬ Breaks call) → (number_on line ≡ 0) ↔ (¬ Spelled call)
+  pub yes : (¬ Breaks call) → (number_on line ≡ 1) ↔ Path
+  pub no : (¬ Breaks call) → (number_on line ≡ 0) ↔ (¬ Path)
 
--- with enough rounds each line is as the canonical model says
+-- with enough rounds each line is as the canonical model says: yes exactly when a path in it from
+-- the first to the second spells a word of the question
 abbrev pub LinesSayAsModel : Type 0
 LinesSayAsModel = (input text : List ℕ) → Writes input text
-    → (fs : List Frame) → IsSound input fs → HasEnough fs
-    → (k : ℕ) → k < entries asks fs → IsAsModelSays (asked fs k) (line_at text k)
+    → (fs : List Frame) (q : Listed) → IsAsking input fs q
+    → (k : ℕ) → k < entries asks fs → Enough (asked fs q k)
+    → IsAsModelSays (asked fs q k) (Spelled (asked fs q k)) (line_at text k)
+
+-- a path in the canonical model from the first to the second spells a word of the expression
+abbrev pub SpellsWordOf : Tree → Call → Type 0
+SpellsWordOf e call = SpellsExpression (collection_of call) e call.first call.second
+
+-- and where the question is typed as an expression: yes exactly when such a path spells a word of
+-- that expression
+abbrev pub LinesSayOfExpression : Type 0
+LinesSayOfExpression = (input text : List ℕ) → Writes input text
+    → (fs : List Frame) (q : Listed) → IsAsking input fs q
+    → (row : List ℕ) (e : Tree) (m : ℕ) → expression_given fs ≡ Some row → IsExpression row e m
+    → (k : ℕ) → k < entries asks fs → Enough (asked fs q k)
+    → IsAsModelSays (asked fs q k) (SpellsWordOf e (asked fs q k)) (line_at text k)
 
 -- two lines are of one pair: bytes 1 and 2
 pub record SamePair (line other : List ℕ) : Type 0 where
@@ -45,35 +53,36 @@ pub record IsGrownLine (line other : List ℕ) : Type 0 where
   pub contradiction-kept : number_on line ≡ 2 → number_on other ≡ 2
   pub no-before : number_on other ≡ 0 → number_on line ≡ 0
 
--- a second file holds at least the records of the first, with a shared start state, and each allows
--- enough rounds
-pub record GrowsInto (fs gs : List Frame) : Type 0 where
-  pub larger : Larger (collection_by fs) (collection_by gs)
-  pub enough : HasEnough fs
-  pub enough' : HasEnough gs
+-- a second file's call holds at least the records of the first's, with a shared start state, and
+-- each allows enough rounds
+pub record GrowsInto (call other : Call) : Type 0 where
+  pub larger : Larger (collection_of call) (collection_of other)
+  pub enough : Enough call
+  pub enough' : Enough other
 
 -- growth, of each pair that both ask
 abbrev pub LinesGrow : Type 0
 LinesGrow = (input other text out : List ℕ) → Writes input text → Writes other out
-    → (fs gs : List Frame) → IsSound input fs → IsSound other gs → GrowsInto fs gs
+    → (fs gs : List Frame) (q r : Listed) → IsAsking input fs q → IsAsking other gs r
     → (j k : ℕ) → j < entries asks fs → k < entries asks gs
+    → GrowsInto (asked fs q j) (asked gs r k)
     → SamePair (line_at text j) (line_at out k) → IsGrownLine (line_at text j) (line_at out k)
 
--- a second file holds and asks the same, and allows no fewer rounds
-pub record AllowsMore (fs gs : List Frame) : Type 0 where
-  pub counts : declared_by fs ≡ declared_by gs
-  pub tables : tables_of fs ≡ tables_of gs
-  pub asks-same : table asks fs ≡ table asks gs
-  pub more : rounds_allowed fs ≤ rounds_allowed gs
+-- a second file's call is the same, but allows no fewer rounds
+pub record AllowsMore (call other : Call) : Type 0 where
+  pub same : allowed call other.allowance ≡ other
+  pub more : call.allowance ≤ other.allowance
 
 -- an answer given at one allowance, 0, 1 or 2, returns in the same line, with its count
 abbrev pub LinesReturn : Type 0
 LinesReturn = (input other text out : List ℕ) → Writes input text → Writes other out
-    → (fs gs : List Frame) → IsSound input fs → IsSound other gs → AllowsMore fs gs
-    → (k : ℕ) → k < entries asks fs → number_on (line_at text k) ≤ 2
-    → line_at out k ≡ line_at text k
+    → (fs gs : List Frame) (q r : Listed) → IsAsking input fs q → IsAsking other gs r
+    → (j k : ℕ) → j < entries asks fs → k < entries asks gs
+    → AllowsMore (asked fs q j) (asked gs r k) → number_on (line_at text j) ≤ 2
+    → line_at out k ≡ line_at text j
 
 -- concepts × states × (states − 1) rounds always suffice
 abbrev pub RoundsSuffice : Type 0
-RoundsSuffice = (input : List ℕ) (fs : List Frame) → IsSound input fs → 0 < entries asks fs
-    → most_rounds (declared_by fs) ≤ rounds_allowed fs → HasEnough fs
+RoundsSuffice = (input : List ℕ) (fs : List Frame) (q : Listed) → IsAsking input fs q
+    → (k : ℕ) → k < entries asks fs
+    → most_rounds (asked fs q k).counts ≤ (asked fs q k).allowance → Enough (asked fs q k)

@@ -3,8 +3,8 @@ use Rattle.std.specs.Prelude.{ℕ, ◌+◌, ◌*◌, ◌<◌, ◌≤◌, ◌≡�
 use Rattle.std.specs.Io.KnownBytes.{Appends}
 use Rattle.frames.specs.declared.Frame.{Frame}
 use Rattle.reading.specs.declared.Refusal.{Refusal}
-use Rattle.reading.specs.Tables.{asks, entries}
-use Rattle.reading.specs.File.{asked}
+use Rattle.tables.specs.Asks.{read_ask}
+use Rattle.reading.specs.Tables.{asks, entries, table}
 use Rattle.file.specs.declared.TheConstants.{MOST_TEXT}
 use Rattle.file.specs.Writes.{IsSound, IsFaulty, Writes}
 use Rattle.file.specs.Serves.{Serves}
@@ -26,7 +26,8 @@ StartWrites = (input : List ℕ) (n : ℕ) → 467155 ≤ n → (text : List ℕ
 -- a text of answers has 13 characters for each ask, and line k is an answer to ask k
 pub record AnswersEachAsk (fs : List Frame) (text : List ℕ) : Type 0 where
   pub long : length text ≡ 13 * entries asks fs
-  pub each : (k : ℕ) → k < entries asks fs → IsAnswerLine (asked fs k) (line_at text k)
+  pub each : (k : ℕ) → k < entries asks fs
+      → IsAnswerLine (read_ask (table asks fs) k) (line_at text k)
 
 -- an input that is read whole writes such a text
 abbrev pub AsksAnswered : Type 0

@@ -3,10 +3,11 @@ use Rattle.std.specs.Prelude.{ℕ, ◌<◌, ◌/◌, List, Result, Ok, Err, IfSo
 use Rattle.kinds.specs.declared.Answer.{Answer}
 use Rattle.meaning.specs.Outcome.{Outcome}
 use Rattle.tables.specs.Asks.{ask_width}
+use Rattle.expression.specs.Listed.{Listed}
 use Rattle.reading.specs.declared.File.{File}
 use Rattle.reading.specs.declared.Fault.{Fault}
 use Rattle.reading.specs.Refusal.{refusal_number}
-use Rattle.reading.specs.File.{held_call}
+use Rattle.reading.specs.File.{IsQuestion, held_call}
 use Rattle.file.specs.Text.{fault_line}
 use Rattle.file.specs.Writes.{Answered}
 
@@ -15,17 +16,21 @@ module _ (file : File) where
   ask_count = length file.asks / ask_width
 
   -- a library's outcome
-  abbrev pub IsAnswer : ℕ → Answer → Type 0
-  IsAnswer k r = (area spare : List ℕ) × Outcome (held_call file k) r area spare
+  abbrev pub IsAnswer : Listed → ℕ → Answer → Type 0
+  IsAnswer q k r = (area spare : List ℕ) × Outcome (held_call file q k) r area spare
 
-  -- entry k is the answer to ask k
-  abbrev pub AnswersEach : List Answer → Type 0
-  AnswersEach answers = (k : ℕ) → k < ask_count → IfSome (slice_get answers k) (IsAnswer k)
+  -- entry k is the answer to ask k, of the file's question
+  pub record AnswersEach (answers : List Answer) : Type 0 where
+    pub question : Listed
+    pub is : IsQuestion file question
+    pub each : (k : ℕ) → k < ask_count → IfSome (slice_get answers k) (IsAnswer question k)
 
   -- P of the lines for all asks
   pub record AnswersAll (P : List ℕ → Type 0) : Type 0 where
+    pub question : Listed
+    pub is : IsQuestion file question
     pub text : List ℕ
-    pub answered : Answered (held_call file) ask_count text
+    pub answered : Answered (held_call file question) ask_count text
     pub so : P text
 
 -- P of the text for what reading found

@@ -1,7 +1,8 @@
 -- What stands in a text that is written (docs/RULES.md, section 8), read back line by line and byte
 -- by byte.
 use Rattle.std.specs.Prelude.{ℕ, ◌+◌, ◌*◌, ◌^◌, ◌≤◌, ◌≡◌, List, length, take, drop}
-use Rattle.meaning.specs.Lent.{Call}
+use Rattle.tables.specs.declared.ask.Ask.{Ask}
+use Rattle.tables.specs.Asks.{first_of, second_of}
 use Rattle.frames.specs.Digits.{byte_of}
 use Rattle.reading.specs.Laws.{IsListed}
 
@@ -14,13 +15,13 @@ abbrev pub number_on : List ℕ → ℕ
 number_on line = byte_of line 3
 
 -- a line of an answer: 8B, the asked pair, and one of 0 to 3
-pub record IsAnswerLine (call : Call) (line : List ℕ) : Type 0 where
+pub record IsAnswerLine (ask : Ask) (line : List ℕ) : Type 0 where
   pub kind : byte_of line 0 ≡ 0x8B
-  pub first : byte_of line 1 ≡ call.first.0
-  pub second : byte_of line 2 ≡ call.second.0
+  pub first : byte_of line 1 ≡ (first_of ask).0
+  pub second : byte_of line 2 ≡ (second_of ask).0
   pub listed : number_on line ≤ 3
 
--- a line of a fault: 8F, the number of a line in two bytes, and one of 4 to 11
+-- a line of a fault: 8F, the number of a line in two bytes, and one of 4 to 14
 pub record IsFaultLine (number : ℕ) (line : List ℕ) : Type 0 where
   pub long : length line ≡ 9
   pub kind : byte_of line 0 ≡ 0x8F

@@ -5,12 +5,13 @@ use Rattle.kinds.specs.declared.Answer.{Answer}
 use Rattle.meaning.specs.Lent.{Call}
 use Rattle.meaning.specs.Outcome.{Outcome}
 use Rattle.tables.specs.declared.ask.Ask.TheVariants.{Pair}
+use Rattle.expression.specs.Listed.{Listed}
 use Rattle.frames.specs.declared.Frame.{Frame}
 use Rattle.streams.specs.Lines.{lines}
 use Rattle.reading.specs.declared.Refusal.{Refusal}
 use Rattle.reading.specs.Refusal.{refusal_number}
 use Rattle.reading.specs.Tables.{asks, entries}
-use Rattle.reading.specs.File.{asked}
+use Rattle.reading.specs.File.{IsQuestionOf, asked}
 use Rattle.reading.specs.Reading.{Reading, faulty, sound}
 use Rattle.file.specs.Text.{fault_line, answer_line}
 
@@ -30,6 +31,11 @@ Answered call (suc k) out =
 abbrev pub IsSound : List ℕ → List Frame → Type 0
 IsSound input fs = Reading [] (lines input) (sound fs)
 
+-- and it asks this question
+pub record IsAsking (input : List ℕ) (fs : List Frame) (q : Listed) : Type 0 where
+  pub sound : IsSound input fs
+  pub question : IsQuestionOf fs q
+
 -- the line after these frames is its first faulty one
 abbrev pub IsFaulty : List ℕ → List Frame → Refusal → Type 0
 IsFaulty input before r = Reading [] (lines input) (faulty before r)
@@ -38,5 +44,5 @@ IsFaulty input before r = Reading [] (lines input) (faulty before r)
 pub data Writes (input : List ℕ) : List ℕ → Type 0 where
   fault : (before : List Frame) (r : Refusal) → IsFaulty input before r
       → Writes input (fault_line (length before + 1) (refusal_number r))
-  answers : (fs : List Frame) (out : List ℕ) → IsSound input fs
-      → Answered (asked fs) (entries asks fs) out → Writes input out
+  answers : (fs : List Frame) (q : Listed) (out : List ℕ) → IsAsking input fs q
+      → Answered (asked fs q) (entries asks fs) out → Writes input out

@@ -17,16 +17,18 @@ use streams::Sink;
 use streams::output::{Output, write_all};
 use tables::collection::AREA;
 
-// The answers to a file's asks, in their order. Where there is none nothing is worked out.
+// The answers to a file's asks, in their order. Where there is none no more is worked out than the automaton of an expression.
 fn work_out(file: &File, answers: &mut [Answer; ASKS])
+    requires { IsRead file.now }
     ensures { AnswersEach file.now answers.new }
 {
     let asks = file.asks();
+    let automaton = file.automaton();
     if asks.is_empty() {
         return;
     }
     let lent = Lent {
-        collection: file.collection(),
+        collection: file.collection(&automaton),
         allowance: file.allowance(),
     };
     let mut area = [0; AREA];

@@ -10,6 +10,9 @@ const INPUT: &[u8] =
 
 const OUTPUT: &[u8] = b"8B0000010002\n8B0001000002\n";
 
+// The same question typed as an expression: signs, test Deed, signs backward.
+const EXPRESSED: &[u8] = b"010202020400\n020040\n024101\n060000\n0D004101\n0B0000\n0B0001\n";
+
 // The same with 44 on line 3, a concept of a role that is not declared.
 const FAULTY: &[u8] =
     b"010202020400\n020040\n024401\n060000\n08000001\n09010102\n08020103\n0A03\n0B0000\n0B0001\n";
@@ -109,7 +112,7 @@ impl Write for Taking {
 
 #[test]
 fn answers_in_memory(rt: HostRuntime) {
-    for (input, want) in [(INPUT, OUTPUT), (FAULTY, FAULT)] {
+    for (input, want) in [(INPUT, OUTPUT), (EXPRESSED, OUTPUT), (FAULTY, FAULT)] {
         let mut text = [b'.'; MOST_TEXT];
         let n = answer(input, &mut text);
         assert_eq!(rt; &text[..n], want);

@@ -1,7 +1,7 @@
 // Laws of what an input writes. The functions here have nothing to do: each clause is a law.
 ghost use Rattle.file.specs.Laws.{WritesOnce, TextFits, StartWrites, WrittenOnce, ServedOnce};
 ghost use Rattle.file.specs.Laws.{AsksAnswered, FaultTold, FaultsNear};
-ghost use Rattle.file.specs.Demands.{LinesSayAsModel, LinesGrow, LinesReturn, RoundsSuffice};
+ghost use Rattle.file.specs.Demands.{LinesSayAsModel, LinesSayOfExpression, LinesGrow, LinesReturn, RoundsSuffice};
 
 // One text, within its room; a start of the input decides it.
 pub fn text()
@@ -22,6 +22,7 @@ pub fn lines()
 // What is demanded of the answers.
 pub fn demands()
     ensures model { LinesSayAsModel }
+    ensures expression { LinesSayOfExpression }
     ensures grows { LinesGrow }
     ensures returns { LinesReturn }
     ensures enough { RoundsSuffice }

@@ -1,11 +1,11 @@
 -- The frame of a line (docs/RULES.md, section 8): for every line one, or the refusals 9 and 10.
-use Rattle.std.specs.Prelude.{ℕ, ◌+◌, ◌*◌, ◌^◌, ◌≡◌, List, [], ◌∷◌, Result, Ok, Err, unwrap_or, slice_get}
+use Rattle.std.specs.Prelude.{ℕ, zero, suc, ◌+◌, ◌-◌, ◌*◌, ◌^◌, ◌≡◌, ◌⊎◌, List, [], ◌∷◌, ◌++◌, Result, Ok, Err, unwrap_or, slice_get}
 use Rattle.kinds.specs.declared.Counts.{Counts}
 use Rattle.kinds.specs.Kinds.{concept_name, role_name, individual, state, signed, concept_of}
 use Rattle.laws.specs.First.{First}
 use Rattle.frames.specs.Digits.{bytes, byte_of, LineOk}
 use Rattle.frames.specs.declared.Frame.{Frame}
-use Rattle.frames.specs.declared.Frame.TheVariants.{Declared, ConceptRule, ConceptExclusion, RoleRule, RoleExclusion, ConceptFact, RoleFact, RoleStep, TestStep, Final, Ask, Allowance}
+use Rattle.frames.specs.declared.Frame.TheVariants.{Declared, ConceptRule, ConceptExclusion, RoleRule, RoleExclusion, ConceptFact, RoleFact, RoleStep, TestStep, Final, Ask, Allowance, Expression}
 use Rattle.frames.specs.declared.Misread.{Misread}
 use Rattle.frames.specs.declared.Misread.TheVariants.{BadLine, BadFrame}
 
@@ -14,7 +14,12 @@ unfoldable pub frame_length : ℕ → ℕ
 frame_length kind =
     unwrap_or (slice_get (0 ∷ 6 ∷ 3 ∷ 3 ∷ 3 ∷ 3 ∷ 3 ∷ 4 ∷ 4 ∷ 4 ∷ 2 ∷ 3 ∷ 3 ∷ []) kind) 0
 
-module _ (byte : ℕ → ℕ) where
+-- the first n bytes after the kind
+unfoldable pub marks_of : (ℕ → ℕ) → ℕ → List ℕ
+marks_of byte zero = []
+marks_of byte (suc n) = marks_of byte n ++ byte (suc n) ∷ []
+
+module _ (byte : ℕ → ℕ) (bytes : ℕ) where
   -- names, roles, individuals, states, start
   abbrev counts : Counts
   counts = record {
@@ -40,15 +45,20 @@ module _ (byte : ℕ → ℕ) where
       ∷ Ok (TestStep (state (byte 1)) (concept_name (byte 2)) (state (byte 3)))
       ∷ Ok (Final (state (byte 1)))
       ∷ Ok (Ask (individual (byte 1)) (individual (byte 2)))
-      ∷ Ok (Allowance (2 ^ 8 * byte 1 + byte 2)) ∷ []
+      ∷ Ok (Allowance (2 ^ 8 * byte 1 + byte 2))
+      ∷ Ok (Expression (marks_of byte (bytes - 1))) ∷ []
 
--- the frame of a kind by its bytes
-unfoldable pub frame_by : ℕ → (ℕ → ℕ) → Result Frame Misread
-frame_by kind byte = unwrap_or (slice_get (frames byte) kind) (Err BadFrame)
+-- the frame of a kind by its bytes, of which there are so many
+unfoldable pub frame_by : ℕ → (ℕ → ℕ) → ℕ → Result Frame Misread
+frame_by kind byte n = unwrap_or (slice_get (frames byte n) kind) (Err BadFrame)
+
+-- a line has its kind's length; an expression, 0D, may have any
+abbrev pub HasLength : List ℕ → Type 0
+HasLength l = (byte_of l 0 ≡ 0x0D) ⊎ (bytes l ≡ frame_length (byte_of l 0))
 
 -- a line: 9, then 10 (of an unknown kind, or of the wrong length for its kind), then its frame
 abbrev pub FrameOf : List ℕ → Result Frame Misread → Type 0
 FrameOf l =
     First (LineOk l) (Err BadLine)
-    (First (bytes l ≡ frame_length (byte_of l 0)) (Err BadFrame)
-    (λ r. r ≡ frame_by (byte_of l 0) (byte_of l)))
+    (First (HasLength l) (Err BadFrame)
+    (λ r. r ≡ frame_by (byte_of l 0) (byte_of l) (bytes l)))

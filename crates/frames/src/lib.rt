@@ -1,19 +1,21 @@
 // A line of the desk's input becomes a frame: one named kind with its own numbers, each of its kind from here on.
 #![tactic(auto)]
 
-ghost use Rattle.std.specs.Prelude.{ℕ, ◌+◌, ◌*◌, ◌<◌, ◌↔◌, ◌≡◌, IsTrue};
+ghost use Rattle.std.specs.Prelude.{ℕ, ◌+◌, ◌-◌, ◌*◌, ◌<◌, ◌↔◌, ◌≡◌, IsTrue};
 ghost use Rattle.kinds.specs.Kinds.{concept_name, role_name, individual, state, signed, concept_of};
-ghost use Rattle.frames.specs.Digits.{digit_of, byte_of, LineOk};
-ghost use Rattle.frames.specs.Frames.{frame_length, frame_by, FrameOf};
+ghost use Rattle.frames.specs.Digits.{digit_of, bytes, byte_of, LineOk};
+ghost use Rattle.frames.specs.Frames.{frame_length, marks_of, frame_by, HasLength, FrameOf};
 ghost use Rattle.frames.specs.Reader.{Advanced};
 
 use kinds::{Concept, ConceptName, Counts, Individual, RoleName, Rounds, SignedRole, State};
+use marks::Marks;
 use streams::LINE;
 
+pub mod marks;
 pub mod theorems;
 
 // What a line says.
-#[derive(Clone, Copy)]
+#[derive(Drop)]
 pub enum Frame {
     Declared(Counts),
     ConceptRule(Concept, Concept),
@@ -27,6 +29,7 @@ pub enum Frame {
     Final(State),
     Ask(Individual, Individual),
     Allowance(Rounds),
+    Expression(Marks),
 }
 
 // Why a line is no frame: its characters, or the frame's kind or length.
@@ -62,6 +65,9 @@ const DIGITS: [u8; 256] = [
 
 // The bytes of a frame of each kind, the kind's own byte among them; 0 where there is no such kind.
 const LENGTHS: [usize; 13] = [0, 6, 3, 3, 3, 3, 3, 4, 4, 4, 2, 3, 3];
+
+// The kind whose frame may have any length.
+const EXPRESSION: u16 = 13;
 
 fn digit(x: u8) -> u8
     ensures { result ≡ digit_of x }
@@ -195,12 +201,34 @@ fn frame_length(kind: u16) -> usize
     }
 }
 
+// Whether a line has the length of its kind.
+fn has_length(line: &[u8], kind: u16) -> bool
+    requires { kind ≡ byte_of line.now 0 }
+    ensures { IsTrue result ↔ HasLength line.now }
+{
+    kind == EXPRESSION || line.len() / 2 == frame_length(kind)
+}
+
+// The bytes of a line after its kind.
+#[tactic(auto, using(crate::proofs::Bytes::byte_small, crate::proofs::Lengths::one_byte, crate::proofs::Lengths::marks_none, crate::proofs::Lengths::marks_more, crate::proofs::Lengths::marks_long))]
+fn marks_in(line: &[u8]) -> Marks
+    requires { LineOk line.now }
+    ensures { result ≡ marks_of (byte_of line.now) (bytes line.now - 1) }
+{
+    let mut marks = Marks::new();
+    for k in 0..line.len() / 2 - 1 {
+        marks.push(byte_at(line, k + 1) as u8);
+    }
+    marks
+}
+
 // The frame of a kind, with the reader at its first field.
 #[tactic(auto, using(crate::proofs::Bytes::byte_small), unfolding(crate::specs::Frames::frame_by))]
 fn frame_of(kind: u16, reader: &mut Reader) -> Result<Frame, Misread>
     requires sound { LineOk reader.old.line.now }
     requires first { reader.old.at ≡ 1 }
-    ensures { result ≡ frame_by kind (byte_of reader.old.line.now) }
+    ensures { let line = reader.old.line.now in
+        result ≡ frame_by kind (byte_of line) (bytes line) }
 {
     let frame = match kind {
         1 => Frame::Declared(Counts {
@@ -221,6 +249,7 @@ fn frame_of(kind: u16, reader: &mut Reader) -> Result<Frame, Misread>
         10 => Frame::Final(reader.field()),
         11 => Frame::Ask(reader.field(), reader.field()),
         12 => Frame::Allowance(BYTE * reader.byte() + reader.byte()),
+        EXPRESSION => Frame::Expression(marks_in(reader.line)),
         _ => return Err(Misread::BadFrame),
     };
     Ok(frame)
@@ -235,7 +264,7 @@ pub fn read(line: &[u8]) -> Result<Frame, Misread>
     }
     let mut reader = Reader::opened(line);
     let kind = reader.byte();
-    if line.len() / 2 != frame_length(kind) {
+    if !has_length(line, kind) {
         return Err(Misread::BadFrame);
     }
     frame_of(kind, &mut reader)

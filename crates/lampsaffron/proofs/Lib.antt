@@ -1,2 +1,3 @@
 pub mod Given
 pub mod Told
+pub mod Made

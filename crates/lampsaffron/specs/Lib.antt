@@ -1,2 +1,3 @@
 pub mod Boundary
 pub mod Row
+pub mod Expression

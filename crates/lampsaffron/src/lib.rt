@@ -2,16 +2,19 @@
 // count of each answer.
 #![tactic(auto)]
 
-ghost use Rattle.std.specs.Prelude.{◌≡◌, ◌↔◌, IsTrue, length};
+ghost use Rattle.std.specs.Prelude.{◌≡◌, ◌≢◌, ◌↔◌, ◌≤◌, ◌++◌, IsTrue, length, take, drop};
 ghost use Rattle.std.specs.Bool.{OnTrue, OnFalse};
 ghost use Rattle.kinds.specs.Kinds.{individual};
 ghost use Rattle.index.specs.Asked.{asked};
 ghost use Rattle.index.specs.Preparation.{made_of};
 ghost use Rattle.index.specs.Row.{ask_count, InTurn};
 ghost use Rattle.lampsaffron.specs.Boundary.{counted, lent, Gives, RowFits, Tells, TellsEach};
+ghost use Rattle.expression.specs.Answer.{IsAutomatonOf};
+ghost use Rattle.lampsaffron.specs.Expression.{number_of, Makes};
 
 pub mod theorems;
 
+use expression::{Refusal, automaton_of};
 use index::Lent;
 use kinds::{Answer, Counts, Individual, State};
 use tables::{Ask, Collection, Table};
@@ -168,4 +171,72 @@ pub extern "C" fn lampsaffron_ask_all(
     lent.ask_all(&asks, &mut answers, area, spare);
     tell(&answers, numbers, counts);
     true
+}
+
+// The numbers of the most steps and of the most final states.
+const STEP_NUMBERS: usize = 4 * 512;
+
+const FINAL_NUMBERS: usize = 16;
+
+// A table put at the front of a row: how many numbers it has. The rest of the row stays.
+fn put(numbers: &[u16], row: &mut [u16]) -> u16
+    requires within { length numbers.now ≤ length row.old }
+    requires few { length numbers.now ≤ 2048 }
+    ensures count { result ≡ length numbers.now }
+    ensures front { take (length numbers.now) row.new ≡ numbers.now }
+    ensures rest { drop (length numbers.now) row.new ≡ drop (length numbers.now) row.old }
+{
+    row[..numbers.len()].copy_from_slice(numbers);
+    numbers.len() as u16
+}
+
+// Why a row of marks has no tables.
+fn refusal_number(refusal: Refusal) -> u8
+    ensures { result ≡ number_of refusal }
+{
+    match refusal {
+        Refusal::NoExpression => 12,
+        Refusal::TooDeep => 13,
+        Refusal::TooManyMarks(_) => 14,
+    }
+}
+
+// The tables of steps and final states of a question typed as an expression, from its marks. Gives 0 where they are made; else
+// 5, the rows are too short, or 13, 12 or 14 as the desk gives them, and then nothing is written.
+#[unsafe(no_mangle)]
+pub extern "C" fn lampsaffron_expression(
+    marks: &[u8],
+    steps: &mut [u16],
+    finals: &mut [u16],
+    states: &mut u16,
+    steps_used: &mut u16,
+    finals_used: &mut u16,
+) -> u8
+    ensures number { Makes marks.now (length steps.old) (length finals.old) result }
+    ensures made { result ≡ 0 → IsAutomatonOf marks.now (record {
+      states = states.new;
+      steps = take steps_used.new steps.new;
+      finals = take finals_used.new finals.new;
+    }) }
+    ensures steps_rest { drop steps_used.new steps.new ≡ drop steps_used.new steps.old }
+    ensures finals_rest { drop finals_used.new finals.new ≡ drop finals_used.new finals.old }
+
+    // Where none are made, nothing is written.
+    ensures steps_kept { result ≢ 0 → steps.new ≡ steps.old }
+    ensures finals_kept { result ≢ 0 → finals.new ≡ finals.old }
+    ensures states_kept { result ≢ 0 → states.new ≡ states.old }
+    ensures steps_used_kept { result ≢ 0 → steps_used.new ≡ steps_used.old }
+    ensures finals_used_kept { result ≢ 0 → finals_used.new ≡ finals_used.old }
+{
+    if steps.len() < STEP_NUMBERS || finals.len() < FINAL_NUMBERS {
+        return 5;
+    }
+    let automaton = match automaton_of(marks) {
+        Ok(automaton) => automaton,
+        Err(refusal) => return refusal_number(refusal),
+    };
+    *states = automaton.states() as u16;
+    *steps_used = put(automaton.steps().numbers, steps);
+    *finals_used = put(automaton.finals().numbers, finals);
+    0
 }

@@ -13,19 +13,25 @@ use Rattle.kinds.specs.declared.Counts.{Counts}
 use Rattle.kinds.specs.Kinds.{concept_name, role_name, individual, state, signed, concept_of, number_of, concept-number, CountsFit, IndividualDeclared, StateDeclared}
 use Rattle.meaning.specs.Collection.{Each, step, ConceptsDeclared, RolesDeclared, ConceptFactDeclared, RoleFactDeclared, StepDeclared}
 use Rattle.meaning.specs.Layout.{area_length}
-use Rattle.meaning.specs.Lent.{field, step_width, records, concept_pair, role_pair, concept_fact, role_fact, letter_of, step_at, final_at, Whole, TablesOk, NumbersOk, EndsDiffer, EndsOk, Sound}
+use Rattle.meaning.specs.Lent.{field, records, concept_pair, role_pair, concept_fact, role_fact, letter_of, step_kind, step_at, final_at, Whole, TablesOk, NumbersOk, EndsDiffer, EndsOk, Sound}
 use Rattle.tables.proofs.Meant.{each_in}
+use Rattle.expression.specs.Fits.{FitsTables, RecordsDeclared}
+use Rattle.expression.specs.Listed.{Listed}
+use Rattle.expression.specs.Answer.{IsAutomatonOf}
+use Rattle.expression.proofs.FitsLaws.{fits-tables, needs-marks}
+use Rattle.expression.proofs.Once.{is-once}
 use Rattle.streams.specs.Lines.{lines}
 use Rattle.frames.specs.declared.Frame.{Frame}
-use Rattle.frames.specs.declared.Frame.TheVariants.{Declared, ConceptRule, ConceptExclusion, RoleRule, RoleExclusion, ConceptFact, RoleFact, RoleStep, TestStep, Final, Ask, Allowance}
-use Rattle.reading.specs.Tables.{Kind, concept_rules, concept_exclusions, role_rules, role_exclusions, concept_facts, role_facts, steps, finals, asks, record_in, width, most, entries, table, declared_by}
-use Rattle.reading.specs.File.{asked}
+use Rattle.frames.specs.declared.Frame.TheVariants.{Declared, ConceptRule, ConceptExclusion, RoleRule, RoleExclusion, ConceptFact, RoleFact, RoleStep, TestStep, Final, Ask, Allowance, Expression}
+use Rattle.reading.specs.Tables.{Kind, concept_rules, concept_exclusions, role_rules, role_exclusions, concept_facts, role_facts, steps, finals, asks, record_in, width, most, entries, table, declared_by, expression_given}
+use Rattle.reading.specs.File.{file_of, typed_question, IsQuestion, asked}
 use Rattle.reading.specs.Reading.{Verdict, sound, frames_of, Reading, empty, whole, stopped, onward, Taken, none, more}
 use Rattle.reading.proofs.TableLaws.{record-width, entries-cons, table-length}
 use Rattle.reading.proofs.Passed.{Passed, judged_ok, taken-keeps}
 use Rattle.reading.proofs.Bounds.{few}
 use Rattle.reading.proofs.Kept.{declared-later}
 use Rattle.reading.proofs.Turns.{fitting}
+use Rattle.reading.proofs.Questions.{row-taken}
 
 -- what is demanded of a record whose numbers are n 0, n 1 and so on, in each table
 module _ (c : Counts) (n : ℕ → ℕ) where
@@ -97,6 +103,10 @@ passing-more before f t p h g m kind l = side (Memᴰ.append_cases before m)
         none-of finals = tt
         none-of asks = tt
     new (Allowance n) q go = go q.in_place.0
+    new (RoleStep s R u) q go = go q.in_place.0
+    new (TestStep s A u) q go = go q.in_place.0
+    new (Final s) q go = go q.in_place.0
+    new (Expression row) q go = go q.in_place.0
     new o q go = go q.in_place
 
     last : (g ≡ f) ⊎ (g ∈ []) → FramePasses (declared_by (before ++ f ∷ [])) g kind l
@@ -166,9 +176,45 @@ module _ {fs : List Frame} (t : Taken fs) where
     each : {A : Type 0} (read : List ℕ → ℕ → A) (P : A → Type 0) → ((k : ℕ) → k < entries kind fs → P (read (table kind fs) k)) → Each (records (width kind) read (table kind fs)) P
     each read P h = each_in (width kind) read P (table kind fs) (λ k l. h k (rw record-count at l))
 
+  -- the question's own records, as they are typed
+  typed-fits : FitsTables (typed_question (file_of fs))
+  typed-fits = record {
+    steps = whole-table steps (omega arith);
+    finals = whole-table finals (omega arith);
+    step_kinds = each steps (omega arith) step_kind (λ n. n ≤ 1) (λ i h. (record-passes steps i h).0);
+  }
+
+  typed-declared : RecordsDeclared (declared_by fs) (typed_question (file_of fs))
+  typed-declared = record {
+    steps = each steps (omega arith) step_at (StepDeclared (declared_by fs)) (λ i h. (record-passes steps i h).1);
+    finals = each finals (omega arith) final_at (StateDeclared (declared_by fs)) (record-passes finals);
+  }
+
+  -- and as those of an expression's automaton
+  expressed-declared : (row : List ℕ) → expression_given fs ≡ Some row → (q : Listed) → IsAutomatonOf row q → RecordsDeclared (declared_by fs) q
+  expressed-declared row e q x =
+      let r = row-taken fs t row e in
+      let s = r.shaped in
+      let n = (is-once s.1.is x.is).1 in
+      needs-marks q x (declared_by fs) (omega (arith, s.2, n, x.states)) r.declared
+
   -- the tests 5 to 8; line 1's counts have passed test 4
-  module _ (k : ℕ) where
-    tables-ok : TablesOk (asked fs k)
+  module _ (q : Listed) (is : IsQuestion (file_of fs) q) (k : ℕ) where
+    fits : FitsTables q
+    fits = by (expression_given fs) refl
+      where
+        by : (o : Option (List ℕ)) → expression_given fs ≡ o → FitsTables q
+        by None e = rw (is.typed e) typed-fits
+        by (Some row) e = fits-tables q (rw e at is.expressed)
+
+    declared : RecordsDeclared (declared_by fs) q
+    declared = by (expression_given fs) refl
+      where
+        by : (o : Option (List ℕ)) → expression_given fs ≡ o → RecordsDeclared (declared_by fs) q
+        by None e = rw (is.typed e) typed-declared
+        by (Some row) e = expressed-declared row e q (rw e at is.expressed)
+
+    tables-ok : TablesOk (asked fs q k)
     tables-ok = record {
       tables = record {
         concept-rules = whole-table concept_rules (omega arith);
@@ -177,14 +223,14 @@ module _ {fs : List Frame} (t : Taken fs) where
         role-exclusions = whole-table role_exclusions (omega arith);
         concept-facts = whole-table concept_facts (omega arith);
         role-facts = whole-table role_facts (omega arith);
-        steps = whole-table steps (omega arith);
-        finals = whole-table finals (omega arith);
+        steps = fits.steps;
+        finals = fits.finals;
       };
       area = length-replicate {A = ℕ} area_length 0;
       spare = length-replicate {A = ℕ} area_length 0;
     }
 
-    numbers-ok : NumbersOk (asked fs k)
+    numbers-ok : NumbersOk (asked fs q k)
     numbers-ok = record {
       declared = record {
         concept-rules = each concept_rules (omega arith) concept_pair (ConceptsDeclared (declared_by fs)) (record-passes concept_rules);
@@ -193,13 +239,13 @@ module _ {fs : List Frame} (t : Taken fs) where
         role-exclusions = each role_exclusions (omega arith) role_pair (RolesDeclared (declared_by fs)) (record-passes role_exclusions);
         concept-facts = each concept_facts (omega arith) concept_fact (ConceptFactDeclared (declared_by fs)) (record-passes concept_facts);
         role-facts = each role_facts (omega arith) role_fact (RoleFactDeclared (declared_by fs)) (λ i h. (record-passes role_facts i h).0);
-        steps = each steps (omega arith) step_at (StepDeclared (declared_by fs)) (λ i h. (record-passes steps i h).1);
-        finals = each finals (omega arith) final_at (StateDeclared (declared_by fs)) (record-passes finals);
+        steps = declared.steps;
+        finals = declared.finals;
       };
-      step-kinds = each steps (omega arith) (λ t k. field step_width t 0 k) (λ n. n ≤ 1) (λ i h. (record-passes steps i h).0);
+      step-kinds = fits.step_kinds;
     }
 
-    ends-ok : EndsOk (asked fs k)
+    ends-ok : EndsOk (asked fs q k)
     ends-ok = each role_facts (omega arith) role_fact EndsDiffer (λ i h. (record-passes role_facts i h).1)
 
 -- a file with a record in some table has its line 1
@@ -209,13 +255,13 @@ some-begun kind k [] h e = omega arith
 some-begun kind k (f ∷ fs) h e = cc
 
 -- THEOREM: where frames are taken, the call of each ask among them passes the library's tests 4 to 8
-pub accepted : (fs : List Frame) → Taken fs → (k : ℕ) → k < entries asks fs → Sound (asked fs k)
-accepted fs t k h =
+pub accepted : (fs : List Frame) → Taken fs → (q : Listed) → IsQuestion (file_of fs) q → (k : ℕ) → k < entries asks fs → Sound (asked fs q k)
+accepted fs t q is k h =
     record {
       counts = fitting fs t (some-begun asks k fs h);
-      tables = tables-ok t k;
-      numbers = numbers-ok t k;
-      ends = ends-ok t k;
+      tables = tables-ok t q is k;
+      numbers = numbers-ok t q is k;
+      ends = ends-ok t q is k;
       ask = record-passes t asks k h;
     }
 
@@ -227,5 +273,5 @@ reading-taken (stopped before l ls r h) t = t
 reading-taken (onward before l ls f v h rest) t = reading-taken rest (more before f t (judged_ok h))
 
 -- THEOREM: a file that is read whole is accepted
-pub whole-accepted : (input : List ℕ) (fs : List Frame) → Reading [] (lines input) (sound fs) → (k : ℕ) → k < entries asks fs → Sound (asked fs k)
+pub whole-accepted : (input : List ℕ) (fs : List Frame) → Reading [] (lines input) (sound fs) → (q : Listed) → IsQuestion (file_of fs) q → (k : ℕ) → k < entries asks fs → Sound (asked fs q k)
 whole-accepted input fs r = accepted fs (reading-taken r none)

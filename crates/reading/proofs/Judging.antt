@@ -1,16 +1,16 @@
 -- What a frame is judged by what is held is what it is judged after the frames.
-use Rattle.std.specs.Prelude.{IsSome, ◌<◌, ◌≡◌, ◌≢◌, ◌↔◌, List, [], ◌∷◌, Result, Ok, Err, length}
+use Rattle.std.specs.Prelude.{IsSome, ◌<◌, ◌≡◌, ◌≢◌, ◌↔◌, List, [], ◌∷◌, Result, Err, length}
 use Rattle.std.proofs.Common.{refl, arith}
 use Rattle.laws.specs.First.{First, fails, holds, first-onward}
 use Rattle.frames.specs.declared.Frame.{Frame}
-use Rattle.frames.specs.declared.Frame.TheVariants.{Declared, ConceptRule, ConceptExclusion, RoleRule, RoleExclusion, ConceptFact, RoleFact, RoleStep, TestStep, Final, Ask, Allowance}
+use Rattle.frames.specs.declared.Frame.TheVariants.{Declared, ConceptRule, ConceptExclusion, RoleRule, RoleExclusion, ConceptFact, RoleFact, RoleStep, TestStep, Final, Ask, Allowance, Expression}
 use Rattle.reading.specs.declared.File.{File}
 use Rattle.reading.specs.declared.Refusal.{Refusal}
 use Rattle.reading.specs.declared.Refusal.TheVariants.{BadCount, BadTable, BadNumber, EqualEnds, BadAsk, OutOfPlace}
 use Rattle.reading.specs.Tables.{Kind, concept_rules, concept_exclusions, role_rules, role_exclusions, concept_facts, role_facts, steps, finals, asks, record_in, most, entries, table}
 use Rattle.reading.specs.File.{file_of, IsInPlace, HasShelfRoom, RoomIn}
 use Rattle.reading.specs.Judged.{InPlace, CountsOk, HasRoom, NumbersOk, EndsDiffer, AskOk, Judged}
-use Rattle.reading.specs.Turns.{JudgedBy}
+use Rattle.reading.specs.Turns.{ExpressionJudged, JudgedBy}
 use Rattle.reading.proofs.TableLaws.{table-length}
 
 begun : (fs : List Frame) → (0 < length fs) ↔ (fs ≢ [])
@@ -22,9 +22,16 @@ none [] = (λ h. refl, λ h. refl)
 none (f ∷ fs) = (λ h. absurd (omega arith), λ e. absurd cc)
 
 module _ (before : List Frame) where
+  begun-and : {P Q : Type 0} → (P → Q) → (Q → P) → ((0 < length before) × P) ↔ ((before ≢ []) × Q)
+  begun-and to from = (λ h. ((begun before).0 h.0, to h.1), λ h. ((begun before).1 h.0, from h.1))
+
   pub in_place : (f : Frame) → IsInPlace (file_of before) f ↔ InPlace before f
   in_place (Declared c) = none before
   in_place (Allowance n) = (λ h. ((begun before).0 h.0, h.1), λ h. ((begun before).1 h.0, h.1))
+  in_place (RoleStep s R t) = begun-and (λ x. x) (λ x. x)
+  in_place (TestStep s A t) = begun-and (λ x. x) (λ x. x)
+  in_place (Final s) = begun-and (λ x. x) (λ x. x)
+  in_place (Expression row) = (λ h. ((begun before).0 h.0, h.1, h.2, h.3), λ h. ((begun before).1 h.0, h.1, h.2, h.3))
   in_place f = begun before
 
   -- room for one more record
@@ -86,7 +93,7 @@ module _ (file : File) (f : Frame) where
       (First (NumbersOk file.counts f) (Err BadNumber)
       (First (EndsDiffer f) (Err EqualEnds)
       (First (AskOk file.counts f) (Err BadAsk)
-      (λ r. r ≡ Ok tt))))))
+      (ExpressionJudged file.counts f))))))
 
 tests-judged : (before : List Frame) (f : Frame) (r : Result (Unit {0}) Refusal) → Tests (file_of before) f r → Judged before f r
 tests-judged before f r h =

@@ -3,12 +3,12 @@ use Rattle.std.specs.Prelude.{ℕ, ◌+◌, ◌≡◌, ◌≢◌, List, [], ◌�
 use Rattle.std.proofs.Common.{refl, ap, ◌∙◌, length-append}
 use Rattle.kinds.specs.declared.Counts.{Counts}
 use Rattle.frames.specs.declared.Frame.{Frame}
-use Rattle.frames.specs.declared.Frame.TheVariants.{Declared, ConceptRule, ConceptExclusion, RoleRule, RoleExclusion, ConceptFact, RoleFact, RoleStep, TestStep, Final, Ask, Allowance}
+use Rattle.frames.specs.declared.Frame.TheVariants.{Declared, ConceptRule, ConceptExclusion, RoleRule, RoleExclusion, ConceptFact, RoleFact, RoleStep, TestStep, Final, Ask, Allowance, Expression}
 use Rattle.reading.specs.declared.File.{File}
-use Rattle.reading.specs.Tables.{concept_rules, concept_exclusions, role_rules, role_exclusions, concept_facts, role_facts, steps, finals, asks, record_in, table, declared_by, allowance_given}
+use Rattle.reading.specs.Tables.{concept_rules, concept_exclusions, role_rules, role_exclusions, concept_facts, role_facts, steps, finals, asks, record_in, table, declared_by, allowance_given, expression_given}
 use Rattle.reading.specs.File.{file_of, file_with}
 use Rattle.reading.proofs.TableLaws.{plus, table-more}
-use Rattle.reading.proofs.Bounds.{or_else, or_else-none, allowance-more}
+use Rattle.reading.proofs.Bounds.{or_else, or_else-none, allowance-more, expression-more}
 use Rattle.reading.proofs.Passed.{Passed}
 
 pub declared-later : (before : List Frame) (f : Frame) → before ≢ [] → declared_by (before ++ f ∷ []) ≡ declared_by before
@@ -21,8 +21,8 @@ declared-first before c e = ap (λ fs. declared_by (fs ++ Declared c ∷ [])) e
 
 module _ (before : List Frame) (f : Frame) where
   -- what is held of one frame more, table by table
-  abbrev held_after : Counts → Option ℕ → File
-  held_after c a = record {
+  abbrev held_after : Counts → Option ℕ → Option (List ℕ) → File
+  held_after c a x = record {
     counts = c;
     allowance = a;
     concept_rules = plus (table concept_rules before) (record_in concept_rules f);
@@ -33,32 +33,44 @@ module _ (before : List Frame) (f : Frame) where
     role_facts = plus (table role_facts before) (record_in role_facts f);
     steps = plus (table steps before) (record_in steps f);
     finals = plus (table finals before) (record_in finals f);
+    expression = x;
     asks = plus (table asks before) (record_in asks f);
     lines = length before + 1;
   }
 
-  file_of-more : {c : Counts} {a : Option ℕ} → declared_by (before ++ f ∷ []) ≡ c → allowance_given (before ++ f ∷ []) ≡ a → held_after c a ≡ file_of (before ++ f ∷ [])
-  file_of-more d e =
-      rw (d, e, table-more concept_rules before f, table-more concept_exclusions before f, table-more role_rules before f, table-more role_exclusions before f, table-more concept_facts before f, table-more role_facts before f, table-more steps before f, table-more finals before f, table-more asks before f, length-append before (f ∷ [])) refl
+  file_of-more : {c : Counts} {a : Option ℕ} {x : Option (List ℕ)} → declared_by (before ++ f ∷ []) ≡ c → allowance_given (before ++ f ∷ []) ≡ a → expression_given (before ++ f ∷ []) ≡ x
+      → held_after c a x ≡ file_of (before ++ f ∷ [])
+  file_of-more d e g =
+      rw (d, e, g, table-more concept_rules before f, table-more concept_exclusions before f, table-more role_rules before f, table-more role_exclusions before f, table-more concept_facts before f, table-more role_facts before f, table-more steps before f, table-more finals before f, table-more asks before f, length-append before (f ∷ [])) refl
 
-  later : before ≢ [] → allowance_given (f ∷ []) ≡ None → held_after (declared_by before) (allowance_given before) ≡ file_of (before ++ f ∷ [])
-  later n a = file_of-more (declared-later before f n) (allowance-more before f ∙ ap (or_else (allowance_given before)) a ∙ or_else-none (allowance_given before))
+  same-allowance : allowance_given (f ∷ []) ≡ None → allowance_given (before ++ f ∷ []) ≡ allowance_given before
+  same-allowance a = allowance-more before f ∙ ap (or_else (allowance_given before)) a ∙ or_else-none (allowance_given before)
+
+  pub same-expression : expression_given (f ∷ []) ≡ None → expression_given (before ++ f ∷ []) ≡ expression_given before
+  same-expression a = expression-more before f ∙ ap (or_else (expression_given before)) a ∙ or_else-none (expression_given before)
+
+  later : before ≢ [] → allowance_given (f ∷ []) ≡ None → expression_given (f ∷ []) ≡ None
+      → held_after (declared_by before) (allowance_given before) (expression_given before) ≡ file_of (before ++ f ∷ [])
+  later n a x = file_of-more (declared-later before f n) (same-allowance a) (same-expression x)
 
 module _ (before : List Frame) where
   pub file_with-file_of : (f : Frame) → Passed before f → file_with f (file_of before) ≡ file_of (before ++ f ∷ [])
   file_with-file_of (Declared c) p =
       file_of-more before (Declared c) (declared-first before c p.in_place)
-      (allowance-more before (Declared c) ∙ or_else-none (allowance_given before))
+      (same-allowance before (Declared c) refl) (same-expression before (Declared c) refl)
   file_with-file_of (Allowance n) p =
       file_of-more before (Allowance n) (declared-later before (Allowance n) p.in_place.0)
-      (allowance-more before (Allowance n) ∙ ap (λ o. or_else o (Some n)) p.in_place.1)
-  file_with-file_of (ConceptRule C D) p = later before (ConceptRule C D) p.in_place refl
-  file_with-file_of (ConceptExclusion C D) p = later before (ConceptExclusion C D) p.in_place refl
-  file_with-file_of (RoleRule R S) p = later before (RoleRule R S) p.in_place refl
-  file_with-file_of (RoleExclusion R S) p = later before (RoleExclusion R S) p.in_place refl
-  file_with-file_of (ConceptFact A a) p = later before (ConceptFact A a) p.in_place refl
-  file_with-file_of (RoleFact r a b) p = later before (RoleFact r a b) p.in_place refl
-  file_with-file_of (RoleStep s R t) p = later before (RoleStep s R t) p.in_place refl
-  file_with-file_of (TestStep s A t) p = later before (TestStep s A t) p.in_place refl
-  file_with-file_of (Final s) p = later before (Final s) p.in_place refl
-  file_with-file_of (Ask a b) p = later before (Ask a b) p.in_place refl
+      (allowance-more before (Allowance n) ∙ ap (λ o. or_else o (Some n)) p.in_place.1) (same-expression before (Allowance n) refl)
+  file_with-file_of (Expression row) p =
+      file_of-more before (Expression row) (declared-later before (Expression row) p.in_place.0) (same-allowance before (Expression row) refl)
+      (expression-more before (Expression row) ∙ ap (λ o. or_else o (Some row)) p.in_place.1)
+  file_with-file_of (ConceptRule C D) p = later before (ConceptRule C D) p.in_place refl refl
+  file_with-file_of (ConceptExclusion C D) p = later before (ConceptExclusion C D) p.in_place refl refl
+  file_with-file_of (RoleRule R S) p = later before (RoleRule R S) p.in_place refl refl
+  file_with-file_of (RoleExclusion R S) p = later before (RoleExclusion R S) p.in_place refl refl
+  file_with-file_of (ConceptFact A a) p = later before (ConceptFact A a) p.in_place refl refl
+  file_with-file_of (RoleFact r a b) p = later before (RoleFact r a b) p.in_place refl refl
+  file_with-file_of (RoleStep s R t) p = later before (RoleStep s R t) p.in_place.0 refl refl
+  file_with-file_of (TestStep s A t) p = later before (TestStep s A t) p.in_place.0 refl refl
+  file_with-file_of (Final s) p = later before (Final s) p.in_place.0 refl refl
+  file_with-file_of (Ask a b) p = later before (Ask a b) p.in_place refl refl

@@ -4,6 +4,8 @@ pub mod Bounds
 pub mod Kept
 pub mod Judging
 pub mod Turns
+pub mod Questions
+pub mod Rows
 pub mod GoingOn
 pub mod Once
 pub mod Accepted

@@ -4,7 +4,7 @@ use Rattle.laws.specs.First.{first-passed}
 use Rattle.frames.specs.declared.Frame.{Frame}
 use Rattle.reading.specs.Tables.{declared_by}
 use Rattle.reading.specs.Reading.{Finds, taken, Taken, none, more}
-use Rattle.reading.specs.Judged.{InPlace, CountsOk, HasRoom, NumbersOk, EndsDiffer, AskOk, Judged}
+use Rattle.reading.specs.Judged.{InPlace, CountsOk, HasRoom, NumbersOk, EndsDiffer, AskOk, IsShallow, IsExpressed, IsShaped, Judged}
 
 pub record Passed (before : List Frame) (f : Frame) : Type 0 where
   pub in_place : InPlace before f
@@ -13,6 +13,9 @@ pub record Passed (before : List Frame) (f : Frame) : Type 0 where
   pub numbers : NumbersOk (declared_by before) f
   pub ends : EndsDiffer f
   pub ask : AskOk (declared_by before) f
+  pub shallow : IsShallow f
+  pub expressed : IsExpressed f
+  pub shaped : IsShaped (declared_by before) f
 
 pub passed : (before : List Frame) (f : Frame) → Judged before f (Ok tt) → Passed before f
 passed before f j =
@@ -22,7 +25,10 @@ passed before f j =
     let d = first-passed c.1 (λ e. cc) in
     let g = first-passed d.1 (λ e. cc) in
     let h = first-passed g.1 (λ e. cc) in
-    record { in_place = a.0; counts = b.0; room = c.0; numbers = d.0; ends = g.0; ask = h.0 }
+    let i = first-passed h.1 (λ e. cc) in
+    let k = first-passed i.1 (λ e. cc) in
+    let l = first-passed k.1 (λ e. cc) in
+    record { in_place = a.0; counts = b.0; room = c.0; numbers = d.0; ends = g.0; ask = h.0; shallow = i.0; expressed = k.0; shaped = l.0 }
 
 pub judged_ok : {before : List Frame} {line : List ℕ} {f : Frame} → Finds before line (Ok f) → Judged before f (Ok tt)
 judged_ok (taken f o j) = j

@@ -7,7 +7,7 @@ use Rattle.kinds.specs.declared.Counts.{Counts}
 use Rattle.kinds.specs.Kinds.{number_of, CountsFit, ConceptDeclared}
 use Rattle.frames.specs.Frames.{FrameOf}
 use Rattle.frames.specs.declared.Frame.{Frame}
-use Rattle.frames.specs.declared.Frame.TheVariants.{Declared, ConceptRule, ConceptExclusion, Allowance}
+use Rattle.frames.specs.declared.Frame.TheVariants.{Declared, ConceptRule, ConceptExclusion, RoleStep, TestStep, Final, Allowance, Expression}
 use Rattle.frames.specs.declared.Misread.{Misread}
 use Rattle.reading.specs.declared.File.{File}
 use Rattle.reading.specs.declared.Refusal.{Refusal}
@@ -26,10 +26,17 @@ use Rattle.reading.proofs.Judging.{room}
 abbrev pub Fitting : List Frame → Type 0
 Fitting fs = fs ≢ [] → CountsFit (declared_by fs)
 
+fitting-later : (before : List Frame) (f : Frame) → Fitting before → before ≢ [] → CountsFit (declared_by (before ++ f ∷ []))
+fitting-later before f h n = rw (declared-later before f n) (h n)
+
 fitting-more : (before : List Frame) (f : Frame) → Taken before → Passed before f → Fitting before → Fitting (before ++ f ∷ [])
 fitting-more before (Declared c) t p h n = rw (declared-first before c p.in_place) p.counts
-fitting-more before (Allowance m) t p h n = rw (declared-later before (Allowance m) p.in_place.0) (h p.in_place.0)
-fitting-more before f t p h n = rw (declared-later before f p.in_place) (h p.in_place)
+fitting-more before (Allowance m) t p h n = fitting-later before (Allowance m) h p.in_place.0
+fitting-more before (RoleStep s R u) t p h n = fitting-later before (RoleStep s R u) h p.in_place.0
+fitting-more before (TestStep s A u) t p h n = fitting-later before (TestStep s A u) h p.in_place.0
+fitting-more before (Final s) t p h n = fitting-later before (Final s) h p.in_place.0
+fitting-more before (Expression row) t p h n = fitting-later before (Expression row) h p.in_place.0
+fitting-more before f t p h n = fitting-later before f h p.in_place
 
 pub fitting : (fs : List Frame) → Taken fs → Fitting fs
 fitting = taken-keeps Fitting (λ n. absurd (n refl)) fitting-more

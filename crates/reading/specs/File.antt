@@ -1,34 +1,51 @@
 -- What each ask is as a call of the library (docs/RULES.md, section 8); and what is held of the
 -- frames that are read, each fact about them in its own field.
-use Rattle.std.specs.Prelude.{ℕ, ◌+◌, ◌*◌, ◌^◌, ◌<◌, ◌≤◌, ◌≡◌, List, [], ◌∷◌, ◌++◌, None, Some, ⊤, length, unwrap_or}
+use Rattle.std.specs.Prelude.{ℕ, ◌+◌, ◌*◌, ◌^◌, ◌<◌, ◌≤◌, ◌≡◌, List, [], ◌∷◌, ◌++◌, Option, None, Some, IfSome, ⊤, length, unwrap_or}
 use Rattle.kinds.specs.Kinds.{number_of}
 use Rattle.meaning.specs.Lent.{Tables, Call}
 use Rattle.meaning.specs.Layout.{zeros}
 use Rattle.tables.specs.declared.ask.Ask as tables
 use Rattle.tables.specs.Asks.{read_ask, first_of, second_of}
+use Rattle.expression.specs.Listed.{Listed}
+use Rattle.expression.specs.Answer.{IsAutomatonOf}
 use Rattle.frames.specs.declared.Frame.{Frame}
-use Rattle.frames.specs.declared.Frame.TheVariants.{Declared, ConceptRule, ConceptExclusion, RoleRule, RoleExclusion, ConceptFact, RoleFact, RoleStep, TestStep, Final, Ask, Allowance}
+use Rattle.frames.specs.declared.Frame.TheVariants.{Declared, ConceptRule, ConceptExclusion, RoleRule, RoleExclusion, ConceptFact, RoleFact, RoleStep, TestStep, Final, Ask, Allowance, Expression}
 use Rattle.reading.specs.declared.File.{File}
-use Rattle.reading.specs.Tables.{Kind, concept_rules, concept_exclusions, role_rules, role_exclusions, concept_facts, role_facts, steps, finals, asks, width, most, table, declared_by, allowance_given, usual_allowance, rounds_allowed}
+use Rattle.reading.specs.Tables.{Kind, concept_rules, concept_exclusions, role_rules, role_exclusions, concept_facts, role_facts, steps, finals, asks, width, most, table, declared_by, allowance_given, expression_given, usual_allowance, rounds_allowed}
 
--- the tables that some frames fill
-abbrev pub tables_of : List Frame → Tables
-tables_of fs = record {
+-- the question of some frames, by their expression if there is one, and by the steps and final
+-- states that they type: of an expression, those of its automaton
+pub record IsChosen (given : Option (List ℕ)) (t q : Listed) : Type 0 where
+  pub typed : given ≡ None → q ≡ t
+  pub expressed : IfSome given (λ row. IsAutomatonOf row q)
+
+abbrev pub IsQuestionOf : List Frame → Listed → Type 0
+IsQuestionOf fs =
+    IsChosen (expression_given fs)
+    (record {
+      states = (declared_by fs).states;
+      steps = table steps fs;
+      finals = table finals fs;
+    })
+
+-- the tables that some frames fill, with their question
+abbrev pub tables_of : List Frame → Listed → Tables
+tables_of fs q = record {
   concept-rules = table concept_rules fs;
   concept-exclusions = table concept_exclusions fs;
   role-rules = table role_rules fs;
   role-exclusions = table role_exclusions fs;
   concept-facts = table concept_facts fs;
   role-facts = table role_facts fs;
-  steps = table steps fs;
-  finals = table finals fs;
+  steps = q.steps;
+  finals = q.finals;
 }
 
 -- ask k, as a call of the library over the whole file
-abbrev pub asked : List Frame → ℕ → Call
-asked fs k = record {
+abbrev pub asked : List Frame → Listed → ℕ → Call
+asked fs q k = record {
   counts = declared_by fs;
-  tables = tables_of fs;
+  tables = tables_of fs q;
   first = first_of (read_ask (table asks fs) k);
   second = second_of (read_ask (table asks fs) k);
   allowance = rounds_allowed fs;
@@ -49,21 +66,30 @@ file_of fs = record {
   role_facts = table role_facts fs;
   steps = table steps fs;
   finals = table finals fs;
+  expression = expression_given fs;
   asks = table asks fs;
   lines = length fs;
 }
 
--- the tables that are held, as the library is lent them
-abbrev pub lent_tables : File → Tables
-lent_tables file = record {
+-- the question of what is held
+abbrev pub typed_question : File → Listed
+typed_question file =
+    record { states = file.counts.states; steps = file.steps; finals = file.finals }
+
+abbrev pub IsQuestion : File → Listed → Type 0
+IsQuestion file = IsChosen file.expression (typed_question file)
+
+-- the tables that the library is lent
+abbrev pub lent_tables : File → Listed → Tables
+lent_tables file q = record {
   concept-rules = file.concept_rules;
   concept-exclusions = file.concept_exclusions;
   role-rules = file.role_rules;
   role-exclusions = file.role_exclusions;
   concept-facts = file.concept_facts;
   role-facts = file.role_facts;
-  steps = file.steps;
-  finals = file.finals;
+  steps = q.steps;
+  finals = q.finals;
 }
 
 -- the allowance, and where none is given the usual one
@@ -71,25 +97,34 @@ abbrev pub allowance_in : File → ℕ
 allowance_in file = unwrap_or file.allowance usual_allowance
 
 -- ask k of what is held, and its call of the library
-module _ (file : File) (k : ℕ) where
-  abbrev pub held_ask : tables.Ask
-  held_ask = read_ask file.asks k
+abbrev pub held_ask : File → ℕ → tables.Ask
+held_ask file k = read_ask file.asks k
 
-  abbrev pub held_call : Call
-  held_call = record {
-    counts = file.counts;
-    tables = lent_tables file;
-    first = first_of held_ask;
-    second = second_of held_ask;
-    allowance = allowance_in file;
-    area = zeros;
-    spare = zeros;
-  }
+abbrev pub held_call : File → Listed → ℕ → Call
+held_call file q k = record {
+  counts = file.counts;
+  tables = lent_tables file q;
+  first = first_of (held_ask file k);
+  second = second_of (held_ask file k);
+  allowance = allowance_in file;
+  area = zeros;
+  spare = zeros;
+}
 
--- a frame is in its place: line 1 declares, and no other line does; one allowance is given at most
+-- the question, from the automaton of the expression where there is one
+abbrev pub question_by : File → Option Listed → Listed
+question_by file None = typed_question file
+question_by file (Some q) = q
+
+-- a frame is in its place, by what is held
 abbrev pub IsInPlace : File → Frame → Type 0
 IsInPlace file (Declared c) = file.lines ≡ 0
 IsInPlace file (Allowance n) = (0 < file.lines) × (file.allowance ≡ None)
+IsInPlace file (RoleStep s R t) = (0 < file.lines) × (file.expression ≡ None)
+IsInPlace file (TestStep s A t) = (0 < file.lines) × (file.expression ≡ None)
+IsInPlace file (Final s) = (0 < file.lines) × (file.expression ≡ None)
+IsInPlace file (Expression row) =
+    (0 < file.lines) × (file.expression ≡ None) × (file.steps ≡ []) × (file.finals ≡ [])
 IsInPlace file other = 0 < file.lines
 
 -- a table of some numbers has room for one more record
@@ -133,6 +168,7 @@ fields_with (TestStep s A u) t = record t { steps = t.steps ++ (1 ∷ s.0 ∷ A.
 fields_with (Final s) t = record t { finals = t.finals ++ s.0 ∷ [] }
 fields_with (Ask a b) t = record t { asks = t.asks ++ (a.0 ∷ b.0 ∷ []) }
 fields_with (Allowance n) t = record t { allowance = Some n }
+fields_with (Expression row) t = record t { expression = Some row }
 
 abbrev pub file_with : Frame → File → File
 file_with f t = record (fields_with f t) { lines = t.lines + 1 }

@@ -1,21 +1,32 @@
 -- The number that refuses a frame, or none (docs/RULES.md, section 8): of its tests, in their
 -- order, the first that fails.
-use Rattle.std.specs.Prelude.{◌<◌, ◌≡◌, ◌≢◌, List, [], Result, Ok, Err, None, IsSome, ⊤}
+use Rattle.std.specs.Prelude.{ℕ, ◌+◌, ◌<◌, ◌≡◌, ◌≢◌, List, [], Result, Ok, Err, None, IsSome, ⊤}
 use Rattle.kinds.specs.declared.Counts.{Counts}
-use Rattle.kinds.specs.Kinds.{CountsFit, StateDeclared, IndividualDeclared}
+use Rattle.kinds.specs.Kinds.{state, CountsFit, StateDeclared, IndividualDeclared}
 use Rattle.laws.specs.First.{First}
 use Rattle.meaning.specs.Collection.{role, test, step, ConceptsDeclared, RolesDeclared, ConceptFactDeclared, RoleFactDeclared, StepDeclared}
+use Rattle.expression.specs.Depth.{TooDeep}
+use Rattle.expression.specs.Fits.{MarksDeclared}
+use Rattle.expression.specs.Answer.{HasMarks}
 use Rattle.frames.specs.declared.Frame.{Frame}
-use Rattle.frames.specs.declared.Frame.TheVariants.{Declared, ConceptRule, ConceptExclusion, RoleRule, RoleExclusion, ConceptFact, RoleFact, RoleStep, TestStep, Final, Ask, Allowance}
+use Rattle.frames.specs.declared.Frame.TheVariants.{Declared, ConceptRule, ConceptExclusion, RoleRule, RoleExclusion, ConceptFact, RoleFact, RoleStep, TestStep, Final, Ask, Allowance, Expression}
 use Rattle.reading.specs.declared.Refusal.{Refusal}
-use Rattle.reading.specs.declared.Refusal.TheVariants.{BadCount, BadTable, BadNumber, EqualEnds, BadAsk, OutOfPlace}
-use Rattle.reading.specs.Tables.{Kind, record_in, most, entries, declared_by, allowance_given}
+use Rattle.reading.specs.declared.Refusal.TheVariants.{BadCount, BadTable, BadNumber, EqualEnds, BadAsk, OutOfPlace, NoExpression, AnotherShape}
+use Rattle.reading.specs.declared.Refusal.TheVariants as refusal
+use Rattle.reading.specs.Tables.{Kind, steps, finals, record_in, most, entries, table, declared_by, allowance_given, expression_given}
 
--- not 11: line 1 declares, and no other line does; one allowance is given at most
+-- not 11: line 1 declares, and no other line does; one allowance is given at most, and the
+-- question is given by one expression or by steps and final states
 module _ (before : List Frame) where
   abbrev pub InPlace : Frame → Type 0
   InPlace (Declared c) = before ≡ []
   InPlace (Allowance n) = (before ≢ []) × (allowance_given before ≡ None)
+  InPlace (RoleStep s R t) = (before ≢ []) × (expression_given before ≡ None)
+  InPlace (TestStep s A t) = (before ≢ []) × (expression_given before ≡ None)
+  InPlace (Final s) = (before ≢ []) × (expression_given before ≡ None)
+  InPlace (Expression row) =
+      (before ≢ []) × (expression_given before ≡ None)
+      × (table steps before ≡ []) × (table finals before ≡ [])
   InPlace other = before ≢ []
 
 -- not 4: what is declared fits
@@ -27,7 +38,7 @@ CountsOk other = ⊤
 abbrev pub HasRoom : List Frame → Frame → Type 0
 HasRoom before f = (kind : Kind) → IsSome (record_in kind f) → entries kind before < most kind
 
--- not 6: each number of its record is declared
+-- not 6: each number of its record is declared, and what each role or test mark reads
 module _ (counts : Counts) where
   abbrev pub NumbersOk : Frame → Type 0
   NumbersOk (ConceptRule C D) = ConceptsDeclared counts (C, D)
@@ -39,6 +50,7 @@ module _ (counts : Counts) where
   NumbersOk (RoleStep s R t) = StepDeclared counts (step s (role R) t)
   NumbersOk (TestStep s A t) = StepDeclared counts (step s (test A) t)
   NumbersOk (Final s) = StateDeclared counts s
+  NumbersOk (Expression row) = MarksDeclared counts row
   NumbersOk other = ⊤
 
 -- not 7: a role fact's ends differ
@@ -52,7 +64,25 @@ module _ (counts : Counts) where
   AskOk (Ask a b) = IndividualDeclared counts a × IndividualDeclared counts b
   AskOk other = ⊤
 
--- a frame after those before it: 11, then 4, 5, 6, 7, 8, and else it is taken
+-- not 13: the brackets of its expression are not too deep
+abbrev pub IsShallow : Frame → Type 0
+IsShallow (Expression row) = ¬ TooDeep row
+IsShallow other = ⊤
+
+-- not 12: its marks are an expression
+abbrev pub IsExpressed : Frame → Type 0
+IsExpressed (Expression row) = (n : ℕ) × HasMarks row n
+IsExpressed other = ⊤
+
+-- not 14: a state is declared for each role and test mark of its expression and one more, and the
+-- start is 0
+module _ (counts : Counts) where
+  abbrev pub IsShaped : Frame → Type 0
+  IsShaped (Expression row) =
+      (n : ℕ) × HasMarks row n × (counts.states ≡ n + 1) × (counts.start ≡ state 0)
+  IsShaped other = ⊤
+
+-- a frame after those before it: 11, then 4, 5, 6, 7, 8, 13, 12, 14, and else it is taken
 module _ (before : List Frame) (f : Frame) where
   abbrev pub Judged : Result (Unit {0}) Refusal → Type 0
   Judged =
@@ -62,4 +92,7 @@ module _ (before : List Frame) (f : Frame) where
       (First (NumbersOk (declared_by before) f) (Err BadNumber)
       (First (EndsDiffer f) (Err EqualEnds)
       (First (AskOk (declared_by before) f) (Err BadAsk)
-      (λ r. r ≡ Ok tt))))))
+      (First (IsShallow f) (Err refusal.TooDeep)
+      (First (IsExpressed f) (Err NoExpression)
+      (First (IsShaped (declared_by before) f) (Err AnotherShape)
+      (λ r. r ≡ Ok tt)))))))))

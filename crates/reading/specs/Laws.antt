@@ -2,6 +2,7 @@
 use Rattle.std.specs.Prelude.{ℕ, suc, ◌*◌, ◌<◌, ◌≤◌, ◌≡◌, ◌↔◌, List, [], ◌∷◌, Result, length, take}
 use Rattle.meaning.specs.Lent.{Sound}
 use Rattle.streams.specs.Lines.{lines}
+use Rattle.expression.specs.Listed.{Listed}
 use Rattle.frames.specs.Digits.{line_length}
 use Rattle.frames.specs.declared.Frame.{Frame}
 use Rattle.reading.specs.declared.Fault.{Fault}
@@ -9,7 +10,7 @@ use Rattle.reading.specs.declared.File.{File}
 use Rattle.reading.specs.declared.Refusal.{Refusal}
 use Rattle.reading.specs.Refusal.{refusal_number}
 use Rattle.reading.specs.Tables.{asks, entries}
-use Rattle.reading.specs.File.{asked}
+use Rattle.reading.specs.File.{IsQuestionOf, asked}
 use Rattle.reading.specs.Judged.{Judged}
 use Rattle.reading.specs.Reading.{Finds, Verdict, sound, frames_of, Reading, Taken}
 use Rattle.reading.specs.Reads.{ReadsFile}
@@ -34,9 +35,9 @@ abbrev pub ReadsOnce : Type 0
 ReadsOnce = (ls : List (List ℕ)) (r q : Result (Unit {0}) Fault) (x y : File)
     → ReadsFile ls r x → ReadsFile ls q y → (r ≡ q) × (x ≡ y)
 
--- the number that refuses a line is one of 4 to 11
+-- the number that refuses a line is one of 4 to 14
 abbrev pub IsListed : ℕ → Type 0
-IsListed number = (4 ≤ number) × (number ≤ 11)
+IsListed number = (4 ≤ number) × (number ≤ 14)
 
 abbrev pub RefusalsListed : Type 0
 RefusalsListed = (r : Refusal) → IsListed (refusal_number r)
@@ -47,13 +48,18 @@ ReadingTaken = (ls : List (List ℕ)) (v : Verdict) → Reading [] ls v → Take
 
 -- where frames were taken, the call of each ask among them passes the library's tests 4 to 8
 abbrev pub TakenAccepted : Type 0
-TakenAccepted = (fs : List Frame) → Taken fs
-    → (k : ℕ) → k < entries asks fs → Sound (asked fs k)
+TakenAccepted = (fs : List Frame) → Taken fs → (q : Listed) → IsQuestionOf fs q
+    → (k : ℕ) → k < entries asks fs → Sound (asked fs q k)
 
 -- and so it does where an input is read whole
 abbrev pub WholeAccepted : Type 0
 WholeAccepted = (input : List ℕ) (fs : List Frame) → Reading [] (lines input) (sound fs)
-    → (k : ℕ) → k < entries asks fs → Sound (asked fs k)
+    → (q : Listed) → IsQuestionOf fs q
+    → (k : ℕ) → k < entries asks fs → Sound (asked fs q k)
+
+-- frames ask at most one question
+abbrev pub QuestionOnce : Type 0
+QuestionOnce = (fs : List Frame) (q r : Listed) → IsQuestionOf fs q → IsQuestionOf fs r → q ≡ r
 
 -- at most 7,186 frames are taken: line 1, the allowance, and as many as the tables have records
 abbrev pub LinesBounded : Type 0

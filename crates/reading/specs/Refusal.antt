@@ -4,7 +4,7 @@ use Rattle.std.specs.Prelude.{ℕ}
 use Rattle.frames.specs.declared.Misread.{Misread}
 use Rattle.frames.specs.declared.Misread.TheVariants as unread
 use Rattle.reading.specs.declared.Refusal.{Refusal}
-use Rattle.reading.specs.declared.Refusal.TheVariants.{BadCount, BadTable, BadNumber, EqualEnds, BadAsk, BadLine, BadFrame, OutOfPlace}
+use Rattle.reading.specs.declared.Refusal.TheVariants.{BadCount, BadTable, BadNumber, EqualEnds, BadAsk, BadLine, BadFrame, OutOfPlace, NoExpression, TooDeep, AnotherShape}
 
 -- the number of each refusal
 abbrev pub refusal_number : Refusal → ℕ
@@ -16,6 +16,9 @@ refusal_number BadAsk = 8
 refusal_number BadLine = 9
 refusal_number BadFrame = 10
 refusal_number OutOfPlace = 11
+refusal_number NoExpression = 12
+refusal_number TooDeep = 13
+refusal_number AnotherShape = 14
 
 -- and of a line that is no frame
 abbrev pub refusal_of : Misread → Refusal

@@ -7,7 +7,7 @@ use Rattle.kinds.specs.Kinds.{state, number_of}
 use Rattle.meaning.specs.Lent.{rule_width, concept_fact_width, role_fact_width, step_width, final_width, most_concept_rules, most_concept_exclusions, most_role_rules, most_role_exclusions, most_concept_facts, most_role_facts, most_steps, most_finals}
 use Rattle.tables.specs.Asks.{ask_width}
 use Rattle.frames.specs.declared.Frame.{Frame}
-use Rattle.frames.specs.declared.Frame.TheVariants.{Declared, ConceptRule, ConceptExclusion, RoleRule, RoleExclusion, ConceptFact, RoleFact, RoleStep, TestStep, Final, Ask, Allowance}
+use Rattle.frames.specs.declared.Frame.TheVariants.{Declared, ConceptRule, ConceptExclusion, RoleRule, RoleExclusion, ConceptFact, RoleFact, RoleStep, TestStep, Final, Ask, Allowance, Expression}
 
 -- the eight tables of a collection, with both kinds of step in one, and the asks
 pub data Kind : Type 0 where
@@ -76,6 +76,12 @@ abbrev pub allowance_given : List Frame → Option ℕ
 allowance_given [] = None
 allowance_given (Allowance n ∷ fs) = Some n
 allowance_given (f ∷ fs) = allowance_given fs
+
+-- the marks of the expression, if one is given
+abbrev pub expression_given : List Frame → Option (List ℕ)
+expression_given [] = None
+expression_given (Expression row ∷ fs) = Some row
+expression_given (f ∷ fs) = expression_given fs
 
 -- the rounds that a file allows: 64 where it does not say
 abbrev pub usual_allowance : ℕ

@@ -1,16 +1,18 @@
 // A frame judged: of its tests, in the order of their numbers, the first that fails refuses it.
-ghost use Rattle.std.specs.Prelude.{◌↔◌, IsTrue};
+ghost use Rattle.std.specs.Prelude.{◌↔◌, ◌≡◌, ◌+◌, All, IsTrue};
+ghost use Rattle.kinds.specs.Kinds.{state};
 ghost use Rattle.reading.specs.Judged.{CountsOk, NumbersOk, EndsDiffer, AskOk};
 ghost use Rattle.reading.specs.File.{IsInPlace, HasShelfRoom};
-ghost use Rattle.reading.specs.Turns.{JudgedBy};
+ghost use Rattle.reading.specs.Turns.{HasNoQuestion, MarkOk, MarksRead, RowJudged, ExpressionJudged, JudgedBy};
 
 use crate::{File, Refusal};
+use expression::{Refusal as Unread, automaton_of, letter};
 use frames::Frame;
 use kinds::Counts;
 
 // 4: what is declared.
-fn counts_ok(frame: Frame) -> bool
-    ensures { IsTrue result ↔ CountsOk frame }
+fn counts_ok(frame: &Frame) -> bool
+    ensures { IsTrue result ↔ CountsOk frame.now }
 {
     match frame {
         Frame::Declared(counts) => counts.fit(),
@@ -18,9 +20,27 @@ fn counts_ok(frame: Frame) -> bool
     }
 }
 
+// What a role mark or a test mark reads is declared.
+fn mark_ok(mark: u8, counts: Counts) -> bool
+    ensures { IsTrue result ↔ MarkOk counts mark }
+{
+    match letter(mark) {
+        Some(letter) => letter.declared(counts),
+        None => true,
+    }
+}
+
+// And so it is of every mark of a row.
+fn marks_ok(row: &[u8], counts: Counts) -> bool
+    ensures { IsTrue result ↔ All (MarkOk counts) row.now }
+{
+    row.iter().all(|mark| mark_ok(*mark, counts))
+}
+
 // 6: the numbers of a record.
-fn numbers_ok(frame: Frame, counts: Counts) -> bool
-    ensures { IsTrue result ↔ NumbersOk counts frame }
+#[tactic(auto, using(crate::proofs::Questions::all_declared))]
+fn numbers_ok(frame: &Frame, counts: Counts) -> bool
+    ensures { IsTrue result ↔ NumbersOk counts frame.now }
 {
     match frame {
         Frame::ConceptRule(c, d) | Frame::ConceptExclusion(c, d) => {
@@ -40,23 +60,24 @@ fn numbers_ok(frame: Frame, counts: Counts) -> bool
             s.declared(counts) && a.declared(counts) && t.declared(counts)
         }
         Frame::Final(s) => s.declared(counts),
+        Frame::Expression(marks) => marks_ok(marks.as_slice(), counts),
         _ => true,
     }
 }
 
 // 7: a role fact's ends.
-fn ends_differ(frame: Frame) -> bool
-    ensures { IsTrue result ↔ EndsDiffer frame }
+fn ends_differ(frame: &Frame) -> bool
+    ensures { IsTrue result ↔ EndsDiffer frame.now }
 {
     match frame {
-        Frame::RoleFact(_, i, j) => i != j,
+        Frame::RoleFact(_, i, j) => *i != *j,
         _ => true,
     }
 }
 
 // 8: an asked individual.
-fn ask_ok(frame: Frame, counts: Counts) -> bool
-    ensures { IsTrue result ↔ AskOk counts frame }
+fn ask_ok(frame: &Frame, counts: Counts) -> bool
+    ensures { IsTrue result ↔ AskOk counts frame.now }
 {
     match frame {
         Frame::Ask(i, j) => i.declared(counts) && j.declared(counts),
@@ -64,21 +85,75 @@ fn ask_ok(frame: Frame, counts: Counts) -> bool
     }
 }
 
+// The role and test marks of a row; or 13, brackets too deep, or 12, no expression.
+fn marks_read(row: &[u8]) -> Result<usize, Refusal>
+    ensures { MarksRead row.now result }
+{
+    match automaton_of(row) {
+        Ok(automaton) => Ok(automaton.states() - 1),
+        Err(Unread::TooDeep) => Err(Refusal::TooDeep),
+        Err(Unread::NoExpression) => Err(Refusal::NoExpression),
+        Err(Unread::TooManyMarks(marks)) => Ok(marks),
+    }
+}
+
+// 14: a state for each mark and one more are declared, and the start is 0.
+fn shape_ok(marks: usize, counts: Counts) -> bool
+    ensures { IsTrue result ↔ (counts.states ≡ marks + 1) × (counts.start ≡ state 0) }
+{
+    0 < counts.states && counts.states as usize - 1 == marks && counts.start.0 == 0
+}
+
+fn row_ok(row: &[u8], counts: Counts) -> Result<(), Refusal>
+    ensures { RowJudged counts row.now result }
+{
+    let marks = match marks_read(row) {
+        Ok(marks) => marks,
+        Err(refusal) => return Err(refusal),
+    };
+    if !shape_ok(marks, counts) {
+        return Err(Refusal::AnotherShape);
+    }
+    Ok(())
+}
+
+// 13, 12 and 14, of an expression.
+fn expression_ok(frame: &Frame, counts: Counts) -> Result<(), Refusal>
+    ensures { ExpressionJudged counts frame.now result }
+{
+    match frame {
+        Frame::Expression(marks) => row_ok(marks.as_slice(), counts),
+        _ => Ok(()),
+    }
+}
+
 impl File {
-    // 11: line 1 declares, and no other line does; one allowance is given at most.
-    fn is_in_place(&self, frame: Frame) -> bool
-        ensures { IsTrue result ↔ IsInPlace self.now frame }
+    // Neither an expression nor a step or a final state is given.
+    fn has_no_question(&self) -> bool
+        ensures { IsTrue result ↔ HasNoQuestion self.now }
+    {
+        self.expression.is_none() && self.steps.is_empty() && self.finals.is_empty()
+    }
+
+    // 11: line 1 declares, and no other line does; one allowance is given at most; and the question is given by one
+    // expression or by steps and final states.
+    fn is_in_place(&self, frame: &Frame) -> bool
+        ensures { IsTrue result ↔ IsInPlace self.now frame.now }
     {
         match frame {
             Frame::Declared(_) => self.lines == 0,
             Frame::Allowance(_) => 0 < self.lines && self.allowance.is_none(),
+            Frame::RoleStep(_, _, _) | Frame::TestStep(_, _, _) | Frame::Final(_) => {
+                0 < self.lines && self.expression.is_none()
+            }
+            Frame::Expression(_) => 0 < self.lines && self.has_no_question(),
             _ => 0 < self.lines,
         }
     }
 
     // 5: whether the table that a frame goes into has room for it.
-    fn has_room(&self, frame: Frame) -> bool
-        ensures { IsTrue result ↔ HasShelfRoom self.now frame }
+    fn has_room(&self, frame: &Frame) -> bool
+        ensures { IsTrue result ↔ HasShelfRoom self.now frame.now }
     {
         match frame {
             Frame::ConceptRule(_, _) => self.concept_rules.has_room(),
@@ -90,12 +165,12 @@ impl File {
             Frame::RoleStep(_, _, _) | Frame::TestStep(_, _, _) => self.steps.has_room(),
             Frame::Final(_) => self.finals.has_room(),
             Frame::Ask(_, _) => self.asks.has_room(),
-            Frame::Declared(_) | Frame::Allowance(_) => true,
+            Frame::Declared(_) | Frame::Allowance(_) | Frame::Expression(_) => true,
         }
     }
 
-    pub(crate) fn judge(&self, frame: Frame) -> Result<(), Refusal>
-        ensures { JudgedBy self.now frame result }
+    pub(crate) fn judge(&self, frame: &Frame) -> Result<(), Refusal>
+        ensures { JudgedBy self.now frame.now result }
     {
         if !self.is_in_place(frame) {
             return Err(Refusal::OutOfPlace);
@@ -115,6 +190,6 @@ impl File {
         if !ask_ok(frame, self.counts) {
             return Err(Refusal::BadAsk);
         }
-        Ok(())
+        expression_ok(frame, self.counts)
     }
 }

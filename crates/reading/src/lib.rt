@@ -7,10 +7,12 @@ ghost use Rattle.tables.specs.Lists.{lists};
 ghost use Rattle.streams.specs.Lines.{lines};
 ghost use Rattle.reading.specs.Refusal.{refusal_number, refusal_of};
 ghost use Rattle.reading.specs.Laws.{IsListed};
-ghost use Rattle.reading.specs.File.{file_of, file_with, allowance_in, lent_tables, HasShelfRoom, IsSmall};
+ghost use Rattle.reading.specs.File.{file_of, file_with, allowance_in, question_by, lent_tables, IsQuestion, HasShelfRoom, IsSmall};
 ghost use Rattle.reading.specs.Reads.{IsRead, ReadsFile, told_at_end};
 ghost use Rattle.reading.specs.Turns.{TakesLine};
 
+use expression::{Automaton, automaton_of};
+use frames::marks::Marks;
 use frames::{Frame, Misread};
 use kinds::{Concept, Counts, Rounds, State};
 use shelf::Shelf;
@@ -50,6 +52,9 @@ pub enum Refusal {
     BadLine,
     BadFrame,
     OutOfPlace,
+    NoExpression,
+    TooDeep,
+    AnotherShape,
 }
 
 // A file's first faulty line, counted from 1, and why it is refused.
@@ -59,7 +64,8 @@ pub struct Fault {
     pub refusal: Refusal,
 }
 
-// What is read of a file: what line 1 declares, the allowance where one is given, the tables, and how many lines were read.
+// What is read of a file: what line 1 declares, the allowance and the expression where they are given, the tables, and how
+// many lines were read.
 #[derive(Drop)]
 pub struct File {
     pub counts: Counts,
@@ -72,6 +78,7 @@ pub struct File {
     pub role_facts: Shelf<RoleFact, { sizes::ROLE_FACTS }>,
     pub steps: Shelf<Step, { sizes::STEPS }>,
     pub finals: Shelf<State, { sizes::FINALS }>,
+    pub expression: Option<Marks>,
     pub asks: Shelf<Ask, { sizes::ASKS }>,
     pub lines: usize,
 }
@@ -90,6 +97,9 @@ impl Refusal {
             Refusal::BadLine => 9,
             Refusal::BadFrame => 10,
             Refusal::OutOfPlace => 11,
+            Refusal::NoExpression => 12,
+            Refusal::TooDeep => 13,
+            Refusal::AnotherShape => 14,
         }
     }
 }
@@ -129,6 +139,7 @@ impl File {
             role_facts: Shelf::new(),
             steps: Shelf::new(),
             finals: Shelf::new(),
+            expression: None,
             asks: Shelf::new(),
             lines: 0,
         }
@@ -148,6 +159,7 @@ impl File {
         self.role_facts.clear();
         self.steps.clear();
         self.finals.clear();
+        self.expression = None;
         self.asks.clear();
         self.lines = 0;
     }
@@ -159,10 +171,40 @@ impl File {
         self.allowance.unwrap_or(ALLOWANCE)
     }
 
-    // What a call of the library is lent.
-    pub fn collection(&self) -> Collection<'_>
+    // The automaton of the expression, where one is given: by it what was read asks its question.
+    pub fn automaton(&self) -> Option<Automaton>
+        ensures { IsRead self.now → IsQuestion self.now (question_by self.now result) }
+    {
+        match &self.expression {
+            Some(marks) => automaton_of(marks.as_slice()).ok(),
+            None => None,
+        }
+    }
+
+    // The steps of the question, by that automaton or as they were typed.
+    fn steps<'a>(&'a self, automaton: &'a Option<Automaton>) -> Table<'a, Step>
+        ensures { result.numbers.now ≡ (question_by self.now automaton.now).steps }
+    {
+        match automaton {
+            Some(automaton) => automaton.steps(),
+            None => self.steps.table(),
+        }
+    }
+
+    // And its final states.
+    fn finals<'a>(&'a self, automaton: &'a Option<Automaton>) -> Table<'a, State>
+        ensures { result.numbers.now ≡ (question_by self.now automaton.now).finals }
+    {
+        match automaton {
+            Some(automaton) => automaton.finals(),
+            None => self.finals.table(),
+        }
+    }
+
+    // What a call of the library is lent, with the file's own automaton.
+    pub fn collection<'a>(&'a self, automaton: &'a Option<Automaton>) -> Collection<'a>
         ensures counts { result.counts ≡ self.now.counts }
-        ensures tables { lists result ≡ lent_tables self.now }
+        ensures tables { lists result ≡ lent_tables self.now (question_by self.now automaton.now) }
     {
         Collection {
             counts: self.counts,
@@ -172,8 +214,8 @@ impl File {
             role_exclusions: self.role_exclusions.table(),
             concept_facts: self.concept_facts.table(),
             role_facts: self.role_facts.table(),
-            steps: self.steps.table(),
-            finals: self.finals.table(),
+            steps: self.steps(automaton),
+            finals: self.finals(automaton),
         }
     }
 
@@ -204,6 +246,7 @@ impl File {
             Frame::Final(s) => self.finals.push(&[s.0]),
             Frame::Ask(i, j) => self.asks.push(&[i.0, j.0]),
             Frame::Allowance(rounds) => self.allowance = Some(rounds),
+            Frame::Expression(marks) => self.expression = Some(marks),
         }
         self.lines += 1;
     }
@@ -214,7 +257,7 @@ impl File {
         ensures { TakesLine self.old line.now result self.new }
     {
         let frame = frames::read(line)?;
-        self.judge(frame)?;
+        self.judge(&frame)?;
         self.keep(frame);
         Ok(())
     }

@@ -39,6 +39,12 @@ impl<R: Record, const N: usize> Shelf<R, N> {
         self.used = 0;
     }
 
+    pub(crate) fn is_empty(&self) -> bool
+        ensures { IsTrue result ↔ (self.now ≡ []) }
+    {
+        self.used == 0
+    }
+
     // Whether one more record goes in.
     pub(crate) fn has_room(&self) -> bool
         ensures { IsTrue result ↔ (length self.now + R.WIDTH ≤ N) }

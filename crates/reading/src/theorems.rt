@@ -1,6 +1,7 @@
 // Laws of reading a file. The functions here have nothing to do: each clause is a law.
 ghost use Rattle.reading.specs.Laws.{JudgedOnce, FindsOnce, ReadingOnce, ReadsOnce};
 ghost use Rattle.reading.specs.Laws.{RefusalsListed, ReadingTaken, TakenAccepted, WholeAccepted};
+ghost use Rattle.reading.specs.Laws.{QuestionOnce};
 ghost use Rattle.reading.specs.Laws.{LinesBounded, StartAlike, StartDecides};
 
 // What is found is one thing.
@@ -9,6 +10,7 @@ pub fn once()
     ensures finds { FindsOnce }
     ensures reading { ReadingOnce }
     ensures reads { ReadsOnce }
+    ensures question { QuestionOnce }
 {}
 
 // What is refused has one of the listed numbers; what is taken, the library does not refuse.

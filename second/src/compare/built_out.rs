@@ -1,10 +1,12 @@
 //! Part (d) of the comparison: modules `library` and `desk` against the built-out model, on small collections.
 
 use super::dice::Dice;
+use super::expressions::{self, expressed};
 use super::generate::{small, Asked};
 use super::parts::{Difference, Outcome};
 use super::tally::Tally;
 use super::{shown, text};
+use crate::collection::Collection;
 use crate::desk::desk;
 use crate::library::{ask, Call};
 use crate::model::{known::Known, letter, Answer, Model, TooLarge};
@@ -24,6 +26,7 @@ struct Said {
 
 pub fn model_part(mut dice: Dice, tally: &mut Tally) -> Outcome {
     let asked = small(&mut dice);
+    let asked = expressed(&mut dice, asked, 5);
     let allowance = asked.allowance.unwrap_or(64);
     let known = Known::of(&asked.collection);
     let Ok(said) = say(&asked, &known, allowance) else {
@@ -31,10 +34,19 @@ pub fn model_part(mut dice: Dice, tally: &mut Tally) -> Outcome {
         return Ok(());
     };
     count(&said, tally);
+    if asked.expression.is_some() {
+        tally.kind("with an expression");
+        if said.answers.iter().any(|answer| answer.0 == 1) {
+            tally.kind("with an expression and a yes");
+        }
+    }
     let lines = text::lines(&mut dice, &asked);
     let input = text::input(&mut dice, &lines);
     let differs = |(expected, found): (String, String)| Difference { input: input.clone(), expected, found };
     library_agrees(&asked, allowance, &said).map_err(differs)?;
+    if let Some(marks) = &asked.expression {
+        expressions::agrees(marks, &asked.collection, &said.answers).map_err(differs)?;
+    }
     let expected = desk_lines(&asked, &input, &said);
     let found = String::from_utf8_lossy(&desk(&input)).into_owned();
     if expected != found {
@@ -70,6 +82,14 @@ fn say(asked: &Asked, known: &Known, allowance: u16) -> Result<Said, TooLarge> {
     let area = (!model.is_contradiction()).then(|| sheets[worked].clone());
     let marks_agree = marks(&model) == sheets[needed];
     Ok(Said { answers, area, depth: model.depth, marks_agree })
+}
+
+/// What the model answers to every pair of a collection.
+pub fn questioned(collection: &Collection) -> Result<Vec<Answer>, TooLarge> {
+    let known = Known::of(collection);
+    let model = Model::of(&known)?;
+    let answers = collection.counts.all_individuals().map(|first| model.answers(first));
+    Ok(answers.collect::<Result<Vec<_>, TooLarge>>()?.concat())
 }
 
 fn marks(model: &Model) -> Vec<u8> {

@@ -1,7 +1,9 @@
 //! Faulty files for the desk: each refusal, and lines on which several refusals stand at once.
 
 use super::dice::Dice;
+use super::expressions::expressed;
 use super::generate::small;
+use super::marks::damaged_expression;
 use super::text::{self, line};
 use crate::collection::Counts;
 
@@ -18,6 +20,7 @@ pub fn damaged(dice: &mut Dice) -> Damaged {
         return tiny(dice);
     }
     let mut damaged = match dice.between(4, 11) {
+        _ if dice.percent(35) => damaged_expression(dice),
         4 => bad_counts(dice),
         5 => one_too_many(dice),
         11 => bad_place(dice),
@@ -48,6 +51,13 @@ fn tiny(dice: &mut Dice) -> Damaged {
 
 fn sound_lines(dice: &mut Dice) -> (Counts, Vec<Vec<u8>>) {
     let asked = small(dice);
+    let asked = expressed(dice, asked, 5);
+    (asked.collection.counts, text::lines(dice, &asked))
+}
+
+/// The same without an expression, so that any other frame may follow.
+fn plain_lines(dice: &mut Dice) -> (Counts, Vec<Vec<u8>>) {
+    let asked = small(dice);
     (asked.collection.counts, text::lines(dice, &asked))
 }
 
@@ -61,7 +71,7 @@ fn pick_bad_line(dice: &mut Dice) -> (Vec<u8>, Vec<u8>) {
 
 /// 9, 10, 6, 7 and 8 need one line only.
 fn one_bad_line(dice: &mut Dice, number: u8) -> Damaged {
-    let (counts, mut lines) = sound_lines(dice);
+    let (counts, mut lines) = if number == 6 { plain_lines(dice) } else { sound_lines(dice) };
     let (bad, mut also) = match number {
         9 => bad_characters(dice),
         10 => bad_frame(dice),
@@ -118,7 +128,7 @@ const LENGTHS: [usize; 13] = [0, 6, 3, 3, 3, 3, 3, 4, 4, 4, 2, 3, 3];
 fn bad_frame(dice: &mut Dice) -> (Vec<u8>, Vec<u8>) {
     let unknown = dice.percent(40);
     let kind =
-        if unknown { dice.pick(&[0, 0x0D, 0x0E, 0x10, 0x1A, 0x81, 0x8B, 0xFF]) } else { dice.between(1, 12) };
+        if unknown { dice.pick(&[0, 0x0E, 0x0F, 0x10, 0x1A, 0x81, 0x8B, 0xFF]) } else { dice.between(1, 12) };
     let length = loop {
         let length = dice.pick(&[1, 2, 3, 4, 5, 6, 7, 8, 31, 32]);
         if unknown || length != LENGTHS[kind] {

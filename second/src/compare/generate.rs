@@ -10,6 +10,8 @@ pub struct Asked {
     pub collection: Collection,
     pub asks: Vec<(Individual, Individual)>,
     pub allowance: Option<u16>,
+    /// The marks of a question typed as an expression; the steps and finals are then its automaton's.
+    pub expression: Option<Vec<u8>>,
 }
 
 /// Few enough elements for the built-out model, dense enough that all four answers are frequent.
@@ -44,7 +46,7 @@ pub fn small(dice: &mut Dice) -> Asked {
     }
     let allowance = if dice.percent(40) { None } else { Some(dice.below(5) as u16) };
     let asks = all_pairs(&collection);
-    Asked { collection, asks, allowance }
+    Asked { collection, asks, allowance, expression: None }
 }
 
 /// Most contradictions here are two roles or more below the individuals.
@@ -59,7 +61,7 @@ fn deep_clash(dice: &mut Dice) -> Asked {
         exclusion_below(dice, &mut collection, deep, Concept(1));
     }
     let asks = all_pairs(&collection);
-    Asked { collection, asks, allowance: Some(dice.below(5) as u16) }
+    Asked { collection, asks, allowance: Some(dice.below(5) as u16), expression: None }
 }
 
 fn small_rings(dice: &mut Dice) -> Asked {
@@ -90,7 +92,7 @@ pub fn medium(dice: &mut Dice) -> Asked {
     }
     let allowance = if dice.percent(60) { None } else { Some(dice.below(20) as u16) };
     let asks = some_pairs(dice, &collection, 40);
-    Asked { collection, asks, allowance }
+    Asked { collection, asks, allowance, expression: None }
 }
 
 /// Every table at its most. Layered rules leave differences between concepts; dense ones make most of them equal.
@@ -127,7 +129,7 @@ pub fn full(dice: &mut Dice) -> Asked {
     repeat_to_the_most(dice, &mut collection);
     let allowance = if dice.percent(80) { None } else { Some(dice.below(4) as u16) };
     let asks = some_pairs(dice, &collection, 256);
-    Asked { collection, asks, allowance }
+    Asked { collection, asks, allowance, expression: None }
 }
 
 /// Full tables that need more than a thousand rounds.
@@ -140,7 +142,7 @@ fn full_rings(dice: &mut Dice) -> Asked {
     harmless_exclusions(dice, &mut collection, 512, 128);
     repeat_to_the_most(dice, &mut collection);
     let asks = some_pairs(dice, &collection, 256);
-    Asked { collection, asks, allowance }
+    Asked { collection, asks, allowance, expression: None }
 }
 
 /// A ring of children under one wider role, walked down in one ring of states and up in another:
@@ -177,7 +179,7 @@ pub fn many_rounds(dice: &mut Dice, down: usize, up: usize, ring: usize) -> Aske
         _ => Some(0xFFFF),
     };
     let asks = all_pairs(&collection);
-    Asked { collection, asks, allowance }
+    Asked { collection, asks, allowance, expression: None }
 }
 
 fn counts(

@@ -1,12 +1,14 @@
-//! `second compare`: thousands of cases from a seed, four parts, a histogram of what was hit, and the count at the end.
+//! `second compare`: thousands of cases from a seed, five parts, a histogram of what was hit, and the count at the end.
 
 mod built_out;
 mod calls;
 mod child;
 mod damage;
 mod dice;
+pub mod expressions;
 mod generate;
 mod long;
+mod marks;
 mod parts;
 pub mod protocol;
 mod rows;
@@ -15,6 +17,7 @@ mod shown;
 mod tally;
 mod text;
 mod throw;
+mod typed;
 
 use child::{Driver, Words};
 use dice::Dice;
@@ -42,7 +45,14 @@ const DESK: u64 = 1;
 const LIBRARY: u64 = 2;
 const MODEL: u64 = 3;
 const ROWS: u64 = 4;
+const TYPED: u64 = 5;
 const MOST_SHOWN: u64 = 5;
+
+/// What the desk program can answer with, in an answer or a refusal.
+pub const DESK_NUMBERS: [u8; 15] = [0, 1, 2, 3, 4, 5, 6, 7, 8, 9, 10, 11, 12, 13, 14];
+
+/// What the library can answer a pair with.
+const ANSWERS: [u8; 9] = [0, 1, 2, 3, 4, 5, 6, 7, 8];
 
 /// How many passed and how many failed.
 pub fn compare(options: &Options) -> (u64, u64) {
@@ -53,14 +63,16 @@ pub fn compare(options: &Options) -> (u64, u64) {
         None => println!("  skipped: no --desk command was given"),
         Some(words) => {
             let work = || |dice, tally: &mut Tally| parts::desk_part(&words, dice, tally);
-            judge(&mut total, run(options, DESK, work), &[0, 1, 2, 3, 4, 5, 6, 7, 8, 9, 10, 11], &[]);
+            judge(&mut total, run(options, DESK, work), &DESK_NUMBERS, &[]);
         }
     }
     println!("b. the library through its C boundary against module library, with both areas");
-    through_drivers(options, &mut total, LIBRARY, parts::library_part, &[]);
+    through_drivers(options, &mut total, (LIBRARY, &ANSWERS, &[]), parts::library_part);
     println!("c. rows of pairs, likewise, with the entries of each row");
-    through_drivers(options, &mut total, ROWS, parts::row_part, &rows::MET);
-    println!("d. modules library and desk against the built-out model, on small collections");
+    through_drivers(options, &mut total, (ROWS, &ANSWERS, &rows::MET), parts::row_part);
+    println!("d. the tables made of an expression, likewise, with the rows they are put into");
+    through_drivers(options, &mut total, (TYPED, &typed::NUMBERS, &typed::MET), parts::typed_part);
+    println!("e. modules library and desk against the built-out model, on small collections");
     let work = || |dice, tally: &mut Tally| built_out::model_part(dice, tally);
     judge(&mut total, run(options, MODEL, work), &[0, 1, 2, 3], &[]);
     total
@@ -69,14 +81,12 @@ pub fn compare(options: &Options) -> (u64, u64) {
 /// One case put to a library driver.
 type DriverCase = fn(&mut Driver, Dice, &mut Tally) -> Outcome;
 
+/// A part's number, and what must be hit often enough in it: numbers, and what a row can be.
+type Part<'a> = (u64, &'a [u8], &'a [&'static str]);
+
 /// A part in which library drivers answer, each thread with one of its own.
-fn through_drivers(
-    options: &Options,
-    total: &mut (u64, u64),
-    part: u64,
-    case: DriverCase,
-    rows: &[&'static str],
-) {
+fn through_drivers(options: &Options, total: &mut (u64, u64), part: Part, case: DriverCase) {
+    let (part, numbers, rows) = part;
     let Some(words) = options.library.as_deref().and_then(Words::of) else {
         println!("  skipped: no --library command was given");
         return;
@@ -87,7 +97,7 @@ fn through_drivers(
         let start = || Driver::start(&words, &ended_badly);
         move |dice, tally: &mut Tally| with_driver(start, &mut driver, |ready| case(ready, dice, tally))
     };
-    judge(total, run(options, part, work), &[0, 1, 2, 3, 4, 5, 6, 7, 8], rows);
+    judge(total, run(options, part, work), numbers, rows);
     let ended_badly = ended_badly.into_inner();
     if ended_badly > 0 {
         println!("  FAILED: {ended_badly} library drivers ended with another exit status than 0");

@@ -4,12 +4,14 @@ use super::calls::{lent, some_many_rounds, Asks, Lent};
 use super::child::{run_desk, Driver, Words};
 use super::damage::{damaged, Damaged};
 use super::dice::Dice;
+use super::expressions::{expressed, MOST_MARKS};
 use super::generate::{full, medium, small, Asked};
 use super::long::long;
 use super::protocol;
 use super::rows::{met, row_lent};
 use super::tally::Tally;
 use super::text;
+use super::typed::{self, typed};
 use crate::desk::desk;
 use crate::library::ask;
 use std::collections::BTreeSet;
@@ -27,17 +29,22 @@ pub type Outcome = Result<(), Difference>;
 fn desk_case(dice: &mut Dice, tally: &mut Tally) -> (Vec<u8>, Option<Damaged>) {
     type Make = fn(&mut Dice) -> Asked;
     let (kind, sound): (&str, Option<Make>) = match dice.below(1_000) {
-        0..=405 => ("small", Some(small)),
-        406..=475 => ("medium", Some(medium)),
-        476..=495 => ("full", Some(full)),
+        0..=345 => ("small", Some(small)),
+        346..=415 => ("medium", Some(medium)),
+        416..=435 => ("full", Some(full)),
         // few, since under an emulator each takes seconds
-        496..=499 => ("many rounds", Some(some_many_rounds)),
-        500..=514 => ("long", None),
+        436..=439 => ("many rounds", Some(some_many_rounds)),
+        440..=454 => ("long", None),
         _ => ("damaged", None),
     };
     tally.kind(kind);
     if let Some(make) = sound {
         let asked = make(dice);
+        let marks = if kind == "small" { 6 } else { MOST_MARKS };
+        let asked = expressed(dice, asked, marks);
+        if asked.expression.is_some() {
+            tally.kind("with an expression");
+        }
         let lines = text::lines(dice, &asked);
         return (text::input(dice, &lines), None);
     }
@@ -133,6 +140,24 @@ pub fn row_part(driver: &mut Driver, mut dice: Dice, tally: &mut Tally) -> Outco
         }
         _ => replies(driver, request, expected),
     }
+}
+
+/// Part (d): the tables of an expression, likewise: the number and three counts, both rows and what lies behind them.
+pub fn typed_part(driver: &mut Driver, mut dice: Dice, tally: &mut Tally) -> Outcome {
+    let typed = typed(&mut dice);
+    tally.kind(typed.kind);
+    let (made, expected) = protocol::answer_expression(&typed);
+    let number = made.as_ref().err().copied().unwrap_or(0);
+    tally.number(number);
+    typed::met(&typed, made.as_ref().ok()).into_iter().for_each(|what| tally.row(what));
+    let request = protocol::request_expression(&typed);
+    if let Some(planted) = typed.planted.filter(|planted| *planted != number) {
+        let found = format!("module library itself: {number}");
+        return Err(Difference { input: request.into_bytes(), expected: format!("number {planted}"), found });
+    }
+    let stand = typed::stand(&typed);
+    stand.iter().filter(|also| **also != number).for_each(|also| tally.order(number, *also));
+    replies(driver, request, expected)
 }
 
 fn replies(driver: &mut Driver, request: String, expected: String) -> Outcome {

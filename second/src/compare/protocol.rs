@@ -1,7 +1,8 @@
 //! The line protocol of PROTOCOL.md: one library call per line in hexadecimal, one line back.
 
 use super::calls::{Asks, Lent, Row};
-use crate::library::{ask, ask_all, Call};
+use super::typed::Typed;
+use crate::library::{ask, ask_all, made_of, Call, Made};
 
 /// Bytes behind each area that the call must not touch; they are filled with the complement of the area's fill. So it is
 /// behind the entries of a row.
@@ -13,8 +14,23 @@ pub const MOST_AREA: usize = 65_536;
 /// The most entries that are lent for a row's numbers, and for its counts.
 pub const MOST_ENTRIES: usize = 1_024;
 
+/// The most numbers that are lent for steps, and for finals.
+pub const MOST_MADE: usize = 4_096;
+
 /// A line that asks for a row begins with it; it is no digit.
 const ROW: char = 'R';
+
+/// Likewise a line that asks for the tables of an expression.
+const EXPRESSION: char = 'M';
+
+/// The reply line to any line.
+pub fn reply(line: &str) -> String {
+    let replied = match line.strip_prefix(EXPRESSION) {
+        Some(digits) => read_expression(digits).map(|typed| answer_expression(&typed).1),
+        None => read_request(line).map(|lent| answer(&lent).1),
+    };
+    replied.unwrap_or("!".to_string())
+}
 
 pub fn request(lent: &Lent) -> String {
     let call = &lent.call;
@@ -122,6 +138,41 @@ fn told(row: &Row, answers: Option<&[(u8, u16)]>) -> String {
     let numbers: String = numbers.iter().map(|number| format!("{number:02X}")).collect();
     let behind = hash(&[!row.fill; GUARD]);
     format!("{:02X}{numbers}{behind:016X}{}{behind:016X}", u8::from(answers.is_some()), digits(&counts))
+}
+
+pub fn request_expression(typed: &Typed) -> String {
+    let marks: String = typed.marks.iter().map(|mark| format!("{mark:02X}")).collect();
+    let (many, [steps, finals]) = (typed.marks.len(), typed.rows);
+    format!("{EXPRESSION}{many:04X}{marks}{steps:04X}{finals:04X}{:02X}", typed.fill)
+}
+
+/// What stands behind the letter; None when the line isn't a request.
+fn read_expression(mut digits: &str) -> Option<Typed> {
+    let many = take(&mut digits, 4)?;
+    let marks = (0..many).map(|_| Some(take(&mut digits, 2)? as u8)).collect::<Option<_>>()?;
+    let rows = take_numbers(&mut digits)?.map(usize::from);
+    let fill = take(&mut digits, 2)? as u8;
+    let fits = digits.is_empty() && rows.iter().all(|numbers| *numbers <= MOST_MADE);
+    fits.then_some(Typed { kind: "", marks, rows, fill, planted: None })
+}
+
+/// What module `library` makes of the marks, and the reply line. Without tables all is as it was before the call.
+pub fn answer_expression(typed: &Typed) -> (Result<Made, u8>, String) {
+    let made = made_of(&typed.marks, typed.rows);
+    let mut rows = typed.rows.map(|numbers| vec![u16::from_le_bytes([typed.fill; 2]); numbers]);
+    let mut told = [0xFFFF; 3];
+    if let Ok(made) = &made {
+        for (row, table) in rows.iter_mut().zip(&made.tables) {
+            row[..table.len()].copy_from_slice(table);
+        }
+        told = [made.states, made.tables[0].len() as u16, made.tables[1].len() as u16];
+    }
+    let number = made.as_ref().err().copied().unwrap_or(0);
+    let [steps, finals] =
+        rows.map(|row| hash(&row.into_iter().flat_map(u16::to_le_bytes).collect::<Vec<u8>>()));
+    let behind = hash(&[!typed.fill; GUARD]);
+    let told = digits(&told);
+    (made, format!("{number:02X}{told}{steps:016X}{finals:016X}{behind:016X}{behind:016X}"))
 }
 
 /// FNV-1a with 64 bits.

@@ -47,7 +47,7 @@ impl Tally {
         *self.orders.entry((given, also)).or_default() += 1;
     }
 
-    /// Something that a row of pairs was, once for a case.
+    /// Something that a row of pairs or of marks was, once for a case.
     pub fn row(&mut self, met: &'static str) {
         *self.rows.entry(met).or_default() += 1;
     }

@@ -26,13 +26,7 @@ pub fn lines(dice: &mut Dice, asked: &Asked) -> Vec<Vec<u8>> {
     for (role, first, second) in &collection.role_facts {
         lines.push(line(&[0x07, role.0 / 2, first.0, second.0]));
     }
-    for step in &collection.steps {
-        lines.push(match *step {
-            Step::Role { from, role, to } => line(&[0x08, from.0, role.0, to.0]),
-            Step::Test { from, name, to } => line(&[0x09, from.0, name.0, to.0]),
-        });
-    }
-    lines.extend(collection.finals.iter().map(|state| line(&[0x0A, state.0])));
+    lines.extend(question(asked));
     lines.extend(asked.asks.iter().map(|(first, second)| line(&[0x0B, first.0, second.0])));
     lines.extend(asked.allowance.map(|rounds| line(&[0x0C, (rounds >> 8) as u8, rounds as u8])));
     dice.shuffle(&mut lines);
@@ -40,6 +34,19 @@ pub fn lines(dice: &mut Dice, asked: &Asked) -> Vec<Vec<u8>> {
     lines
         .insert(0, line(&[1, counts.names, counts.roles, counts.individuals, counts.states, counts.start.0]));
     lines
+}
+
+/// The steps and finals, or the expression that they are made of.
+fn question(asked: &Asked) -> Vec<Vec<u8>> {
+    if let Some(marks) = &asked.expression {
+        return vec![line(&[&[0x0D], &marks[..]].concat())];
+    }
+    let step = |step: &Step| match *step {
+        Step::Role { from, role, to } => line(&[0x08, from.0, role.0, to.0]),
+        Step::Test { from, name, to } => line(&[0x09, from.0, name.0, to.0]),
+    };
+    let finals = asked.collection.finals.iter().map(|state| line(&[0x0A, state.0]));
+    asked.collection.steps.iter().map(step).chain(finals).collect()
 }
 
 /// A frame's bytes as capital hexadecimal.

@@ -1,20 +1,37 @@
 //! One line of the desk's input: its characters (number 9) and its frame (number 10).
 
 /// A frame with its own numbers, as written; nothing is tested against the declared counts yet.
-#[derive(Clone, Copy, Debug, PartialEq, Eq)]
+#[derive(Clone, Debug, PartialEq, Eq)]
 pub enum Frame {
     Counts([u8; 5]),
     ConceptRule(u8, u8),
     ConceptExclusion(u8, u8),
     RoleRule(u8, u8),
     RoleExclusion(u8, u8),
-    ConceptFact { name: u8, who: u8 },
-    RoleFact { role: u8, first: u8, second: u8 },
-    RoleStep { from: u8, role: u8, to: u8 },
-    TestStep { from: u8, name: u8, to: u8 },
+    ConceptFact {
+        name: u8,
+        who: u8,
+    },
+    RoleFact {
+        role: u8,
+        first: u8,
+        second: u8,
+    },
+    RoleStep {
+        from: u8,
+        role: u8,
+        to: u8,
+    },
+    TestStep {
+        from: u8,
+        name: u8,
+        to: u8,
+    },
     Final(u8),
     Ask(u8, u8),
     Allowance(u16),
+    /// The marks of an expression; no number of them is the wrong length.
+    Expression(Vec<u8>),
 }
 
 const MOST_CHARACTERS: usize = 64;
@@ -56,6 +73,7 @@ fn shaped(bytes: &[u8]) -> Option<Frame> {
         [0x0A, state] => Frame::Final(state),
         [0x0B, first, second] => Frame::Ask(first, second),
         [0x0C, high, low] => Frame::Allowance(u16::from_be_bytes([high, low])),
+        [0x0D, ref marks @ ..] => Frame::Expression(marks.to_vec()),
         _ => return None,
     })
 }

@@ -1,6 +1,7 @@
 //! The desk: whole input to whole output, as docs/RULES.md says in section 8.
 
 pub mod frame;
+pub mod question;
 pub mod read;
 
 use crate::prepared::Prepared;

@@ -1,7 +1,8 @@
 //! The desk's reader: line after line into a collection with its asks, or the first faulty line.
 
 use super::frame::{frame, Frame};
-use crate::collection::{Collection, Counts, Step};
+use super::question::{expression, question, Typed};
+use crate::collection::{Collection, Counts};
 use crate::numbers::Individual;
 
 /// The allowance where the file has no frame 0C.
@@ -14,6 +15,8 @@ pub struct File {
     pub collection: Collection,
     pub asks: Vec<(Individual, Individual)>,
     pub allowance: Option<u16>,
+    /// Where the question is typed as an expression; its steps and finals are in the collection.
+    pub expression: Option<Typed>,
     pub lines: Lines,
 }
 
@@ -71,10 +74,11 @@ fn begin(numbers: [u8; 5]) -> Result<File, u8> {
     let [names, roles, individuals, states, start] = numbers.map(u16::from);
     let counts = Counts::new(names, roles, individuals, states, start).ok_or(4)?;
     let collection = Collection::empty(counts);
-    Ok(File { collection, asks: Vec::new(), allowance: None, lines: Lines::default() })
+    let (asks, lines) = (Vec::new(), Lines::default());
+    Ok(File { collection, asks, allowance: None, expression: None, lines })
 }
 
-/// One frame after the first: 11, then 5, 6, 7, 8 as its kind can have them.
+/// One frame after the first: 11, then 5, 6, 7, 8, 13, 12, 14 as its kind can have them.
 fn take(file: &mut File, frame: Frame, at: usize) -> Result<(), u8> {
     match frame {
         Frame::Counts(_) => Err(11),
@@ -88,11 +92,12 @@ fn take(file: &mut File, frame: Frame, at: usize) -> Result<(), u8> {
         Frame::RoleRule(..) | Frame::RoleExclusion(..) => role_pair(file, frame, at),
         Frame::ConceptFact { .. } | Frame::RoleFact { .. } => fact(file, frame, at),
         Frame::RoleStep { .. } | Frame::TestStep { .. } | Frame::Final(_) => question(file, frame, at),
+        Frame::Expression(marks) => expression(file, marks, at),
     }
 }
 
 /// Puts a record into its table: 5 when there is no room for it, else 6 when a number in it isn't declared.
-fn put<T>(
+pub fn put<T>(
     table: &mut Vec<T>,
     lines: &mut Vec<usize>,
     most: usize,
@@ -171,27 +176,4 @@ fn fact(file: &mut File, frame: Frame, at: usize) -> Result<(), u8> {
         }
         _ => unreachable!("only facts come here"),
     }
-}
-
-fn question(file: &mut File, frame: Frame, at: usize) -> Result<(), u8> {
-    let (collection, lines) = (&mut file.collection, &mut file.lines);
-    let counts = &collection.counts;
-    let ends = |from: u8, to: u8| counts.state(from.into()).zip(counts.state(to.into()));
-    let step = match frame {
-        Frame::Final(state) => {
-            let record = counts.state(state.into());
-            return put(&mut collection.finals, &mut lines.finals, 16, at, record);
-        }
-        Frame::RoleStep { from, role, to } => {
-            let read = ends(from, to).zip(counts.signed_role(role.into()));
-            read.map(|((from, to), role)| Step::Role { from, role, to })
-        }
-        Frame::TestStep { from, name, to } => {
-            let read = ends(from, to).zip(counts.name(name.into()));
-            read.map(|((from, to), name)| Step::Test { from, name, to })
-        }
-        _ => unreachable!("only steps and finals come here"),
-    };
-    // Role steps and test steps stand in one table and share its room.
-    put(&mut collection.steps, &mut lines.steps, 512, at, step)
 }

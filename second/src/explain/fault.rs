@@ -2,6 +2,7 @@
 
 use crate::desk::frame::{frame, Frame};
 use crate::desk::read::{lines, Fault};
+use crate::expression::{read, Letter};
 
 pub struct Faulty {
     pub fault: Fault,
@@ -30,6 +31,9 @@ fn reason(input: &[u8], line: &[u8], fault: Fault) -> String {
         5 => too_many(line),
         6 => undeclared(input, line),
         7 => "a role fact with equal ends: it must join two different individuals".to_string(),
+        12 => no_expression(line),
+        13 => too_deep(line),
+        14 => other_states(input, line),
         _ => undeclared(input, line),
     }
 }
@@ -85,7 +89,9 @@ fn place(line: &[u8], at: usize) -> String {
     match (at, frame(line)) {
         (1, _) => "frame 01 is missing from line 1".to_string(),
         (_, Ok(Frame::Counts(_))) => "frame 01 is given again".to_string(),
-        _ => "a second frame 0C".to_string(),
+        (_, Ok(Frame::Allowance(_))) => "a second frame 0C".to_string(),
+        (_, Ok(Frame::Expression(_))) => "a second frame 0D, or one after a frame 08, 09 or 0A".to_string(),
+        _ => "a frame 08, 09 or 0A after a frame 0D".to_string(),
     }
 }
 
@@ -139,8 +145,45 @@ fn undeclared(input: &[u8], line: &[u8]) -> String {
         Ok(Frame::TestStep { from, name: a, to }) => vec![state(from), name(a), state(to)],
         Ok(Frame::Final(a)) => vec![state(a)],
         Ok(Frame::Ask(first, second)) => vec![person(first), person(second)],
+        Ok(Frame::Expression(marks)) => {
+            let letters = marks.iter().filter_map(|mark| Letter::of(*mark));
+            letters
+                .map(|letter| match letter {
+                    Letter::Role(role) => signed(role.0),
+                    Letter::Test(tested) => name(tested.0),
+                })
+                .collect()
+        }
         _ => Vec::new(),
     };
     let wrong: Vec<String> = wrong.into_iter().flatten().collect();
     format!("not declared: {}", wrong.join(", "))
+}
+
+fn marks_of(line: &[u8]) -> Vec<u8> {
+    match frame(line) {
+        Ok(Frame::Expression(marks)) => marks,
+        _ => Vec::new(),
+    }
+}
+
+fn no_expression(line: &[u8]) -> String {
+    match read::expression(&marks_of(line)) {
+        Err(misplaced) if misplaced.mark == 0 => format!("no expression: {}", misplaced.why),
+        Err(misplaced) => format!("no expression, at mark {}: {}", misplaced.mark, misplaced.why),
+        Ok(_) => String::new(),
+    }
+}
+
+fn too_deep(line: &[u8]) -> String {
+    let mark = read::too_deep(&marks_of(line)).unwrap_or(0);
+    format!("at mark {mark} opened less closed brackets pass {}", read::MOST_OPEN)
+}
+
+fn other_states(input: &[u8], line: &[u8]) -> String {
+    let first = lines(input).next().map(frame);
+    let Some(Ok(Frame::Counts([.., states, start]))) = first else { return String::new() };
+    let marks = marks_of(line).into_iter().filter(|mark| Letter::of(*mark).is_some()).count();
+    let needed = marks + 1;
+    format!("of {marks} role and test marks there are {needed} states and the start is 0; line 1 has states {states}, start {start}")
 }

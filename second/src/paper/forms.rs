@@ -1,7 +1,7 @@
 //! The empty forms of the steps: what is known before the work stands there, and the rest is left to the pencil.
 
 use super::words::Words;
-use super::{asks, exclusions, orders, records, rounds, tree, ways};
+use super::{asks, exclusions, orders, question, records, rounds, tree, ways};
 use crate::explain::Explanation;
 
 /// Every form with its title, in the order of the work.
@@ -26,6 +26,9 @@ pub const FORMS: [(&str, &str); 14] = [
 pub fn form(block: &str, input: &[u8], explained: &Explanation, words: &Words) -> Option<String> {
     Some(match block {
         "records" => records::records_form(input),
+        "marks" => question::marks_form(explained),
+        "places" => question::places_form(explained),
+        "automaton" => question::automaton_form(explained),
         "numbers" => orders::numbers_form(explained, words),
         "orders" => orders::orders_form(explained, words),
         "people" => orders::people_form(explained),

@@ -6,6 +6,7 @@ mod exclusions;
 mod figures;
 mod forms;
 mod orders;
+mod question;
 mod records;
 mod rounds;
 mod table;
@@ -23,6 +24,9 @@ pub fn block(name: &str, input: &[u8], explained: &Explanation, words: &Words) -
     }
     Some(match name {
         "records" => records::records(input, words),
+        "marks" => question::marks(explained, words),
+        "places" => question::places(explained, words),
+        "automaton" => question::automaton(explained, words),
         "numbers" => orders::numbers(explained, words),
         "orders" => orders::orders(explained, words),
         "people" => orders::people(explained, words),

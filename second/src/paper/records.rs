@@ -72,6 +72,7 @@ fn in_words(line: &[u8], words: &Words) -> String {
         Ok(Frame::Final(state)) => format!("state {state} is final"),
         Ok(Frame::Ask(first, second)) => format!("ask {}", pair(Individual(first), Individual(second))),
         Ok(Frame::Allowance(rounds)) => format!("allowance of rounds {rounds}"),
+        Ok(Frame::Expression(marks)) => format!("expression {}", words.expression(&marks)),
         Err(number) => format!("faulty, number {number}"),
     }
 }

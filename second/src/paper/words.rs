@@ -3,6 +3,7 @@
 use crate::element::Element;
 use crate::explain::chain::{Link, Rule};
 use crate::explain::rounds::Mark;
+use crate::expression::in_words;
 use crate::numbers::{Concept, Individual, Role, State};
 
 /// The words for names and roles, from number 0 on; a number without a word is written as `explain` writes it.
@@ -57,6 +58,11 @@ impl Words {
     pub fn roles(&self, roles: &[Role]) -> String {
         let words: Vec<String> = roles.iter().map(|role| self.role(*role)).collect();
         listed(&words)
+    }
+
+    /// `signs then Deed? then (signs backward or holds) any number of times`.
+    pub fn expression(&self, marks: &[u8]) -> String {
+        in_words(marks, |role| self.role(role), |name| self.concept(name))
     }
 
     /// `0`, `0·signs·(signs backward)`.

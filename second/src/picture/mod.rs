@@ -1,5 +1,6 @@
-//! A picture of the canonical model of a small file, with the path or the clash drawn in, as SVG.
+//! Pictures as SVG: the canonical model of a small file, with the path or the clash drawn in; and an expression's automaton.
 
+pub mod automaton;
 mod edge;
 mod lanes;
 mod place;

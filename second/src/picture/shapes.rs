@@ -37,6 +37,7 @@ pub enum Towards {
     Down,
     Up,
     Left,
+    Right,
 }
 
 #[derive(Clone, Debug)]

@@ -67,6 +67,7 @@ fn head(x: i32, y: i32, towards: Towards, style: Style) -> String {
         Towards::Down => [(x - half, y - long), (x + half, y - long)],
         Towards::Up => [(x - half, y + long), (x + half, y + long)],
         Towards::Left => [(x + long, y - half), (x + long, y + half)],
+        Towards::Right => [(x - long, y - half), (x - long, y + half)],
     };
     format!("<polygon points=\"{x},{y} {ax},{ay} {bx},{by}\"/>\n")
 }

@@ -10,6 +10,7 @@ use crate::explain::fault::Faulty;
 use crate::explain::path::{halves, inner};
 use crate::explain::rounds::{Mark, Reason};
 use crate::explain::Explanation;
+use crate::expression::in_words;
 use std::fmt::Display;
 
 const NOTATION: &str = "NOTATION
@@ -19,6 +20,8 @@ const NOTATION: &str = "NOTATION
   i0·r0·r1⁻       the unnamed element reached from i0 by the row r0, r1⁻
   (q0, q3, A0)    a mark of the loop sheet: state, state, concept
   q0 –r0→ q1      a role step               q0 –A0?→ q1     a test step
+  r0 then A0?     an expression: a role step, then a test. Of \"then\", \"or\" and \"any number of times\" the last
+                  holds tightest and \"or\" loosest. State k is the k-th role or test written.
   line 5          the line of the file where the record stands
 Of several reasons for one thing only one is shown: the shortest chain of rules, and for a mark the first of
 the three rules of a round that adds it.
@@ -60,6 +63,10 @@ fn collection(explained: &Explanation) -> String {
         counts.start,
         counts.all_concepts().count()
     );
+    if let Some(typed) = &explained.file.expression {
+        let marks = in_words(&typed.marks, |role| role.to_string(), |name| name.to_string());
+        text += &format!("  the question: {marks} (line {})\n", typed.line);
+    }
     let steps = explained.file.collection.steps.iter().zip(&explained.file.lines.steps);
     for (step, line) in steps {
         text += &match step {

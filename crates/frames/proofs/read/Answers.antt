@@ -6,8 +6,8 @@ use Rattle.frames.proofs.read.Goals as goal
 pub returns-then-not-line_ok : goal.returns-then-not-line_ok
 returns-then-not-line_ok c = fails (λ ok. grind arith)
 
-pub returns-then-line-frame_length : goal.returns-then-line-frame_length
-returns-then-line-frame_length c = holds (grind arith) (fails (λ shaped. c.if-line-frame_length.true (grind arith)))
+pub returns-then-not-has_length : goal.returns-then-not-has_length
+returns-then-not-has_length c = holds (grind arith) (fails (λ shaped. grind arith))
 
 pub returns : goal.returns
 returns c = holds (grind arith) (holds (grind arith) (grind arith))

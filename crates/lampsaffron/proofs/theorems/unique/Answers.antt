@@ -1,5 +1,7 @@
 -- Each call gives one outcome.
+use Rattle.expression.proofs.Clauses.{automaton-once}
 use Rattle.lampsaffron.proofs.Given.{gives-once, row-once}
+use Rattle.lampsaffron.proofs.Made.{made-once}
 use Rattle.lampsaffron.proofs.theorems.unique.Goals as goal
 
 pub returns-clause-one_call : goal.returns-clause-one_call
@@ -7,3 +9,9 @@ returns-clause-one_call c = gives-once
 
 pub returns-clause-one_row : goal.returns-clause-one_row
 returns-clause-one_row c = row-once
+
+pub returns-clause-one_number : goal.returns-clause-one_number
+returns-clause-one_number c = made-once
+
+pub returns-clause-one_automaton : goal.returns-clause-one_automaton
+returns-clause-one_automaton c = λ row a b x y. automaton-once a b x y

@@ -1,5 +1,5 @@
 -- Each exit is at the first test that fails, and the last where none does.
-use Rattle.std.proofs.Common.{refl, arith}
+use Rattle.std.proofs.Common.{arith}
 use Rattle.laws.specs.First.{fails, holds}
 use Rattle.reading.proofs.Judging.{judged_by}
 use Rattle.reading.proofs.File.judge.Goals as goal
@@ -26,4 +26,4 @@ returns-then-not-ask_ok c =
 
 pub returns : goal.returns
 returns c =
-    judged_by (holds (grind arith) (holds (grind arith) (holds (grind arith) (holds (grind arith) (holds (grind arith) (holds (grind arith) refl))))))
+    judged_by (holds (grind arith) (holds (grind arith) (holds (grind arith) (holds (grind arith) (holds (grind arith) (holds (grind arith) c.expression_ok.ensures))))))

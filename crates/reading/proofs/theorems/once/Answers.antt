@@ -1,4 +1,6 @@
 use Rattle.reading.proofs.Once.{judged-once, finds-once, reading-once, reads-once}
+use Rattle.reading.specs.File.{file_of}
+use Rattle.reading.proofs.Questions.{question-once}
 use Rattle.reading.proofs.theorems.once.Goals as goal
 
 pub returns : goal.returns
@@ -6,5 +8,6 @@ returns c = record {
   judged = judged-once;
   finds = λ before line r q a b. finds-once a b;
   reading = λ before ls v w a b. reading-once a b;
+  question = λ fs. question-once (file_of fs);
   reads = λ ls r q x y a b. reads-once a b;
 }

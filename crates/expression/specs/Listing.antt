@@ -1,0 +1,32 @@
+-- How the tables are listed from what a reader knows of the states.
+use Rattle.std.specs.Prelude.{List, [], ◌∷◌, ◌++◌, ℕ, zero, suc, ◌*◌, ◌/◌, ◌%◌, slice_index_or}
+use Rattle.kinds.specs.declared.State.{State}
+use Rattle.kinds.specs.Kinds.{most_states, state}
+use Rattle.laws.specs.Search.{pick}
+use Rattle.meaning.specs.Collection.{Step, step}
+use Rattle.sets.specs.Bits.{has}
+use Rattle.sets.specs.Rows.{state_marks}
+use Rattle.sets.specs.declared.states.StateSet.{StateSet}
+use Rattle.expression.specs.Marks.{mark_letter}
+
+-- a place for each two states
+abbrev pub places : ℕ
+places = most_states * most_states
+
+-- the step at a place: from the state place / 16 into the state place % 16
+abbrev pub step_of : List ℕ → ℕ → Step
+step_of letters p =
+    step (state (p / most_states)) (mark_letter (slice_index_or letters (p % most_states) 0))
+    (state (p % most_states))
+
+-- the steps at the places below one
+unfoldable pub steps_below : List StateSet → List ℕ → ℕ → List Step
+steps_below rows letters zero = []
+steps_below rows letters (suc p) =
+    steps_below rows letters p
+    ++ pick (state_marks rows (p / most_states) (p % most_states)) (step_of letters p ∷ []) []
+
+-- the states below one that are in a set
+unfoldable pub finals_below : StateSet → ℕ → List State
+finals_below set zero = []
+finals_below set (suc k) = finals_below set k ++ pick (has set.0 k) (state k ∷ []) []
