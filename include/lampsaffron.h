@@ -16,7 +16,7 @@
 #define LAMPSAFFRON_STEPS 2048
 #define LAMPSAFFRON_FINALS 16
 
-/* The numbers of answers. */
+/* The numbers of answers; 7 is never given. */
 enum lampsaffron_number {
     LAMPSAFFRON_NO = 0,
     LAMPSAFFRON_YES = 1,
@@ -25,7 +25,6 @@ enum lampsaffron_number {
     LAMPSAFFRON_BAD_COUNT = 4,
     LAMPSAFFRON_BAD_TABLE = 5,
     LAMPSAFFRON_BAD_NUMBER = 6,
-    LAMPSAFFRON_EQUAL_ENDS = 7,
     LAMPSAFFRON_BAD_ASK = 8,
     LAMPSAFFRON_NO_EXPRESSION = 12,
     LAMPSAFFRON_TOO_DEEP = 13,

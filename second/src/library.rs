@@ -105,7 +105,7 @@ fn declared(counts: &Counts, first: u16, second: u16) -> Option<(Individual, Ind
     Some((counts.individual(first)?, counts.individual(second)?))
 }
 
-/// The refusals before the pair's own 8, in the library's order: 4, 5, 6, 7.
+/// The refusals before the pair's own 8, in the library's order: 4, 5, 6.
 fn checked(call: &Call, area: usize, spare: usize) -> Result<Collection, u8> {
     let [names, roles, individuals, states, start] = call.counts;
     let counts = Counts::new(names, roles, individuals, states, start).ok_or(4)?;
@@ -117,11 +117,7 @@ fn checked(call: &Call, area: usize, spare: usize) -> Result<Collection, u8> {
     if !well_shaped || area != AREA || spare != AREA {
         return Err(5);
     }
-    let collection = records(counts, &call.tables).ok_or(6)?;
-    if collection.role_facts.iter().any(|(_, first, second)| first == second) {
-        return Err(7);
-    }
-    Ok(collection)
+    records(counts, &call.tables).ok_or(6)
 }
 
 /// None is number 6: a number in a record not declared, or a step kind above 1.

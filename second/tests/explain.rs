@@ -46,6 +46,15 @@ fn case_6_and_7_with_their_clashes() {
 }
 
 #[test]
+fn case_13_and_15_an_edge_to_itself() {
+    let text = explained("010202020300 07010000 07000001 08000201 08010002 0A02 0B0001");
+    says(&text, &["(i0, q0)\n  (i0, q1)  by q0 –r1→ q1", "along the fact on line 2\n  (i1, q2)"]);
+    let text = explained("010202020300 050203 07010000 07000001 08000201 08010002 0A02 0B0001");
+    says(&text, &["the pair (i0, i0) has r1 and r1⁻, which line 2 excludes."]);
+    says(&text, &["they have r1⁻: line 3 joins it to itself by r1⁻"]);
+}
+
+#[test]
 fn a_spent_allowance() {
     let text = explained(&format!("{B} 0C0001 0B0000"));
     says(
@@ -71,7 +80,6 @@ fn a_long_path_is_cut() {
 fn faults_in_words() {
     says(&explained("010202020400 07000202"), &["8F000206", "Line 2, number 6: not declared: individual 2"]);
     says(&explained("010202020400 0B0002"), &["Line 2, number 8: not declared: individual 2"]);
-    says(&explained("010202020400 07000000"), &["number 7: a role fact with equal ends"]);
     says(&explained("410202020400"), &["number 10: no frame has the kind 41"]);
     says(&explained("010202020400 0A"), &["number 10: a final has 1 bytes after its kind; here there are 0"]);
     says(&explained("014102020400"), &["number 4: 65 names are declared; 64 is the most"]);

@@ -1,4 +1,4 @@
-//! Cases 1 to 12 and the collection with facts (docs/PAPER.md and cases/README.md), asked of the desk, the library and the built-out model.
+//! Cases 1 to 16 and the collection with facts (docs/PAPER.md and cases/README.md), asked of the desk, the library and the built-out model.
 
 use second::desk::{desk, read::read};
 use second::library::{ask, Call};
@@ -19,6 +19,9 @@ const TEN: &str = "010202020300 020040 020042 060000 08000001 08010302 0A02";
 
 /// Case 11: case 10 plus a third role.
 const ELEVEN: &str = "010203020300 020040 020042 060000 08000001 08010302 0A02 020044 040400 040402";
+
+/// Case 13 without its ask: 0 holds itself.
+const THIRTEEN: &str = "010202020300 07010000 07000001 08000201 08010002 0A02";
 
 fn lines(words: &str) -> Vec<u8> {
     words.split(' ').map(|line| format!("{line}\n")).collect::<String>().into_bytes()
@@ -173,8 +176,35 @@ fn case_12_in_the_library() {
 }
 
 #[test]
+fn cases_13_to_16_an_edge_to_itself() {
+    let sheet = agree(THIRTEEN, 0, 1, 1, 0);
+    assert_eq!(sheet.iter().map(|byte| u32::from(*byte)).sum::<u32>(), 18);
+    agree(THIRTEEN, 0, 0, 0, 0);
+    agree(&format!("{THIRTEEN} 050203"), 0, 1, 2, 0);
+    let sheet = agree(&format!("{B} 07010000 0C0001"), 0, 0, 3, 1);
+    assert_eq!(sheet.iter().map(|byte| u32::from(*byte)).sum::<u32>(), 26);
+}
+
+#[test]
+fn an_edge_to_itself_is_walked_both_ways_and_excluded_by_its_inverse() {
+    for steps in ["08000001", "08000101"] {
+        agree(&format!("010002020200 07000000 {steps} 0A01"), 0, 0, 1, 0);
+    }
+    // The unnamed neighbours are no owners, so a path stays at 0 both times.
+    for [there, back] in [["00", "01"], ["01", "00"]] {
+        let steps = format!("0800{there}01 09010002 0802{back}03");
+        agree(&format!("010102020400 060000 07000000 {steps} 0A03"), 0, 0, 1, 1);
+    }
+    // Through a role rule, written forward and backward; and by two facts with equal ends.
+    for clash in ["040002 050203 07000000", "040103 050302 07000000", "050003 07000000 07010000"] {
+        agree(&format!("010002020100 {clash} 0A00"), 1, 1, 2, 0);
+    }
+    agree("010002020100 050001 07000001 0A00", 1, 1, 1, 0);
+}
+
+#[test]
 fn marks_mean_what_the_rules_say() {
-    for words in [B, FACTS, TEN, ELEVEN] {
+    for words in [B, FACTS, TEN, ELEVEN, THIRTEEN] {
         let file = read(&lines(words)).expect("a sound file");
         let known = Known::of(&file.collection);
         let closed = letter::all_rounds(&known).pop().expect("at least round 0");

@@ -283,8 +283,9 @@ fn thrown(sizes: &Sizes) -> Vec<u8> {
     draft.throw(7, sizes.role_facts, |dice| {
         let role = dice.below(used_roles);
         let [first, second] = [0; 2].map(|_| dice.below(individuals));
-        let sound = first != second && first % groups == second % groups;
-        sound.then(|| vec![7, role as u8, first as u8, second as u8])
+        // Two different ends: the files stay those that were measured before.
+        let joins = first != second && first % groups == second % groups;
+        joins.then(|| vec![7, role as u8, first as u8, second as u8])
     });
     draft.throw(8, sizes.steps, |dice| {
         let from = dice.below(states);

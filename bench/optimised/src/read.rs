@@ -244,9 +244,6 @@ fn other_lines(input: &[u8], end: usize, file: &mut File, line: &mut u16) -> Res
                 if x >= signed / 2 || y >= individuals || z >= individuals {
                     return Err(6);
                 }
-                if y == z {
-                    return Err(7);
-                }
                 let role = 2 * x;
                 file.typed_roles[usize::from(y)] |= 1 << (role & 63);
                 file.typed_roles[usize::from(z)] |= 2 << (role & 63);

@@ -1,4 +1,4 @@
-//! Cases 1 to 12 (cases/README.md), asked of the optimised desk.
+//! Cases 1 to 16 (cases/README.md), asked of the optimised desk.
 
 use optimised::desk::{desk, marks};
 
@@ -95,6 +95,25 @@ fn case_12_limits() {
     assert_eq!(output("010202FF1000 0600FF"), "8F000206\n");
     assert_eq!(output("010202FF1000 0700FEFF"), "8F000206\n");
     assert_eq!(output("010202FF1000 0B00FF"), "8F000208\n");
+}
+
+#[test]
+fn cases_13_to_16_an_edge_to_itself() {
+    let thirteen = "010202020300 07010000 07000001 08000201 08010002 0A02";
+    asked(thirteen, 0, 1, 1, 0);
+    assert_eq!(marks(lines(thirteen)), Some(18));
+    asked(thirteen, 0, 0, 0, 0);
+    asked(&format!("{thirteen} 050203"), 0, 1, 2, 0);
+    asked(&format!("{B} 07010000 0C0001"), 0, 0, 3, 1);
+}
+
+#[test]
+fn an_edge_to_itself_is_walked_both_ways() {
+    for steps in ["08000001", "08000101"] {
+        asked(&format!("010002020200 07000000 {steps} 0A01"), 0, 0, 1, 0);
+    }
+    asked("010102020400 060000 07000000 08000001 09010002 08020103 0A03", 0, 0, 1, 1);
+    asked("010002020100 040002 050203 07000000 0A00", 1, 1, 2, 0);
 }
 
 #[test]

@@ -86,7 +86,7 @@ module _ (line : ℕ) (r : Refusal) where
     long = fault-long;
     kind = fault-kind;
     place = omega (arith, fault-high h, fault-low);
-    listed = let l = refusals-listed r in (omega (arith, fault-number, l.0), omega (arith, fault-number, l.1));
+    listed = let l = refusals-listed r in (omega (arith, fault-number, l.0), omega (arith, fault-number, l.1), λ e. l.2 (sym fault-number ∙ e));
   }
 
 -- the lines of a text: those before its last, and its last
@@ -162,7 +162,7 @@ module _ {input text : List ℕ} (w : Writes input text) where
           rw (d, f) refl
       by (answers gs q out h a) = let e = reading-once h.sound s in absurd cc
 
-  -- THEOREM: a faulty input writes the line of its first faulty line's number, and one of 4 to 14
+  -- THEOREM: a faulty input writes the line of its first faulty line's number, and one of 4 to 14, but never 7
   pub fault-told : (before : List Frame) (r : Refusal) → IsFaulty input before r → IsFaultLine (length before + 1) text
   fault-told before r s =
       subst (IsFaultLine (length before + 1)) (sym (fault-text before r s)) (fault-is (length before + 1) r (omega (arith, fault-line input before r s)))

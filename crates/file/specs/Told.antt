@@ -21,7 +21,7 @@ pub record IsAnswerLine (ask : Ask) (line : List ℕ) : Type 0 where
   pub second : byte_of line 2 ≡ (second_of ask).0
   pub listed : number_on line ≤ 3
 
--- a line of a fault: 8F, the number of a line in two bytes, and one of 4 to 14
+-- a line of a fault: 8F, the number of a line in two bytes, and one of 4 to 14, but never 7
 pub record IsFaultLine (number : ℕ) (line : List ℕ) : Type 0 where
   pub long : length line ≡ 9
   pub kind : byte_of line 0 ≡ 0x8F

@@ -35,7 +35,7 @@ pub fn answer(input: &[u8], text: &mut [u8; MOST_TEXT]) -> usize
     ensures written { Writes input.now (take result text.new) }
     ensures rest { drop result text.new ≡ drop result text.old }
 
-    // The input writes no other text. Byte 3 of a line is its number: of an answer 0, 1, 2 or 3, of a fault one of 4 to 14.
+    // The input writes no other text. Byte 3 of a line is its number: of an answer 0, 1, 2 or 3, of a fault one of 4 to 14, but never 7.
     ensures only { (out : List ℕ) → Writes input.now out → out ≡ take result text.new }
     ensures long { (fs : List Frame) → IsSound input.now fs → result ≡ 13 * entries asks fs }
     ensures listed { (fs : List Frame) → IsSound input.now fs → (k : ℕ) → k < entries asks fs

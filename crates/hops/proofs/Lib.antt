@@ -4,3 +4,4 @@ mod HopLaws
 pub mod Followed
 pub mod Once
 pub mod Edges
+mod SelfFact

@@ -1,4 +1,5 @@
 -- Each fact is two hops: hop 2 × k goes along fact k from its first individual to its second, hop 2 × k + 1 goes back.
+-- Where both are one individual, both hops are from it and to it, so both stand in its one chain.
 -- Facts past the most that a table may have are not read.
 use Rattle.std.specs.Prelude.{◌≡◌, List, ℕ, ◌+◌, ◌-◌, ◌*◌, ◌/◌, ◌%◌, ◌≤◌, ◌<◌, min, length, slice_index}
 use Rattle.kinds.specs.Kinds.{most_individuals, most_roles}

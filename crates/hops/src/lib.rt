@@ -9,7 +9,7 @@ pub use chains::Hops;
 use kinds::{Individual, SignedRole};
 pub use visits::HopsFrom;
 
-/// From an individual by a signed role to another one.
+/// From an individual by a signed role to an individual: another one, or itself.
 #[derive(Clone, Copy)]
 pub struct Hop {
     pub role: SignedRole,

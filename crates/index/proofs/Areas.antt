@@ -5,7 +5,7 @@ use Rattle.meaning.proofs.SheetLaws.{rounds-unique}
 use Rattle.meaning.specs.Lite.{lite}
 use Rattle.meaning.specs.Layout.{zeros}
 use Rattle.tables.specs.declared.collection.Refusal.{Refusal}
-use Rattle.tables.specs.declared.collection.Refusal.TheVariants.{BadCount, BadTable, BadNumber, EqualEnds}
+use Rattle.tables.specs.declared.collection.Refusal.TheVariants.{BadCount, BadTable, BadNumber}
 use Rattle.index.specs.declared.lent.Lent.{Lent}
 use Rattle.index.specs.declared.work.Found.{Found}
 use Rattle.index.specs.declared.work.Found.TheVariants.{Contradiction, Spent, Needed}
@@ -17,7 +17,6 @@ refused-fits : (l : Lent) (area spare : ℕ) (e : Refusal) → IsRefused l area 
 refused-fits l area spare BadCount h f = h.bad_count.0 refl f.counts
 refused-fits l area spare BadTable h f = (h.bad_table.0 refl).tables f.tables
 refused-fits l area spare BadNumber h f = (h.bad_number.0 refl).numbers f.numbers
-refused-fits l area spare EqualEnds h f = (h.equal_ends.0 refl).ends f.ends
 
 module _ (l : Lent) (area spare x y : List ℕ) where
   abbrev p : Preparation
@@ -31,7 +30,7 @@ module _ (l : Lent) (area spare x y : List ℕ) where
     pub spared : (HasSheet p → ⊥) → y ≡ spare
 
   has : {f : Found} → IsSettled l (length area) (length spare) f → Fits p
-  has s = record { counts = s.passes.counts; tables = record { tables = s.passes.tables; area = s.areas.area; spare = s.areas.spare }; numbers = s.passes.numbers; ends = s.passes.ends }
+  has s = record { counts = s.passes.counts; tables = record { tables = s.passes.tables; area = s.areas.area; spare = s.areas.spare }; numbers = s.passes.numbers }
 
   left-found : (f : Found) → IsSettled l (length area) (length spare) f → IsFound l f → LeavesFirst l f area x → LeavesSecond f spare y → Leaves
   left-found Contradiction s b h k = record { sheet = λ w. absurd (w.sane b); cleared = λ w. absurd (w.sane b); untouched = λ w. h; spared = λ w. k }

@@ -1,14 +1,14 @@
 -- Each clause of a call follows from its outcome.
-use Rattle.std.specs.Prelude.{◌≡◌, refl, ◌↔◌, IfSome, IfNone, List, ℕ, ◌≤◌, ◌<◌}
+use Rattle.std.specs.Prelude.{◌≡◌, ◌≢◌, refl, ◌↔◌, IfSome, IfNone, List, ℕ, ◌≤◌, ◌<◌}
 use Rattle.std.proofs.Common.{subst, arith}
 use Rattle.kinds.specs.declared.Answer.{Answer}
-use Rattle.kinds.specs.declared.Answer.TheVariants.{No, Yes, Contradiction, AllowanceSpent, BadCount, BadTable, BadNumber, EqualEnds, BadAsk}
-use Rattle.kinds.specs.Answer.{answer_number, sheet_rounds, number-listed}
-use Rattle.meaning.specs.Lent.{Tables, Call, collection_of, CountsOk, TablesOk, NumbersOk, EndsOk, AskOk, Sound}
+use Rattle.kinds.specs.declared.Answer.TheVariants.{No, Yes, Contradiction, AllowanceSpent, BadCount, BadTable, BadNumber, BadAsk}
+use Rattle.kinds.specs.Answer.{answer_number, sheet_rounds, number-listed, seven-never}
+use Rattle.meaning.specs.Lent.{Tables, Call, collection_of, CountsOk, TablesOk, NumbersOk, AskOk, Sound}
 use Rattle.meaning.specs.Layout.{zeros}
 use Rattle.meaning.specs.Lite.{lite}
 use Rattle.meaning.specs.SameSets.{SameSets}
-use Rattle.meaning.specs.Outcome.{Outcome, Breaks, Reached, HoldsSheet, bad-count, bad-table, bad-number, equal-ends, bad-ask, contradiction, spent, says-yes, says-no}
+use Rattle.meaning.specs.Outcome.{Outcome, Breaks, Reached, HoldsSheet, bad-count, bad-table, bad-number, bad-ask, contradiction, spent, says-yes, says-no}
 use Rattle.meaning.specs.Worlds.{model_world}
 use Rattle.meaning.proofs.SheetLaws.{rounds-unique}
 use Rattle.meaning.proofs.OutcomeLaws.{outcome-unique}
@@ -18,7 +18,7 @@ use Rattle.meaning.proofs.Demands.{says-what-the-model-says, most-enough, rounds
 use Rattle.meaning.proofs.Demands as theorem
 use Rattle.meaning.proofs.Repeated.{repeats-mean-nothing}
 use Rattle.meaning.proofs.Forced.{yes-in, yes-out, model-keeps, model-respects, no-world}
-use Rattle.index.specs.Clauses.{FailsTables, FailsNumbers, FailsEnds, FailsAsk, IsContradicted, Settles, RunsOut, IsYesAfter, IsNoAfter, SameOutcome}
+use Rattle.index.specs.Clauses.{FailsTables, FailsNumbers, FailsAsk, IsContradicted, Settles, RunsOut, IsYesAfter, IsNoAfter, SameOutcome}
 use Rattle.index.specs.Worlds.{world_of, IsWorldOf, HasPath, IsForced, HasNoWorld}
 
 -- what comes with the answer 3, 1 or 0 and the count n
@@ -28,7 +28,6 @@ module _ (c : Call) (r : Answer) (x y : List ℕ) where
     pub bad_count : (r ≡ BadCount) ↔ (¬ CountsOk c)
     pub bad_table : (r ≡ BadTable) ↔ FailsTables c
     pub bad_number : (r ≡ BadNumber) ↔ FailsNumbers c
-    pub equal_ends : (r ≡ EqualEnds) ↔ FailsEnds c
     pub bad_ask : (r ≡ BadAsk) ↔ FailsAsk c
     pub contradiction : (r ≡ Contradiction) ↔ IsContradicted c
     pub spent : (n : ℕ) → (r ≡ AllowanceSpent n) ↔ RunsOut c n
@@ -39,6 +38,7 @@ module _ (c : Call) (r : Answer) (x y : List ℕ) where
     pub untouched : IfNone (sheet_rounds r) (x ≡ c.area)
     pub spared : IfNone (sheet_rounds r) (y ≡ c.spare)
     pub listed : answer_number r ≤ 8
+    pub seven_never : answer_number r ≢ 7
     pub fixed : (q : Answer) (u v : List ℕ) → Outcome c q u v → SameOutcome q u v r x y
     pub model : Sound c → Enough c → AsModelSays c r
     pub enough : Sound c → most_rounds c.counts ≤ c.allowance → Enough c
@@ -61,7 +61,6 @@ module _ (c : Call) where
   Says BadCount = CountsOk c → ⊥
   Says BadTable = FailsTables c
   Says BadNumber = FailsNumbers c
-  Says EqualEnds = FailsEnds c
   Says BadAsk = FailsAsk c
   Says Contradiction = IsContradicted c
   Says (AllowanceSpent n) = RunsOut c n
@@ -72,8 +71,7 @@ module _ (c : Call) where
   says (bad-count h) = h
   says (bad-table k h) = (k, h)
   says (bad-number k t h) = (k, t, h)
-  says (equal-ends k t n h) = (k, t, n, h)
-  says (bad-ask k t n e h) = (k, t, n, e, h)
+  says (bad-ask k t n h) = (k, t, n, h)
   says (contradiction s b) = (s, b)
   says (spent {n = n} s b need h lays) = (refl, (n, record { sound = s; sane = b; needed = need }, h))
   says (says-yes s b need h lays y) = (record { sound = s; sane = b; needed = need }, h, y)
@@ -86,8 +84,7 @@ module _ (c : Call) where
   sheet-of (bad-count h) = tt
   sheet-of (bad-table h k) = tt
   sheet-of (bad-number h k l) = tt
-  sheet-of (equal-ends h k l m) = tt
-  sheet-of (bad-ask h k l m o) = tt
+  sheet-of (bad-ask h k l m) = tt
   sheet-of (contradiction t b) = tt
   sheet-of (spent t b r l h) = h
   sheet-of (says-yes t b r l h y) = h
@@ -97,8 +94,7 @@ module _ (c : Call) where
   cleared-by (bad-count h) = tt
   cleared-by (bad-table h k) = tt
   cleared-by (bad-number h k l) = tt
-  cleared-by (equal-ends h k l m) = tt
-  cleared-by (bad-ask h k l m o) = tt
+  cleared-by (bad-ask h k l m) = tt
   cleared-by (contradiction t b) = tt
   cleared-by (spent t b r l h) = refl
   cleared-by (says-yes t b r l h y) = refl
@@ -108,8 +104,7 @@ module _ (c : Call) where
   untouched-by (bad-count h) = refl
   untouched-by (bad-table h k) = refl
   untouched-by (bad-number h k l) = refl
-  untouched-by (equal-ends h k l m) = refl
-  untouched-by (bad-ask h k l m o) = refl
+  untouched-by (bad-ask h k l m) = refl
   untouched-by (contradiction t b) = refl
   untouched-by (spent t b r l h) = tt
   untouched-by (says-yes t b r l h y) = tt
@@ -119,8 +114,7 @@ module _ (c : Call) where
   spared-by (bad-count h) = refl
   spared-by (bad-table h k) = refl
   spared-by (bad-number h k l) = refl
-  spared-by (equal-ends h k l m) = refl
-  spared-by (bad-ask h k l m o) = refl
+  spared-by (bad-ask h k l m) = refl
   spared-by (contradiction t b) = refl
   spared-by (spent t b r l h) = tt
   spared-by (says-yes t b r l h y) = tt
@@ -134,8 +128,7 @@ module _ (c : Call) where
   world-of (bad-count h) = tt
   world-of (bad-table h k) = tt
   world-of (bad-number h k l) = tt
-  world-of (equal-ends h k l m) = tt
-  world-of (bad-ask h k l m o) = tt
+  world-of (bad-ask h k l m) = tt
   world-of (contradiction t b) = tt
   world-of (spent t b r l h) = world t b
   world-of (says-yes t b r l h y) = world t b
@@ -154,8 +147,7 @@ module _ (c : Call) where
     bad_count = (λ e. says-as (says o) e, λ h. only o (bad-count h));
     bad_table = (λ e. says-as (says o) e, λ h. only o (bad-table h.0 h.1));
     bad_number = (λ e. says-as (says o) e, λ h. only o (bad-number h.0 h.1 h.2));
-    equal_ends = (λ e. says-as (says o) e, λ h. only o (equal-ends h.0 h.1 h.2 h.3));
-    bad_ask = (λ e. says-as (says o) e, λ h. only o (bad-ask h.0 h.1 h.2 h.3 h.4));
+    bad_ask = (λ e. says-as (says o) e, λ h. only o (bad-ask h.0 h.1 h.2 h.3));
     contradiction = (λ e. says-as (says o) e, λ h. only o (contradiction h.0 h.1));
     spent = λ n. (λ e. says-as (says o) e, λ h. beyond n o h);
     yes = λ n. (λ e. says-as (says o) e, λ h. let s = h.0 in only o (says-yes s.sound s.sane s.needed h.1 (holds-sheet c s.sound n) h.2));
@@ -165,6 +157,7 @@ module _ (c : Call) where
     untouched = untouched-by o;
     spared = spared-by o;
     listed = number-listed r;
+    seven_never = seven-never r;
     fixed = λ q u v p. let e = outcome-unique c p o in (e.0, e.1, e.2);
     model = λ s e. says-what-the-model-says c s e o;
     enough = λ s h. most-enough c s h;

@@ -5,9 +5,9 @@ use Rattle.kinds.specs.declared.Answer.{Answer}
 use Rattle.kinds.specs.declared.Answer.TheVariants as answer
 use Rattle.kinds.specs.declared.Individual.{Individual}
 use Rattle.meaning.specs.Lent.{Sound}
-use Rattle.meaning.specs.Outcome.{Outcome, Breaks, bad-count, bad-table, bad-number, equal-ends, bad-ask, contradiction, spent, says-yes, says-no}
+use Rattle.meaning.specs.Outcome.{Outcome, Breaks, bad-count, bad-table, bad-number, bad-ask, contradiction, spent, says-yes, says-no}
 use Rattle.tables.specs.declared.collection.Refusal.{Refusal}
-use Rattle.tables.specs.declared.collection.Refusal.TheVariants.{BadCount, BadTable, BadNumber, EqualEnds}
+use Rattle.tables.specs.declared.collection.Refusal.TheVariants.{BadCount, BadTable, BadNumber}
 use Rattle.tables.specs.Refusals.{answer_of}
 use Rattle.tables.specs.Tests.{PassesTests, IsChecked}
 use Rattle.tables.specs.declared.ask.Ask.{Ask}
@@ -25,13 +25,12 @@ module _ (l : Lent) (area spare : ℕ) where
   Tested r = IsChecked l.collection area spare r
 
   passed-refuses : Tested (Ok tt) → Refuses l area spare answer.BadAsk
-  passed-refuses h (Pair a b) x y e f none = let w = h.ok.0 refl in bad-ask w.counts (rw (e, f) w.tables) w.numbers w.ends none
+  passed-refuses h (Pair a b) x y e f none = let w = h.ok.0 refl in bad-ask w.counts (rw (e, f) w.tables) w.numbers none
 
   error-refuses : (e : Refusal) → Tested (Err e) → Refuses l area spare (answer_of e)
   error-refuses BadCount h (Pair a b) x y e f none = bad-count (h.bad_count.0 refl)
   error-refuses BadTable h (Pair a b) x y e f none = let w = h.bad_table.0 refl in bad-table w.counts (rw (e, f) w.tables)
   error-refuses BadNumber h (Pair a b) x y e f none = let w = h.bad_number.0 refl in bad-number w.counts (rw (e, f) w.tables) w.numbers
-  error-refuses EqualEnds h (Pair a b) x y e f none = let w = h.equal_ends.0 refl in equal-ends w.counts (rw (e, f) w.tables) w.numbers w.ends
 
   pub ok-refuses : {r : Result (Unit {0}) Refusal} {u : Unit {0}} → Tested r → r ≡ Ok u → Refuses l area spare answer.BadAsk
   ok-refuses h e = passed-refuses (subst (λ r. Tested r) e h)
@@ -45,14 +44,14 @@ module _ (l : Lent) (area spare : ℕ) {r : Result (Unit {0}) Refusal} {u : Unit
   all = (subst (λ r. Tested l area spare r) e h).ok.0 refl
 
   pub passes : Passes l.collection
-  passes = record { counts = all.counts; tables = all.tables.tables; numbers = all.numbers; ends = all.ends }
+  passes = record { counts = all.counts; tables = all.tables.tables; numbers = all.numbers }
 
   pub has_areas : HasAreas area spare
   has_areas = record { area = all.tables.area; spare = all.tables.spare }
 
 module _ (p : Preparation) (area spare x y : List ℕ) (left : Left p area spare x y) (e : length area ≡ p.area) (f : length spare ≡ p.spare) where
   has : (ask : Ask) → Sound (asked p ask area spare) → (Breaks (asked p ask area spare) → ⊥) → HasSheet p
-  has ask s k = record { fits = record { counts = s.counts; tables = rw (← e, ← f) s.tables; numbers = s.numbers; ends = s.ends }; sane = k }
+  has ask s k = record { fits = record { counts = s.counts; tables = rw (← e, ← f) s.tables; numbers = s.numbers }; sane = k }
 
   -- THEOREM: a declared ask's answer, and the areas as they were prepared, are its outcome
   pub areas : (a b : Individual) (r : Answer) (u v : List ℕ) → IsAskDeclared p.counts (Pair a b) → Outcome (asked p (Pair a b) area spare) r u v
@@ -60,8 +59,7 @@ module _ (p : Preparation) (area spare x y : List ℕ) (left : Left p area spare
   areas a b r u v d (bad-count h) = rw (left.untouched (λ s. h s.fits.counts), left.spared (λ s. h s.fits.counts)) (bad-count h)
   areas a b r u v d (bad-table k h) = let no : HasSheet p → ⊥ = λ s. h (rw (e, f) s.fits.tables) in rw (left.untouched no, left.spared no) (bad-table k h)
   areas a b r u v d (bad-number k t h) = let no : HasSheet p → ⊥ = λ s. h s.fits.numbers in rw (left.untouched no, left.spared no) (bad-number k t h)
-  areas a b r u v d (equal-ends k t n h) = let no : HasSheet p → ⊥ = λ s. h s.fits.ends in rw (left.untouched no, left.spared no) (equal-ends k t n h)
-  areas a b r u v d (bad-ask k t n g h) = absurd (h d)
+  areas a b r u v d (bad-ask k t n h) = absurd (h d)
   areas a b r u v d (contradiction s k) = let no : HasSheet p → ⊥ = λ t. t.sane k in rw (left.untouched no, left.spared no) (contradiction s k)
   areas a b r u v d (spent {n = n} s k need h lays) =
       let w = has (Pair a b) s k in

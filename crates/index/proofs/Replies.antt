@@ -7,12 +7,12 @@ use Rattle.kinds.specs.declared.Answer.TheVariants as answer
 use Rattle.meaning.specs.Lent.{TablesFit, Sound}
 use Rattle.meaning.specs.Model.{Contradiction}
 use Rattle.meaning.specs.Layout.{zeros}
-use Rattle.meaning.specs.Outcome.{bad-count, bad-table, bad-number, equal-ends, bad-ask, contradiction, spent, says-yes, says-no}
+use Rattle.meaning.specs.Outcome.{bad-count, bad-table, bad-number, bad-ask, contradiction, spent, says-yes, says-no}
 use Rattle.meaning.proofs.OutcomeExists.{holds-sheet}
 use Rattle.meaning.proofs.Calculate.{sheet_area}
 use Rattle.kinds.specs.declared.Individual.{Individual}
 use Rattle.tables.specs.declared.collection.Refusal.{Refusal}
-use Rattle.tables.specs.declared.collection.Refusal.TheVariants.{BadCount, BadTable, BadNumber, EqualEnds}
+use Rattle.tables.specs.declared.collection.Refusal.TheVariants.{BadCount, BadTable, BadNumber}
 use Rattle.tables.specs.Lists.{lists}
 use Rattle.tables.specs.Refusals.{answer_of}
 use Rattle.tables.specs.declared.ask.Ask.{Ask}
@@ -38,7 +38,6 @@ module _ (l : Lent) (area spare : ℕ) where
   refused-pair BadCount h a b x y e f = let w = h.bad_count.0 refl in (x, y, bad-count w)
   refused-pair BadTable h a b x y e f = let w = h.bad_table.0 refl in (x, y, bad-table w.counts (rw (e, f) w.tables))
   refused-pair BadNumber h a b x y e f = let w = h.bad_number.0 refl in (x, y, bad-number w.counts (rw (e, f) w.tables) w.numbers)
-  refused-pair EqualEnds h a b x y e f = let w = h.equal_ends.0 refl in (x, y, equal-ends w.counts (rw (e, f) w.tables) w.numbers w.ends)
 
   pub refused : (e : Refusal) → IsRefused l area spare e → (ask : Ask) → IsAnswer of ask (answer_of e)
   refused e h (Pair a b) = refused-pair e h a b
@@ -48,10 +47,10 @@ module _ (l : Lent) (area spare : ℕ) where
     fits x y e f = record { tables = passes.tables; area = e ∙ areas.area; spare = f ∙ areas.spare }
 
     pub undeclared : (ask : Ask) → (IsAskDeclared l.collection.counts ask → ⊥) → IsAnswer of ask answer.BadAsk
-    undeclared (Pair a b) n x y e f = (x, y, bad-ask passes.counts (fits x y e f) passes.numbers passes.ends n)
+    undeclared (Pair a b) n x y e f = (x, y, bad-ask passes.counts (fits x y e f) passes.numbers n)
 
     sound : (a b : Individual) → IsAskDeclared l.collection.counts (Pair a b) → (x y : List ℕ) → length x ≡ area → length y ≡ spare → Sound (asked of (Pair a b) x y)
-    sound a b d x y e f = record { counts = passes.counts; tables = fits x y e f; numbers = passes.numbers; ends = passes.ends; ask = d }
+    sound a b d x y e f = record { counts = passes.counts; tables = fits x y e f; numbers = passes.numbers; ask = d }
 
     pub broken : (ask : Ask) → IsAskDeclared l.collection.counts ask → Contradiction (meant l.collection) → IsAnswer of ask answer.Contradiction
     broken (Pair a b) d h x y e f = (x, y, contradiction (sound a b d x y e f) h)

@@ -6,7 +6,7 @@ use Rattle.std.proofs.lemmas.Option.{slice_get-get_or}
 use Rattle.kinds.specs.declared.Answer.{Answer}
 use Rattle.kinds.specs.declared.Answer.TheVariants.{BadAsk}
 use Rattle.kinds.specs.declared.Counts.{Counts}
-use Rattle.meaning.specs.Outcome.{Outcome, bad-count, bad-table, bad-number, equal-ends, bad-ask, contradiction, spent, says-yes, says-no}
+use Rattle.meaning.specs.Outcome.{Outcome, bad-count, bad-table, bad-number, bad-ask, contradiction, spent, says-yes, says-no}
 use Rattle.tables.specs.declared.ask.Ask.{Ask}
 use Rattle.tables.specs.declared.ask.Ask.TheVariants.{Pair}
 use Rattle.index.specs.declared.lent.Lent.{Lent}
@@ -45,8 +45,7 @@ module _ (p : Preparation) (ask : Ask) (x y : List ℕ) where
       by (Pair a b) n (bad-count h) = bad-count h
       by (Pair a b) n (bad-table k h) = bad-table k h
       by (Pair a b) n (bad-number k t h) = bad-number k t h
-      by (Pair a b) n (equal-ends k t m h) = equal-ends k t m h
-      by (Pair a b) n (bad-ask k t m e h) = bad-ask k t m e h
+      by (Pair a b) n (bad-ask k t m h) = bad-ask k t m h
       by (Pair a b) n (contradiction s k) = absurd (n s.ask)
       by (Pair a b) n (spent s k need h lays) = absurd (n s.ask)
       by (Pair a b) n (says-yes s k need h lays q) = absurd (n s.ask)

@@ -7,7 +7,7 @@ use Rattle.kinds.specs.declared.Answer.{Answer}
 use Rattle.kinds.specs.Kinds.{individual}
 use Rattle.meaning.specs.Collection.{WellFormed}
 use Rattle.meaning.specs.Lent.{Call}
-use Rattle.meaning.specs.Outcome.{Outcome, bad-count, bad-table, bad-number, equal-ends, bad-ask, contradiction, spent, says-yes, says-no}
+use Rattle.meaning.specs.Outcome.{Outcome, bad-count, bad-table, bad-number, bad-ask, contradiction, spent, says-yes, says-no}
 use Rattle.meaning.proofs.OutcomeExists.{outcome-exists}
 use Rattle.meaning.proofs.OutcomeLaws.{outcome-unique}
 use Rattle.meaning.proofs.LayoutLaws.{lays-once}
@@ -40,7 +40,7 @@ module _ (p : Preparation) where
   abbrev c : Call
   c = asked p (Pair (individual 0) (individual 0)) x y
 
-  -- the tests 4 to 7 pass or fail, as the outcome of any ask tells
+  -- the tests 4, 5 and 6 pass or fail, as the outcome of any ask tells
   dec-fits : Dec (Fits p)
   dec-fits = by (outcome-exists c)
     where
@@ -54,12 +54,11 @@ module _ (p : Preparation) where
       by (bad-count h) = no (λ f. h f.counts)
       by (bad-table k h) = no (λ f. h (rw (long, long') f.tables))
       by (bad-number k t h) = no (λ f. h f.numbers)
-      by (equal-ends k t n h) = no (λ f. h f.ends)
-      by (bad-ask k t n e h) = yes (record { counts = k; tables = rw (← long, ← long') t; numbers = n; ends = e })
-      by (contradiction s h) = yes (record { counts = s.counts; tables = rw (← long, ← long') s.tables; numbers = s.numbers; ends = s.ends })
-      by (spent s k need h lays) = yes (record { counts = s.counts; tables = rw (← long, ← long') s.tables; numbers = s.numbers; ends = s.ends })
-      by (says-yes s k need h lays q) = yes (record { counts = s.counts; tables = rw (← long, ← long') s.tables; numbers = s.numbers; ends = s.ends })
-      by (says-no s k need h lays q) = yes (record { counts = s.counts; tables = rw (← long, ← long') s.tables; numbers = s.numbers; ends = s.ends })
+      by (bad-ask k t n h) = yes (record { counts = k; tables = rw (← long, ← long') t; numbers = n })
+      by (contradiction s h) = yes (record { counts = s.counts; tables = rw (← long, ← long') s.tables; numbers = s.numbers })
+      by (spent s k need h lays) = yes (record { counts = s.counts; tables = rw (← long, ← long') s.tables; numbers = s.numbers })
+      by (says-yes s k need h lays q) = yes (record { counts = s.counts; tables = rw (← long, ← long') s.tables; numbers = s.numbers })
+      by (says-no s k need h lays q) = yes (record { counts = s.counts; tables = rw (← long, ← long') s.tables; numbers = s.numbers })
 
   well : Fits p → WellFormed (collection_in p)
   well f = record { counts = f.counts; numbers = f.numbers.declared }

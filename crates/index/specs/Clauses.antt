@@ -1,7 +1,7 @@
 -- The words of a call's clauses.
 use Rattle.std.specs.Prelude.{◌≡◌, ◌≤◌, ◌<◌, List, ℕ, length}
 use Rattle.kinds.specs.declared.Answer.{Answer}
-use Rattle.meaning.specs.Lent.{Call, CountsOk, TablesOk, NumbersOk, EndsOk, AskOk, Sound}
+use Rattle.meaning.specs.Lent.{Call, CountsOk, TablesOk, NumbersOk, AskOk, Sound}
 use Rattle.meaning.specs.Outcome.{Outcome, Breaks, Reached, RoundsNeeded}
 use Rattle.tables.specs.declared.ask.Ask.{Ask}
 use Rattle.index.specs.declared.lent.Lent.{Lent}
@@ -13,18 +13,15 @@ use Rattle.index.specs.Asked.{asked}
 abbrev pub called : Lent → Ask → List ℕ → List ℕ → Call
 called l ask area spare = asked (preparation l (length area) (length spare)) ask area spare
 
--- test 5 is the first that fails, or 6, 7, 8
+-- test 5 is the first that fails, or 6, or 8
 abbrev pub FailsTables : Call → Type 0
 FailsTables c = CountsOk c × (¬ TablesOk c)
 
 abbrev pub FailsNumbers : Call → Type 0
 FailsNumbers c = CountsOk c × TablesOk c × (¬ NumbersOk c)
 
-abbrev pub FailsEnds : Call → Type 0
-FailsEnds c = CountsOk c × TablesOk c × NumbersOk c × (¬ EndsOk c)
-
 abbrev pub FailsAsk : Call → Type 0
-FailsAsk c = CountsOk c × TablesOk c × NumbersOk c × EndsOk c × (¬ AskOk c)
+FailsAsk c = CountsOk c × TablesOk c × NumbersOk c × (¬ AskOk c)
 
 -- no test refuses the call, and its model breaks an exclusion
 abbrev pub IsContradicted : Call → Type 0

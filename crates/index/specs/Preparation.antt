@@ -3,7 +3,7 @@ use Rattle.std.specs.Prelude.{List, ℕ}
 use Rattle.kinds.specs.declared.Counts.{Counts}
 use Rattle.kinds.specs.Kinds.{CountsFit}
 use Rattle.meaning.specs.Collection.{Collection}
-use Rattle.meaning.specs.Lent.{Tables, collection, TablesFit, NumbersFit, EndsFit}
+use Rattle.meaning.specs.Lent.{Tables, collection, TablesFit, NumbersFit}
 use Rattle.meaning.specs.Model.{Contradiction}
 use Rattle.meaning.specs.Sheet as sheet
 use Rattle.meaning.specs.Lite.{lite}
@@ -30,12 +30,11 @@ preparation l = made_of l.collection.counts (lists l.collection) l.allowance
 abbrev pub collection_in : Preparation → Collection
 collection_in p = collection p.counts p.tables
 
--- the tests 4 to 7
+-- the tests 4, 5 and 6
 pub record Fits (p : Preparation) : Type 0 where
   pub counts : CountsFit p.counts
   pub tables : TablesFit p.tables p.area p.spare
   pub numbers : NumbersFit p.counts p.tables
-  pub ends : EndsFit p.tables
 
 -- they hold, and the canonical model breaks no exclusion: then its loop sheet is worked out
 pub record HasSheet (p : Preparation) : Type 0 where

@@ -2,7 +2,7 @@
 use Rattle.std.specs.Prelude.{◌≡◌, ◌↔◌, List, ℕ, ◌≤◌, ◌<◌}
 use Rattle.kinds.specs.Kinds.{CountsFit}
 use Rattle.meaning.specs.Collection.{Collection}
-use Rattle.meaning.specs.Lent.{collection, ShapesOk, NumbersFit, EndsFit}
+use Rattle.meaning.specs.Lent.{collection, ShapesOk, NumbersFit}
 use Rattle.meaning.specs.Model.{Contradiction}
 use Rattle.meaning.specs.Sheet.{Mark}
 use Rattle.meaning.specs.Sheet as sheet
@@ -23,12 +23,11 @@ use Rattle.index.specs.Asked.{IsYes}
 abbrev pub meant : code.Collection → Collection
 meant c = collection c.counts (lists c)
 
--- the tests 4 to 7, but for the lengths of the areas
+-- the tests 4, 5 and 6, but for the lengths of the areas
 pub record Passes (c : code.Collection) : Type 0 where
   pub counts : CountsFit c.counts
   pub tables : ShapesOk (lists c)
   pub numbers : NumbersFit c.counts (lists c)
-  pub ends : EndsFit (lists c)
 
 pub record HasAreas (long long' : ℕ) : Type 0 where
   pub area : long ≡ area_length

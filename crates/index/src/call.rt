@@ -1,5 +1,5 @@
 // One ask of a collection.
-ghost use Rattle.std.specs.Prelude.{◌≡◌, ◌↔◌, ◌≤◌, IfSome, IfNone, List, ℕ};
+ghost use Rattle.std.specs.Prelude.{◌≡◌, ◌≢◌, ◌↔◌, ◌≤◌, IfSome, IfNone, List, ℕ};
 ghost use Rattle.kinds.specs.declared.Answer.{Answer};
 ghost use Rattle.kinds.specs.Answer.{answer_number, sheet_rounds};
 ghost use Rattle.meaning.specs.Lent.{Tables, Call, collection_of, CountsOk, Sound};
@@ -9,7 +9,7 @@ ghost use Rattle.meaning.specs.Demands.{Enough, AsModelSays, GrowsTo, Grown, all
 ghost use Rattle.meaning.specs.Demands.{most_rounds};
 ghost use Rattle.meaning.specs.SameSets.{SameSets};
 ghost use Rattle.meaning.specs.Worlds.{model_world};
-ghost use Rattle.index.specs.Clauses.{called, Refuses, FailsTables, FailsNumbers, FailsEnds, FailsAsk};
+ghost use Rattle.index.specs.Clauses.{called, Refuses, FailsTables, FailsNumbers, FailsAsk};
 ghost use Rattle.index.specs.Clauses.{IsContradicted, RunsOut, Settles, IsYesAfter, IsNoAfter};
 ghost use Rattle.index.specs.Clauses.{SameOutcome};
 ghost use Rattle.index.specs.Worlds.{IsForced, HasNoWorld, IsWorldOf, HasPath};
@@ -35,15 +35,13 @@ impl<'a> Lent<'a> {
         ensures outcome { let c = called self.now ask area.old spare.old in
             Outcome c result area.new spare.new }
 
-        // Each refusal exactly where its test is the first to fail: 4, 5, 6, 7, 8.
+        // Each refusal exactly where its test is the first to fail: 4, 5, 6, 8.
         ensures bad_count { let c = called self.now ask area.old spare.old in
             (result ≡ Answer.BadCount) ↔ (¬ CountsOk c) }
         ensures bad_table { let c = called self.now ask area.old spare.old in
             (result ≡ Answer.BadTable) ↔ FailsTables c }
         ensures bad_number { let c = called self.now ask area.old spare.old in
             (result ≡ Answer.BadNumber) ↔ FailsNumbers c }
-        ensures equal_ends { let c = called self.now ask area.old spare.old in
-            (result ≡ Answer.EqualEnds) ↔ FailsEnds c }
         ensures bad_ask { let c = called self.now ask area.old spare.old in
             (result ≡ Answer.BadAsk) ↔ FailsAsk c }
 
@@ -66,6 +64,7 @@ impl<'a> Lent<'a> {
 
         // One of the listed answers; nothing else is an outcome of this call.
         ensures listed { answer_number result ≤ 8 }
+        ensures seven_never { answer_number result ≢ 7 }
         ensures fixed { let c = called self.now ask area.old spare.old in
             (r : Answer) (x y : List ℕ) → Outcome c r x y
             → SameOutcome r x y result area.new spare.new }

@@ -93,7 +93,7 @@ impl<'a> Prepared<'a> {
     }
 }
 
-// The tests 4 to 7, and past them the rooms.
+// The tests 4, 5 and 6, and past them the rooms.
 fn work<'r>(
     lent: &Lent<'r>,
     area: &mut [u8],
@@ -115,7 +115,7 @@ fn work<'r>(
 }
 
 impl<'a> Lent<'a> {
-    // The tests 4 to 7, then all that does not depend on an ask. The first area is left the sheet.
+    // The tests 4, 5 and 6, then all that does not depend on an ask. The first area is left the sheet.
     pub fn prepare(&self, area: &mut [u8], spare: &mut [u8], routes: &'a mut Routes) -> Prepared<'a>
         ensures own { result ≡ preparation self.now (length area.old) (length spare.old) }
         ensures sheet { HasSheet result → (n : ℕ) → RoundsNeeded result n

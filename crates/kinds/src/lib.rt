@@ -1,7 +1,7 @@
 // The four kinds of number, signed roles and basic concepts over them, the declared counts, and the answers.
 #![tactic(auto)]
 
-ghost use Rattle.std.specs.Prelude.{◌+◌, ◌*◌, ◌%◌, ◌<◌, ◌≡◌, ◌↔◌, IsTrue};
+ghost use Rattle.std.specs.Prelude.{◌+◌, ◌*◌, ◌%◌, ◌<◌, ◌≡◌, ◌≢◌, ◌↔◌, IsTrue};
 ghost use Rattle.kinds.specs.Kinds.{most_roles, inverse, forward, backward, wrapped, number_of, concept_of, NameDeclared, RoleDeclared, SignedDeclared, IndividualDeclared, StateDeclared, ConceptDeclared, CountsFit};
 ghost use Rattle.kinds.specs.Answer.{answer_number, answer_count};
 
@@ -51,7 +51,6 @@ pub enum Answer {
     BadCount,
     BadTable,
     BadNumber,
-    EqualEnds,
     BadAsk,
 }
 
@@ -205,7 +204,8 @@ impl Counts {
 
 impl Answer {
     pub fn number(self) -> u8
-        ensures { result ≡ answer_number self }
+        ensures number { result ≡ answer_number self }
+        ensures seven_never { result ≢ 7 }
     {
         match self {
             Answer::No(_) => 0,
@@ -215,7 +215,6 @@ impl Answer {
             Answer::BadCount => 4,
             Answer::BadTable => 5,
             Answer::BadNumber => 6,
-            Answer::EqualEnds => 7,
             Answer::BadAsk => 8,
         }
     }
@@ -231,7 +230,6 @@ impl Answer {
             Answer::BadCount => 0,
             Answer::BadTable => 0,
             Answer::BadNumber => 0,
-            Answer::EqualEnds => 0,
             Answer::BadAsk => 0,
         }
     }

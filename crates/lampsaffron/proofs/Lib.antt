@@ -1,3 +1,4 @@
 pub mod Given
 pub mod Told
 pub mod Made
+mod Seven

@@ -2,7 +2,8 @@
 // count of each answer.
 #![tactic(auto)]
 
-ghost use Rattle.std.specs.Prelude.{◌≡◌, ◌≢◌, ◌↔◌, ◌≤◌, ◌++◌, IsTrue, length, take, drop};
+ghost use Rattle.std.specs.Prelude.{◌≡◌, ◌≢◌, ◌↔◌, ◌≤◌, ◌++◌, ℕ, IsTrue, Some};
+ghost use Rattle.std.specs.Prelude.{length, slice_get, take, drop};
 ghost use Rattle.std.specs.Bool.{OnTrue, OnFalse};
 ghost use Rattle.kinds.specs.Kinds.{individual};
 ghost use Rattle.index.specs.Asked.{asked};
@@ -45,13 +46,14 @@ pub extern "C" fn lampsaffron_ask(
     spare: &mut [u8],
     count: &mut u16,
 ) -> u8
-    ensures { let counts = counted names roles individuals states start in
+    ensures gives { let counts = counted names roles individuals states start in
         let tables = lent concept_rules.now concept_exclusions.now role_rules.now
         role_exclusions.now concept_facts.now role_facts.now steps.now finals.now in
         let p = made_of counts tables allowance (length area.old) (length spare.old) in
         let ask = Ask.Pair (individual first) (individual second) in
         let c = asked p ask area.old spare.old in
         Gives c result count.new area.new spare.new }
+    ensures seven_never { result ≢ 7 }
 {
     let counts = Counts {
         names,
@@ -134,6 +136,7 @@ pub extern "C" fn lampsaffron_ask_all(
         let told = Tells numbers.new counts.new in
         let n = ask_count pairs.now in
         OnTrue result (InTurn p pairs.now told area.old spare.old n area.new spare.new) }
+    ensures seven_never { (k : ℕ) → OnTrue result (slice_get numbers.new k ≢ Some 7) }
 
     // Where the lengths do not fit, nothing is asked, and nothing is written.
     ensures area_kept { OnFalse result (area.new ≡ area.old) }

@@ -1,5 +1,5 @@
 -- Calculation: the answer to a library call, from the raw lent tables on, and what both areas hold after it.
-use Rattle.std.specs.Prelude.{Bool, not, List, ℕ, ◌*◌, ◌/◌, ◌%◌, leb, ltb, eqb, length}
+use Rattle.std.specs.Prelude.{Bool, List, ℕ, ◌*◌, ◌/◌, ◌%◌, leb, ltb, eqb, length}
 use Rattle.kinds.specs.declared.ConceptName.{ConceptName}
 use Rattle.kinds.specs.declared.RoleName.{RoleName}
 use Rattle.kinds.specs.declared.Individual.{Individual}
@@ -7,7 +7,7 @@ use Rattle.kinds.specs.declared.SignedRole.{SignedRole}
 use Rattle.kinds.specs.declared.Concept.{Concept}
 use Rattle.kinds.specs.declared.Counts.{Counts}
 use Rattle.kinds.specs.declared.Answer.{Answer}
-use Rattle.kinds.specs.declared.Answer.TheVariants.{No, Yes, Contradiction, AllowanceSpent, BadCount, BadTable, BadNumber, EqualEnds, BadAsk}
+use Rattle.kinds.specs.declared.Answer.TheVariants.{No, Yes, Contradiction, AllowanceSpent, BadCount, BadTable, BadNumber, BadAsk}
 use Rattle.kinds.specs.Kinds.{most_names, most_roles, most_individuals, most_states}
 use Rattle.laws.specs.Search.{and, every, pick}
 use Rattle.meaning.specs.Collection.{Collection, Letter, role, test, Step, step}
@@ -15,7 +15,6 @@ use Rattle.meaning.specs.Lent.{Tables, Call, collection, collection_of, records,
 use Rattle.meaning.specs.Lent.{rule_width, concept_fact_width, role_fact_width, step_width, final_width, most_concept_rules, most_concept_exclusions, most_role_rules, most_role_exclusions, most_concept_facts, most_role_facts, most_steps, most_finals}
 use Rattle.meaning.specs.Layout.{area_length, zeros}
 use Rattle.meaning.proofs.LayoutLaws.{state_declared, concept_declared, image}
-use Rattle.meaning.proofs.LiteTests.{same_individual}
 use Rattle.meaning.proofs.LiteSheet.{lite_sheet, lite_work}
 use Rattle.meaning.proofs.Reply.{clash, reaches}
 
@@ -96,12 +95,6 @@ kind_ok k = leb k 1
 unfoldable pub numbers_ok : Counts → Tables → Bool
 numbers_ok c t = let b = every (records 4 (λ t k. field 4 t 0 k) t.steps) kind_ok in and (numbers_declared (collection c t)) b
 
-abbrev pub ends_differ : RoleName × Individual × Individual → Bool
-ends_differ f = not (same_individual f.1 f.2)
-
-unfoldable pub ends_ok : Collection → Bool
-ends_ok 𝓒 = every 𝓒.role-facts ends_differ
-
 unfoldable pub ask_ok : Counts → Individual → Individual → Bool
 ask_ok c a b = let r = individual_declared c b in and (individual_declared c a) r
 
@@ -116,13 +109,10 @@ module _ (𝓒 : Collection) (a b : Individual) (allowance : ℕ) where
   unfoldable pub sound_answer : Answer
   sound_answer = let r = after_clash in pick (clash 𝓒) Contradiction r
 
--- the library's order, one test after another: 4, 5, 6, 7, 8, and then the answer to a sound call
+-- the library's order, one test after another: 4, 5, 6, 8, and then the answer to a sound call
 module _ (c : Call) where
-  unfoldable pub after_ends : Answer
-  after_ends = let r = sound_answer (collection_of c) c.first c.second c.allowance in pick (ask_ok c.counts c.first c.second) r BadAsk
-
   unfoldable pub after_numbers : Answer
-  after_numbers = let r = after_ends in pick (ends_ok (collection_of c)) r EqualEnds
+  after_numbers = let r = sound_answer (collection_of c) c.first c.second c.allowance in pick (ask_ok c.counts c.first c.second) r BadAsk
 
   unfoldable pub after_tables : Answer
   after_tables = let r = after_numbers in pick (numbers_ok c.counts c.tables) r BadNumber
@@ -146,7 +136,6 @@ module _ (c : Call) where
   area_after BadCount = c.area
   area_after BadTable = c.area
   area_after BadNumber = c.area
-  area_after EqualEnds = c.area
   area_after BadAsk = c.area
 
   abbrev pub spare_after : Answer → List ℕ
@@ -157,5 +146,4 @@ module _ (c : Call) where
   spare_after BadCount = c.spare
   spare_after BadTable = c.spare
   spare_after BadNumber = c.spare
-  spare_after EqualEnds = c.spare
   spare_after BadAsk = c.spare

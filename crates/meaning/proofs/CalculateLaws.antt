@@ -8,18 +8,17 @@ use Rattle.kinds.specs.declared.SignedRole.{SignedRole}
 use Rattle.kinds.specs.declared.Concept.{Concept}
 use Rattle.kinds.specs.declared.Counts.{Counts}
 use Rattle.kinds.specs.Kinds.{most_names, most_roles, most_individuals, most_states, CountsFit, StateDeclared, ConceptDeclared}
-use Rattle.laws.specs.Truth.{test-and, test-below, test-equal, test-equals, test-every, test-most, test-not, test-of, test-same}
+use Rattle.laws.specs.Truth.{test-and, test-below, test-equal, test-every, test-most, test-of, test-same}
 use Rattle.meaning.specs.Collection.{Collection, Letter, role, test, Step, step, StepDeclared, LetterDeclared, ConceptsDeclared, RolesDeclared, ConceptFactDeclared, RoleFactDeclared, NumbersDeclared, WellFormed}
 use Rattle.meaning.specs.Sheet.{Markable, Mark}
 use Rattle.meaning.proofs.SheetLaws.{mark-markable}
 use Rattle.meaning.specs.Lite.{lite}
-use Rattle.meaning.specs.Lent.{Tables, Call, collection_of, records, field, Whole, ShapesOk, TablesOk, NumbersOk, EndsOk, EndsDiffer, AskOk, rule_width, concept_fact_width, role_fact_width, step_width, final_width, most_concept_rules, most_concept_exclusions, most_role_rules, most_role_exclusions, most_concept_facts, most_role_facts, most_steps, most_finals}
+use Rattle.meaning.specs.Lent.{Tables, Call, collection_of, records, field, Whole, ShapesOk, TablesOk, NumbersOk, AskOk, rule_width, concept_fact_width, role_fact_width, step_width, final_width, most_concept_rules, most_concept_exclusions, most_role_rules, most_role_exclusions, most_concept_facts, most_role_facts, most_steps, most_finals}
 use Rattle.meaning.specs.Layout.{area_length, Lays}
 use Rattle.meaning.proofs.LayoutLaws.{state_declared, concept_declared, concept_declared-in, concept_declared-out, image, image-lays}
 use Rattle.meaning.proofs.Declared.{state-in, state-out, concept-in, concept-out}
-use Rattle.meaning.proofs.LiteTests.{same_individual, individual-same}
 use Rattle.meaning.proofs.LiteSheet.{lite_sheet, lite-mark-in, lite-mark-out}
-use Rattle.meaning.proofs.Calculate.{counts_fit, whole, shapes_ok, areas_ok, tables_ok, concepts_declared, roles_declared, concept_fact_declared, role_fact_declared, letter_declared, step_declared, numbers_declared, kind_ok, numbers_ok, ends_differ, ends_ok, ask_ok}
+use Rattle.meaning.proofs.Calculate.{counts_fit, whole, shapes_ok, areas_ok, tables_ok, concepts_declared, roles_declared, concept_fact_declared, role_fact_declared, letter_declared, step_declared, numbers_declared, kind_ok, numbers_ok, ask_ok}
 
 -- test 4
 pub counts-test : (c : Counts) → IsTrue (counts_fit c) ↔ (CountsFit c)
@@ -130,11 +129,6 @@ numbers-test c =
     test-same (test-and (declared-test (collection_of c)) (test-every (records 4 (λ t k. field 4 t 0 k) c.tables.steps) kind_ok (λ k. k ≤ 1) (λ k. test-most k 1)))
     (λ h. record { declared = h.0; step-kinds = h.1 })
     (λ h. (h.declared, h.step-kinds))
-
--- test 7
-pub ends-test : (c : Call) → IsTrue (ends_ok (collection_of c)) ↔ (EndsOk c)
-unfolding ends_ok
-ends-test c = test-every (collection_of c).role-facts ends_differ EndsDiffer (λ f. test-not (test-equals same_individual individual-same f.1 f.2))
 
 -- test 8
 pub ask-test : (c : Call) → IsTrue (ask_ok c.counts c.first c.second) ↔ (AskOk c)

@@ -3,7 +3,7 @@ use Rattle.std.specs.Prelude.{◌≡◌, refl, Bool, true, List, map, ℕ, T, eq
 use Rattle.std.proofs.Math.Path.{sym}
 use Rattle.std.proofs.Math.Dec.{eqb→eq}
 use Rattle.kinds.specs.declared.Answer.{Answer}
-use Rattle.kinds.specs.declared.Answer.TheVariants.{No, Yes, Contradiction, AllowanceSpent, BadCount, BadTable, BadNumber, EqualEnds, BadAsk}
+use Rattle.kinds.specs.declared.Answer.TheVariants.{No, Yes, Contradiction, AllowanceSpent, BadCount, BadTable, BadNumber, BadAsk}
 use Rattle.kinds.specs.Kinds.{inverse, individual, number_of, concept_of}
 use Rattle.kinds.specs.Answer.{answer_number, answer_count}
 use Rattle.laws.specs.Member.{◌∈◌, map-in, map-out}
@@ -26,8 +26,8 @@ use Rattle.meaning.proofs.Reply.{declared_individuals, fact_types, end_types, is
 use Rattle.meaning.specs.Lent.{records, collection, Sound}
 use Rattle.meaning.specs.Layout.{place, area_length, Lays, Standing}
 use Rattle.meaning.proofs.OutcomeExists.{outcome-exists, passes-all, sound-well-formed, holds-sheet}
-use Rattle.meaning.proofs.Calculate.{counts_fit, whole, shapes_ok, concepts_declared, roles_declared, concept_fact_declared, role_fact_declared, numbers_declared, numbers_ok, ends_ok, ask_ok, sound_answer, after_clash, after_rounds, sheet_area, area_after, spare_after}
-use Rattle.meaning.proofs.CalculateLaws.{counts-test, shapes-test, numbers-test, ends-test, ask-test}
+use Rattle.meaning.proofs.Calculate.{counts_fit, whole, shapes_ok, concepts_declared, roles_declared, concept_fact_declared, role_fact_declared, numbers_declared, numbers_ok, ask_ok, sound_answer, after_clash, after_rounds, sheet_area, area_after, spare_after}
+use Rattle.meaning.proofs.CalculateLaws.{counts-test, shapes-test, numbers-test, ask-test}
 use Rattle.meaning.specs.Cases.{Case, cases, lend, MarksStand, Says}
 
 -- where the marks of the sheet after n rounds stand, in order
@@ -55,7 +55,6 @@ module _ (𝓒 : Collection) where
   marks_ok BadCount m = true
   marks_ok BadTable m = true
   marks_ok BadNumber m = true
-  marks_ok EqualEnds m = true
   marks_ok BadAsk m = true
 
   unfoldable answer_ok : Answer → ℕ → ℕ → ℕ → Bool
@@ -71,8 +70,7 @@ given k = collection k.counts k.tables
 unfoldable sound_ok : Case → Bool
 sound_ok k =
     let e = ask_ok k.counts (individual k.first) (individual k.second) in
-    let d = and (ends_ok (given k)) e in
-    let b = and (numbers_ok k.counts k.tables) d in
+    let b = and (numbers_ok k.counts k.tables) e in
     let a = and (shapes_ok k.tables) b in
     and (counts_fit k.counts) a
 
@@ -84,7 +82,7 @@ holds k = let b = answer_ok (given k) (computed k) k.number k.count k.marks in a
 
 -- every row passes
 table-computes : every cases holds ≡ true
-unfolding every cases holds sound_ok answer_ok list_ok rises_from stands_at select counts_fit whole shapes_ok concepts_declared roles_declared concept_fact_declared role_fact_declared numbers_declared numbers_ok ends_ok ask_ok sound_answer after_clash after_rounds records concept_of number_of inverse any upto numbered pairs memo settle stays new via compose tab closing both signed_roles valid_concepts declared_states joins hangs_to hangs_from hangs round places table work after role_base role_le concept_base concept_le declared_individuals fact_types end_types is_typed typed_to individual_has joins_by fact_edge follows alive_by alive_at alive clash_at clash_under concept_clash clash_between clash_below role_clash clash marked stride walks reaches_in reaches
+unfolding every cases holds sound_ok answer_ok list_ok rises_from stands_at select counts_fit whole shapes_ok concepts_declared roles_declared concept_fact_declared role_fact_declared numbers_declared numbers_ok ask_ok sound_answer after_clash after_rounds records concept_of number_of inverse any upto numbered pairs memo settle stays new via compose tab closing both signed_roles valid_concepts declared_states joins hangs_to hangs_from hangs round places table work after role_base role_le concept_base concept_le declared_individuals fact_types end_types is_typed typed_to individual_has joins_by fact_edge follows alive_by alive_at alive clash_at clash_under concept_clash clash_between clash_below role_clash clash marked stride walks reaches_in reaches
 table-computes = refl
 
 -- the list that is computed is that of the places that hold 1, in any area that holds the sheet
@@ -124,8 +122,8 @@ module _ (area spare : List ℕ) (long : length area ≡ area_length) (long' : l
   sound : (k : Case) → T (sound_ok k) → Sound (lend area spare k)
   unfolding sound_ok
   sound k h =
-      let w = test-out (test-and (counts-test k.counts) (test-and (shapes-test k.tables) (test-and (numbers-test (lend area spare k)) (test-and (ends-test (lend area spare k)) (ask-test (lend area spare k)))))) h in
-      record { counts = w.0; tables = record { tables = w.1.0; area = long; spare = long' }; numbers = w.1.1.0; ends = w.1.1.1.0; ask = w.1.1.1.1 }
+      let w = test-out (test-and (counts-test k.counts) (test-and (shapes-test k.tables) (test-and (numbers-test (lend area spare k)) (ask-test (lend area spare k))))) h in
+      record { counts = w.0; tables = record { tables = w.1.0; area = long; spare = long' }; numbers = w.1.1.0; ask = w.1.1.1 }
 
   stood : (k : Case) → Sound (lend area spare k) → (n : ℕ) → T (list_ok (given k) n k.marks) → Standing (sheet_area (lend area spare k) n) k.marks
   stood k s n h = standing (given k) (sound-well-formed (lend area spare k) s) n (sheet_area (lend area spare k) n) (holds-sheet (lend area spare k) s n) k.marks h
@@ -139,7 +137,6 @@ module _ (area spare : List ℕ) (long : length area ≡ area_length) (long' : l
   marks-stand k s BadCount h = refl
   marks-stand k s BadTable h = refl
   marks-stand k s BadNumber h = refl
-  marks-stand k s EqualEnds h = refl
   marks-stand k s BadAsk h = refl
 
   says : (k : Case) → T (holds k) → Says area spare k

@@ -20,7 +20,7 @@ use Rattle.meaning.proofs.Declared.{concepts-count, states-count, state-in, conc
 use Rattle.meaning.proofs.Tests.{rounds-bound}
 use Rattle.meaning.proofs.LiteTests.{lite_tests, lite-decides}
 use Rattle.meaning.specs.Lent.{Call, collection_of, Sound}
-use Rattle.meaning.specs.Outcome.{Outcome, bad-count, bad-table, bad-number, equal-ends, bad-ask, contradiction, spent, says-yes, says-no, Breaks, Reached, RoundsNeeded}
+use Rattle.meaning.specs.Outcome.{Outcome, bad-count, bad-table, bad-number, bad-ask, contradiction, spent, says-yes, says-no, Breaks, Reached, RoundsNeeded}
 use Rattle.meaning.proofs.OutcomeExists.{sound-well-formed}
 use Rattle.meaning.specs.Demands.{most_rounds, Enough, AsModelSays, Larger, Grown, allowed}
 use Rattle.meaning.proofs.Larger.{yes-grows, contradiction-grows}
@@ -67,8 +67,7 @@ module _ (c : Call) where
   verdict s e (bad-count h) = absurd (h s.counts)
   verdict s e (bad-table k h) = absurd (h s.tables)
   verdict s e (bad-number k t h) = absurd (h s.numbers)
-  verdict s e (equal-ends k t n h) = absurd (h s.ends)
-  verdict s e (bad-ask k t n d h) = absurd (h s.ask)
+  verdict s e (bad-ask k t n h) = absurd (h s.ask)
   verdict s e (contradiction k h) = is-contradiction refl h
   verdict s e (spent k sane need h lays) = absurd (not-spent e need h)
   verdict s e (says-yes k sane need h lays reached) = is-yes refl sane reached
@@ -130,7 +129,6 @@ module _ (c : Call) (n : ℕ) (h : c.allowance ≤ n) where
     counts = s.counts;
     tables = record { tables = s.tables.tables; area = s.tables.area; spare = s.tables.spare };
     numbers = record { declared = s.numbers.declared; step-kinds = s.numbers.step-kinds };
-    ends = s.ends;
     ask = s.ask;
   }
 
@@ -139,8 +137,7 @@ module _ (c : Call) (n : ℕ) (h : c.allowance ≤ n) where
   returns (bad-count k) l = absurd (omega arith)
   returns (bad-table k t) l = absurd (omega arith)
   returns (bad-number k t u) l = absurd (omega arith)
-  returns (equal-ends k t u v) l = absurd (omega arith)
-  returns (bad-ask k t u v w) l = absurd (omega arith)
+  returns (bad-ask k t u v) l = absurd (omega arith)
   returns (contradiction s b) l = contradiction (sound-allowed s) b
   returns (spent s sane need k lays) l = absurd (omega arith)
   returns (says-yes s sane need k lays reached) l = says-yes (sound-allowed s) sane need (omega arith) lays reached

@@ -18,7 +18,7 @@ use Rattle.meaning.specs.Run.{stop, go}
 use Rattle.meaning.specs.Model.{Has, Belongs, bare, grown, ModelEdge, fact, child, parent, individuals, Element, canonical, Typed, named, first, second, FactEdge, ahead, behind, Contradiction, at-element, at_pair}
 use Rattle.meaning.specs.Question.{along-role, at_name, PathIn, Yes}
 use Rattle.meaning.specs.Lent.{Call, collection_of, Sound}
-use Rattle.meaning.specs.Outcome.{Outcome, bad-count, bad-table, bad-number, equal-ends, bad-ask, contradiction, spent, says-yes, says-no}
+use Rattle.meaning.specs.Outcome.{Outcome, bad-count, bad-table, bad-number, bad-ask, contradiction, spent, says-yes, says-no}
 use Rattle.meaning.specs.Demands.{Larger}
 use Rattle.meaning.specs.Excluded.{SelfExcluded, RoleSelfExcluded, ImpliesMore, AsksWhereMore, IsDecided}
 use Rattle.meaning.proofs.ModelLaws.{born, has_above, edge-above, has-neighbour}
@@ -142,8 +142,7 @@ decided-says : (c : Call) {r : Answer} {x y : List ℕ} → Outcome c r x y → 
 decided-says c (bad-count k) l = absurd (omega arith)
 decided-says c (bad-table k t) l = absurd (omega arith)
 decided-says c (bad-number k t u) l = absurd (omega arith)
-decided-says c (equal-ends k t u v) l = absurd (omega arith)
-decided-says c (bad-ask k t u v w) l = absurd (omega arith)
+decided-says c (bad-ask k t u v) l = absurd (omega arith)
 decided-says c (contradiction s b) l = (s, is-contradiction refl b)
 decided-says c (spent s sane need k lays) l = absurd (omega arith)
 decided-says c (says-yes s sane need k lays reached) l = (s, is-yes refl sane reached)

@@ -1,6 +1,6 @@
 -- The canonical model has every fact and keeps every rule: edges read both ways and follow the role order, concepts follow the concept order.
-use Rattle.std.specs.Prelude.{◌≡◌, refl, List, [], ◌∷◌}
-use Rattle.std.proofs.Common.{ap}
+use Rattle.std.specs.Prelude.{◌≡◌, refl, ◌⊎◌, List, [], ◌∷◌}
+use Rattle.std.proofs.Common.{ap, inl, inr}
 use Rattle.kinds.specs.declared.ConceptName.{ConceptName}
 use Rattle.kinds.specs.declared.RoleName.{RoleName}
 use Rattle.kinds.specs.declared.Individual.{Individual}
@@ -12,8 +12,8 @@ use Rattle.laws.specs.Member.{◌∈◌}
 use Rattle.meaning.specs.Collection.{Collection}
 use Rattle.meaning.specs.Orders.{RoleLe, ConceptLe, same, then, rule, turned, wider}
 use Rattle.meaning.specs.Tree.{Elem, root, ◌▹◌}
-use Rattle.meaning.specs.Model.{Roots, Has, Belongs, bare, grown, ModelEdge, fact, child, parent, individuals, Element, named, first, second, IndividualHas, FactEdge, ahead, behind}
-use Rattle.meaning.specs.LawsOfModel.{followed}
+use Rattle.meaning.specs.Model.{Roots, Has, Belongs, bare, grown, ModelEdge, fact, child, parent, individuals, Element, named, first, second, IndividualHas, FactEdge, ahead, behind, Contradiction, at_pair}
+use Rattle.meaning.specs.LawsOfModel.{followed, JoinedToItself}
 use Rattle.meaning.proofs.RoleTurned.{turn}
 
 -- a child's parent belongs, and has what the child was promised by
@@ -75,6 +75,28 @@ module _ (𝓒 : Collection) where
   pub has-neighbour : (x : Element 𝓒) (S : SignedRole) → Belongs 𝓒 (individuals 𝓒) x → Has 𝓒 (individuals 𝓒) x (Exists S)
       → (y : Element 𝓒) × Belongs 𝓒 (individuals 𝓒) y × ModelEdge 𝓒 (individuals 𝓒) x S y
   has-neighbour x S b h = let c : Belongs 𝓒 (individuals 𝓒) (x ▹ S) = grown b h in (x ▹ S, c, child c same)
+
+  -- THEOREM: a role fact r(a, a) joins a to itself, by r, by its inverse and by all that follows from either
+  pub self-edges : {r : RoleName} {a : Individual} → (r, a, a) ∈ 𝓒.role-facts → JoinedToItself 𝓒 r a
+  self-edges {r} {a} m = record { role = ahead-edge; turned = behind-edge; above = λ S w. (by w, edge-back (by w)) }
+    where
+      ahead-edge : ModelEdge 𝓒 (individuals 𝓒) (root a) (forward r) (root a)
+      ahead-edge = fact (ahead m same)
+
+      behind-edge : ModelEdge 𝓒 (individuals 𝓒) (root a) (backward r) (root a)
+      behind-edge = let e = edge-back ahead-edge in rw (inverse-forward r) at e
+
+      by : {S : SignedRole} → RoleLe 𝓒 (forward r) S ⊎ RoleLe 𝓒 (backward r) S → ModelEdge 𝓒 (individuals 𝓒) (root a) S (root a)
+      by (inl l) = edge-above ahead-edge l
+      by (inr l) = edge-above behind-edge l
+
+  -- THEOREM: and where R, or its inverse, follows from r, an exclusion of R from its inverse is broken
+  pub self-clash : (R : SignedRole) → (R, inverse R) ∈ 𝓒.role-exclusions → (r : RoleName) (a : Individual) → (r, a, a) ∈ 𝓒.role-facts
+      → RoleLe 𝓒 (forward r) R ⊎ RoleLe 𝓒 (forward r) (inverse R) → Contradiction 𝓒
+  self-clash R x r a m (inl l) = let w = (self-edges m).above R (inl l) in at_pair (root a) (root a) R (inverse R) x w.0 w.1
+  self-clash R x r a m (inr l) =
+      let w = (self-edges m).above (inverse R) (inl l) in
+      at_pair (root a) (root a) R (inverse R) x (rw (inverse-inverse R) at w.1) w.0
 
   -- THEOREM: every fact holds
   pub concept-fact-holds : (A : ConceptName) (a : Individual) → (A, a) ∈ 𝓒.concept-facts → Has 𝓒 (individuals 𝓒) (root a) (Name A)

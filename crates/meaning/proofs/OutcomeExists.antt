@@ -5,17 +5,17 @@ use Rattle.std.proofs.Math.Bool.{true, false}
 use Rattle.std.proofs.Math.Dec.{ltb}
 use borrow.Author.Tests.{ltb-true, ltb-false}
 use Rattle.kinds.specs.declared.Answer.{Answer}
-use Rattle.kinds.specs.declared.Answer.TheVariants.{No, Yes, Contradiction, AllowanceSpent, BadCount, BadTable, BadNumber, EqualEnds, BadAsk}
+use Rattle.kinds.specs.declared.Answer.TheVariants.{No, Yes, Contradiction, AllowanceSpent, BadCount, BadTable, BadNumber, BadAsk}
 use Rattle.laws.specs.Search.{pick}
 use Rattle.laws.specs.Truth.{test-false, test-of}
 use Rattle.meaning.specs.Collection.{WellFormed}
-use Rattle.meaning.specs.Lent.{Call, collection_of, CountsOk, TablesOk, NumbersOk, EndsOk, Sound}
-use Rattle.meaning.specs.Outcome.{Outcome, bad-count, bad-table, bad-number, equal-ends, bad-ask, contradiction, spent, says-yes, says-no, Breaks, Reached, RoundsNeeded, HoldsSheet}
+use Rattle.meaning.specs.Lent.{Call, collection_of, CountsOk, TablesOk, NumbersOk, Sound}
+use Rattle.meaning.specs.Outcome.{Outcome, bad-count, bad-table, bad-number, bad-ask, contradiction, spent, says-yes, says-no, Breaks, Reached, RoundsNeeded, HoldsSheet}
 use Rattle.meaning.proofs.Reply.{clash, reaches}
 use Rattle.meaning.proofs.ReplyLaws.{reaches-is}
 use Rattle.meaning.proofs.ClashLaws.{clash-is}
-use Rattle.meaning.proofs.Calculate.{counts_fit, tables_ok, numbers_ok, ends_ok, ask_ok, after_rounds, after_clash, sound_answer, after_ends, after_numbers, after_tables, after_counts, answer, sheet_area, area_after, spare_after}
-use Rattle.meaning.proofs.CalculateLaws.{counts-test, tables-test, numbers-test, ends-test, ask-test, sheet-lays}
+use Rattle.meaning.proofs.Calculate.{counts_fit, tables_ok, numbers_ok, ask_ok, after_rounds, after_clash, sound_answer, after_numbers, after_tables, after_counts, answer, sheet_area, area_after, spare_after}
+use Rattle.meaning.proofs.CalculateLaws.{counts-test, tables-test, numbers-test, ask-test, sheet-lays}
 use Rattle.meaning.proofs.LiteSheet.{lite_work, lite-needed, closed-out, closed_in}
 
 module _ (c : Call) where
@@ -75,21 +75,13 @@ module _ (c : Call) where
       side true e = contradiction s ((clash-test s).0 e)
       side false e = clash-stage s (test-false (clash-test s) e)
 
-  ends-stage : CountsOk c → TablesOk c → NumbersOk c → EndsOk c → Done (after_ends c)
-  unfolding after_ends
-  ends-stage k t n e = side (ask_ok c.counts c.first c.second) refl
-    where
-      side : (b : Bool) → ask_ok c.counts c.first c.second ≡ b → Done (pick b sound-answer BadAsk)
-      side true h = ask-stage (record { counts = k; tables = t; numbers = n; ends = e; ask = (ask-test c).0 h })
-      side false h = bad-ask k t n e (test-false (ask-test c) h)
-
   numbers-stage : CountsOk c → TablesOk c → NumbersOk c → Done (after_numbers c)
   unfolding after_numbers
-  numbers-stage k t n = side (ends_ok (collection_of c)) refl
+  numbers-stage k t n = side (ask_ok c.counts c.first c.second) refl
     where
-      side : (b : Bool) → ends_ok (collection_of c) ≡ b → Done (pick b (after_ends c) EqualEnds)
-      side true h = ends-stage k t n ((ends-test c).0 h)
-      side false h = equal-ends k t n (test-false (ends-test c) h)
+      side : (b : Bool) → ask_ok c.counts c.first c.second ≡ b → Done (pick b sound-answer BadAsk)
+      side true h = ask-stage (record { counts = k; tables = t; numbers = n; ask = (ask-test c).0 h })
+      side false h = bad-ask k t n (test-false (ask-test c) h)
 
   tables-stage : CountsOk c → TablesOk c → Done (after_tables c)
   unfolding after_tables
@@ -118,5 +110,5 @@ module _ (c : Call) where
 
   -- a sound call passes each test
   pub passes-all : Sound c → answer c ≡ sound_answer (collection_of c) c.first c.second c.allowance
-  unfolding answer after_counts after_tables after_numbers after_ends
-  passes-all s = rw ((counts-test c.counts).1 s.counts, (tables-test c).1 s.tables, (numbers-test c).1 s.numbers, (ends-test c).1 s.ends, (ask-test c).1 s.ask)
+  unfolding answer after_counts after_tables after_numbers
+  passes-all s = rw ((counts-test c.counts).1 s.counts, (tables-test c).1 s.tables, (numbers-test c).1 s.numbers, (ask-test c).1 s.ask)

@@ -10,21 +10,20 @@ use Rattle.meaning.proofs.SheetLaws.{rounds-unique}
 use Rattle.meaning.specs.Lite.{lite}
 use Rattle.meaning.specs.Lent.{Call, collection_of}
 use Rattle.meaning.proofs.LayoutLaws.{lays-once}
-use Rattle.meaning.specs.Outcome.{Outcome, bad-count, bad-table, bad-number, equal-ends, bad-ask, contradiction, spent, says-yes, says-no}
-use Rattle.meaning.proofs.Calculate.{after_rounds, after_clash, sound_answer, after_ends, after_numbers, after_tables, after_counts, answer, sheet_area, area_after, spare_after}
-use Rattle.meaning.proofs.CalculateLaws.{counts-test, tables-test, numbers-test, ends-test, ask-test}
+use Rattle.meaning.specs.Outcome.{Outcome, bad-count, bad-table, bad-number, bad-ask, contradiction, spent, says-yes, says-no}
+use Rattle.meaning.proofs.Calculate.{after_rounds, after_clash, sound_answer, after_numbers, after_tables, after_counts, answer, sheet_area, area_after, spare_after}
+use Rattle.meaning.proofs.CalculateLaws.{counts-test, tables-test, numbers-test, ask-test}
 use Rattle.meaning.proofs.OutcomeExists.{clash-test, reaches-test, rounds-needed, holds-sheet, passes-all}
 use Rattle.meaning.proofs.LiteSheet.{lite_work}
 
 module _ (c : Call) where
   -- each outcome has the answer that is computed
   outcome-answer : {r : Answer} {x y : List ℕ} → Outcome c r x y → r ≡ answer c
-  unfolding answer after_counts after_tables after_numbers after_ends sound_answer after_clash after_rounds
+  unfolding answer after_counts after_tables after_numbers sound_answer after_clash after_rounds
   outcome-answer (bad-count h) = rw (test-fails (counts-test c.counts) h)
   outcome-answer (bad-table k h) = rw ((counts-test c.counts).1 k, test-fails (tables-test c) h)
   outcome-answer (bad-number k t h) = rw ((counts-test c.counts).1 k, (tables-test c).1 t, test-fails (numbers-test c) h)
-  outcome-answer (equal-ends k t n h) = rw ((counts-test c.counts).1 k, (tables-test c).1 t, (numbers-test c).1 n, test-fails (ends-test c) h)
-  outcome-answer (bad-ask k t n e h) = rw ((counts-test c.counts).1 k, (tables-test c).1 t, (numbers-test c).1 n, (ends-test c).1 e, test-fails (ask-test c) h)
+  outcome-answer (bad-ask k t n h) = rw ((counts-test c.counts).1 k, (tables-test c).1 t, (numbers-test c).1 n, test-fails (ask-test c) h)
   outcome-answer (contradiction s h) = rw (passes-all c s, (clash-test c s).1 h)
   outcome-answer (spent {n = n} s sane need h lays) =
       let e = rounds-unique (lite (collection_of c)) n (lite_work (collection_of c)).0 need (rounds-needed c s) in
@@ -41,8 +40,7 @@ module _ (c : Call) where
   outcome-areas (bad-count h) = (refl, refl)
   outcome-areas (bad-table k h) = (refl, refl)
   outcome-areas (bad-number k t h) = (refl, refl)
-  outcome-areas (equal-ends k t n h) = (refl, refl)
-  outcome-areas (bad-ask k t n e h) = (refl, refl)
+  outcome-areas (bad-ask k t n h) = (refl, refl)
   outcome-areas (contradiction s h) = (refl, refl)
   outcome-areas (spent {area = x} s sane need h lays) = (lays-once _ x (sheet_area c c.allowance) lays (holds-sheet c s c.allowance), refl)
   outcome-areas (says-yes {n = n} {area = x} s sane need h lays reached) = (lays-once _ x (sheet_area c n) lays (holds-sheet c s n), refl)

@@ -9,9 +9,9 @@ use Rattle.laws.specs.Rounds.{least-same}
 use Rattle.meaning.specs.Collection.{Collection}
 use Rattle.meaning.specs.Sheet.{Mark, Unchanged, Needed}
 use Rattle.meaning.specs.Lite.{lite}
-use Rattle.meaning.specs.Lent.{Call, Tables, collection, collection_of, NumbersFit, EndsFit, TablesOk, Sound}
+use Rattle.meaning.specs.Lent.{Call, Tables, collection, collection_of, NumbersFit, TablesOk, Sound}
 use Rattle.meaning.specs.Layout.{Lays}
-use Rattle.meaning.specs.Outcome.{Outcome, bad-count, bad-table, bad-number, equal-ends, bad-ask, contradiction, spent, says-yes, says-no, Breaks, Reached}
+use Rattle.meaning.specs.Outcome.{Outcome, bad-count, bad-table, bad-number, bad-ask, contradiction, spent, says-yes, says-no, Breaks, Reached}
 use Rattle.meaning.specs.Demands.{Larger}
 use Rattle.meaning.specs.SameSets.{step_kinds, SameSets}
 use Rattle.meaning.proofs.MarksGrow.{mark-grows}
@@ -45,9 +45,6 @@ module _ (k : Counts) (t u : Tables) where
           step-kinds = λ x m. n.step-kinds x (of x m);
         }
 
-    ends-kept : EndsFit t → EndsFit u
-    ends-kept e f m = e f (fewer.role-facts f m)
-
   -- in each round every mark stands in a larger collection with the same counts
   marks-kept : Larger 𝓒 𝓓 → (n : ℕ) (s t : State) (B : Concept) → Mark (lite 𝓒) n s t B → Mark (lite 𝓓) n s t B
   marks-kept more = mark-grows (lite-grows more) (λ s t B m. record { from = m.from; to = m.to; of = m.of })
@@ -68,7 +65,6 @@ module _ (c : Call) (t : Tables) (s : SameSets c t) where
     counts = h.counts;
     tables = shaped h.tables;
     numbers = numbers-kept c.counts c.tables t s.fewer (λ x. (s.kinds x).1) h.numbers;
-    ends = ends-kept c.counts c.tables t s.fewer h.ends;
     ask = h.ask;
   }
 
@@ -105,9 +101,7 @@ module _ (c : Call) (t : Tables) (s : SameSets c t) where
   same-sets (bad-count h) = bad-count h
   same-sets (bad-table k h) = bad-table k (λ w. h (record { tables = s.shapes.1 w.tables; area = w.area; spare = w.spare }))
   same-sets (bad-number k w h) = bad-number k (shaped w) (λ n. h (numbers-kept c.counts t c.tables s.more (λ x. (s.kinds x).0) n))
-  same-sets (equal-ends k w n h) = equal-ends k (shaped w) (numbers-kept c.counts c.tables t s.fewer (λ x. (s.kinds x).1) n) (λ e. h (ends-kept c.counts t c.tables s.more e))
-  same-sets (bad-ask k w n e h) =
-      bad-ask k (shaped w) (numbers-kept c.counts c.tables t s.fewer (λ x. (s.kinds x).1) n) (ends-kept c.counts c.tables t s.fewer e) h
+  same-sets (bad-ask k w n h) = bad-ask k (shaped w) (numbers-kept c.counts c.tables t s.fewer (λ x. (s.kinds x).1) n) h
   same-sets (contradiction h b) = contradiction (sound-kept h) ((breaks-same h).0 b)
   same-sets (spent {n = n} {area = x} h sane need l lays) =
       spent (sound-kept h) (λ b. sane ((breaks-same h).1 b)) (needed-kept n need) l (sheet-kept c.allowance x lays)

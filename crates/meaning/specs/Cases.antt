@@ -1,8 +1,8 @@
 -- Worked on paper: the cases of docs/PAPER.md, in one table, and what a row says of its outcome.
-use Rattle.std.specs.Prelude.{◌≡◌, List, [], ◌∷◌, ℕ}
+use Rattle.std.specs.Prelude.{◌≡◌, List, [], ◌∷◌, ◌++◌, ℕ}
 use Rattle.kinds.specs.declared.Counts.{Counts}
 use Rattle.kinds.specs.declared.Answer.{Answer}
-use Rattle.kinds.specs.declared.Answer.TheVariants.{No, Yes, Contradiction, AllowanceSpent, BadCount, BadTable, BadNumber, EqualEnds, BadAsk}
+use Rattle.kinds.specs.declared.Answer.TheVariants.{No, Yes, Contradiction, AllowanceSpent, BadCount, BadTable, BadNumber, BadAsk}
 use Rattle.kinds.specs.Kinds.{individual, state}
 use Rattle.kinds.specs.Answer.{answer_number, answer_count}
 use Rattle.meaning.specs.Lent.{Tables, Call}
@@ -60,6 +60,17 @@ owner = 0 ∷ 0 ∷ []
 abbrev signs_holds : List ℕ
 signs_holds = 0 ∷ 0 ∷ 0 ∷ 1 ∷ 0 ∷ 1 ∷ 3 ∷ 2 ∷ []
 
+-- holds(0, 0), and signs(0, 1)
+abbrev self_held : List ℕ
+self_held = 1 ∷ 0 ∷ 0 ∷ []
+
+abbrev signed_to : List ℕ
+signed_to = 0 ∷ 0 ∷ 1 ∷ []
+
+-- holds, then signs
+abbrev holds_signs : List ℕ
+holds_signs = 0 ∷ 0 ∷ 2 ∷ 1 ∷ 0 ∷ 1 ∷ 0 ∷ 2 ∷ []
+
 -- counts, tables; first and second individual, allowance; number, count, marks
 abbrev row : Counts → Tables → ℕ → ℕ → ℕ → ℕ → ℕ → ℕ → Case
 row counts tables first second allowance number count marks = record {
@@ -114,6 +125,19 @@ cases =
     (holding (0 ∷ 64 ∷ 0 ∷ 66 ∷ 0 ∷ 68 ∷ []) [] (4 ∷ 0 ∷ 4 ∷ 2 ∷ []) [] owner []
     signs_holds (2 ∷ []))
     0 0 64 1 1 26
+    -- 13. holds(0, 0), signs(0, 1); holds then signs: (0, 1) yes, along the edge from 0 to itself
+    ∷ row (declares 2 2 2 3 0)
+    (holding [] [] [] [] [] (self_held ++ signed_to) holds_signs (2 ∷ [])) 0 1 64 1 0 18
+    -- 14. case 13, (0, 0): no
+    ∷ row (declares 2 2 2 3 0)
+    (holding [] [] [] [] [] (self_held ++ signed_to) holds_signs (2 ∷ [])) 0 0 64 0 0 18
+    -- 15. case 13 plus holds excludes holds backward: contradiction
+    ∷ row (declares 2 2 2 3 0)
+    (holding [] [] [] (2 ∷ 3 ∷ []) [] (self_held ++ signed_to) holds_signs (2 ∷ []))
+    0 1 64 2 0 0
+    -- 16. case 3 plus holds(0, 0): number 3, count 1
+    ∷ row (declares 2 2 2 4 0)
+    (holding base_rules [] [] [] owner self_held base_steps (3 ∷ [])) 0 0 1 3 1 26
     ∷ []
 
 module _ (area spare : List ℕ) where
@@ -138,7 +162,6 @@ module _ (area spare : List ℕ) where
   MarksStand BadCount x m = x ≡ area
   MarksStand BadTable x m = x ≡ area
   MarksStand BadNumber x m = x ≡ area
-  MarksStand EqualEnds x m = x ≡ area
   MarksStand BadAsk x m = x ≡ area
 
   -- what a row says of its outcome

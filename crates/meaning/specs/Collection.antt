@@ -72,7 +72,6 @@ pub record NumbersDeclared (𝓒 : Collection) : Type 0 where
   pub steps : Each 𝓒.steps (StepDeclared 𝓒.counts)
   pub finals : Each 𝓒.finals (StateDeclared 𝓒.counts)
 
--- Role facts with equal ends are refused by number 7, but nothing below rests on that.
 pub record WellFormed (𝓒 : Collection) : Type 0 where
   pub counts : CountsFit 𝓒.counts
   pub numbers : NumbersDeclared 𝓒

@@ -1,5 +1,5 @@
 -- Laws of a library call's outcome, of growth, and the cases worked on paper.
-use Rattle.std.specs.Prelude.{◌≡◌, List, ℕ, ◌≤◌, length}
+use Rattle.std.specs.Prelude.{◌≡◌, ◌≢◌, List, ℕ, ◌≤◌, length}
 use Rattle.kinds.specs.declared.Individual.{Individual}
 use Rattle.kinds.specs.declared.Answer.{Answer}
 use Rattle.kinds.specs.Kinds.{IndividualDeclared}
@@ -14,10 +14,11 @@ use Rattle.meaning.specs.Outcome.{Outcome}
 use Rattle.meaning.specs.Demands.{most_rounds, Enough, AsModelSays, Larger, GrowsTo, Grown, allowed}
 use Rattle.meaning.specs.Cases.{Case, cases, Says}
 
--- every input gets one of the listed answers,
+-- every input gets one of the listed answers, 0 to 8 but never 7,
 abbrev pub EveryInputAnswered : Type 0
 EveryInputAnswered = (c : Call)
     → (r : Answer) × (x y : List ℕ) × Outcome c r x y × (answer_number r ≤ 8)
+    × (answer_number r ≢ 7)
 
 -- and only one, with one count; what it leaves in both areas is fixed
 abbrev pub OutcomeOnce : Type 0

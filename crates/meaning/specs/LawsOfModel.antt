@@ -1,6 +1,6 @@
 -- Laws of the canonical model: its elements and edges; that it has every fact and keeps every rule;
 -- where it breaks an exclusion; what its paths spell.
-use Rattle.std.specs.Prelude.{◌≡◌, ◌↔◌, List, [], ◌∷◌}
+use Rattle.std.specs.Prelude.{◌≡◌, ◌↔◌, ◌⊎◌, List, [], ◌∷◌}
 use Rattle.kinds.specs.declared.ConceptName.{ConceptName}
 use Rattle.kinds.specs.declared.RoleName.{RoleName}
 use Rattle.kinds.specs.declared.Individual.{Individual}
@@ -8,7 +8,7 @@ use Rattle.kinds.specs.declared.State.{State}
 use Rattle.kinds.specs.declared.SignedRole.{SignedRole}
 use Rattle.kinds.specs.declared.Concept.{Concept}
 use Rattle.kinds.specs.declared.Concept.TheVariants.{Name, Exists}
-use Rattle.kinds.specs.Kinds.{inverse, forward, IndividualDeclared}
+use Rattle.kinds.specs.Kinds.{inverse, forward, backward, IndividualDeclared}
 use Rattle.laws.specs.Member.{◌∈◌}
 use Rattle.meaning.specs.Collection.{Collection, RoleStep, TestStep, NumbersDeclared, WellFormed}
 use Rattle.meaning.specs.Orders.{RoleLe, ConceptLe}
@@ -60,6 +60,18 @@ abbrev pub FactsJoin : Type 0
 FactsJoin = (𝓒 : Collection) (r : RoleName) (a b : Individual) → (r, a, b) ∈ 𝓒.role-facts
     → (S : SignedRole) → RoleLe 𝓒 (forward r) S
     → Edge 𝓒 (root a) S (root b) × Edge 𝓒 (root b) (inverse S) (root a)
+
+-- so one whose ends are equal, r(a, a), gives the individual an edge to itself: with the role, with
+-- the inverse, and with all that follows from either, the inverses of these too
+pub record JoinedToItself (𝓒 : Collection) (r : RoleName) (a : Individual) : Type 0 where
+  pub role : Edge 𝓒 (root a) (forward r) (root a)
+  pub turned : Edge 𝓒 (root a) (backward r) (root a)
+  pub above : (S : SignedRole) → RoleLe 𝓒 (forward r) S ⊎ RoleLe 𝓒 (backward r) S
+      → Edge 𝓒 (root a) S (root a) × Edge 𝓒 (root a) (inverse S) (root a)
+
+abbrev pub SelfFactsJoin : Type 0
+SelfFactsJoin = (𝓒 : Collection) (r : RoleName) (a : Individual) → (r, a, a) ∈ 𝓒.role-facts
+    → JoinedToItself 𝓒 r a
 
 -- an element and its child by R are joined likewise
 abbrev pub ChildrenJoin : Type 0
@@ -130,7 +142,14 @@ abbrev pub RoleForbidden : Type 0
 RoleForbidden = (𝓒 : Collection) (R : SignedRole) → (R, R) ∈ 𝓒.role-exclusions
     → (x y : Element 𝓒) → Edge 𝓒 x R y → Contradiction 𝓒
 
--- so does a concept from which both sides of an exclusion follow
+-- an exclusion of R from its inverse forbids a role fact with equal ends whose role is one from which
+-- R or its inverse follows
+abbrev pub SelfForbidden : Type 0
+SelfForbidden = (𝓒 : Collection) (R : SignedRole) → (R, inverse R) ∈ 𝓒.role-exclusions
+    → (r : RoleName) (a : Individual) → (r, a, a) ∈ 𝓒.role-facts
+    → RoleLe 𝓒 (forward r) R ⊎ RoleLe 𝓒 (forward r) (inverse R) → Contradiction 𝓒
+
+-- a concept from which both sides of an exclusion follow is forbidden too
 abbrev pub EmptyConceptForbidden : Type 0
 EmptyConceptForbidden = (𝓒 : Collection) (C D E : Concept) → ConceptLe 𝓒 C D → ConceptLe 𝓒 C E
     → (D, E) ∈ 𝓒.concept-exclusions

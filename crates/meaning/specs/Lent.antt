@@ -1,5 +1,6 @@
 -- What a library call is lent: five counts, eight tables of 16-bit numbers, a pair, an allowance
--- and two areas (docs/RULES.md, section 3); and its tests 4 to 8 (section 7).
+-- and two areas (docs/RULES.md, section 3); and its tests 4, 5, 6
+-- and 8 (section 7).
 use Rattle.std.specs.Prelude.{◌≡◌, List, ℕ, zero, suc, ◌+◌, ◌*◌, ◌/◌, ◌%◌, ◌≤◌, length, slice_index}
 use Rattle.kinds.specs.declared.ConceptName.{ConceptName}
 use Rattle.kinds.specs.declared.RoleName.{RoleName}
@@ -173,16 +174,6 @@ pub record NumbersFit (c : Counts) (t : Tables) : Type 0 where
 abbrev pub NumbersOk : Call → Type 0
 NumbersOk c = NumbersFit c.counts c.tables
 
--- test 7: the two ends of a role fact differ
-abbrev pub EndsDiffer : RoleName × Individual × Individual → Type 0
-EndsDiffer f = f.1 ≡ f.2 → ⊥
-
-abbrev pub EndsFit : Tables → Type 0
-EndsFit t = Each (records role_fact_width role_fact t.role-facts) EndsDiffer
-
-abbrev pub EndsOk : Call → Type 0
-EndsOk c = EndsFit c.tables
-
 -- test 8: both asked individuals are declared
 abbrev pub AskOk : Call → Type 0
 AskOk c = IndividualDeclared c.counts c.first × IndividualDeclared c.counts c.second
@@ -192,5 +183,4 @@ pub record Sound (c : Call) : Type 0 where
   pub counts : CountsOk c
   pub tables : TablesOk c
   pub numbers : NumbersOk c
-  pub ends : EndsOk c
   pub ask : AskOk c

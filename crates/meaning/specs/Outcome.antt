@@ -2,12 +2,12 @@
 -- areas hold after it.
 use Rattle.std.specs.Prelude.{List, ℕ, ◌≤◌, ◌<◌}
 use Rattle.kinds.specs.declared.Answer.{Answer}
-use Rattle.kinds.specs.declared.Answer.TheVariants.{No, Yes, Contradiction, AllowanceSpent, BadCount, BadTable, BadNumber, EqualEnds, BadAsk}
+use Rattle.kinds.specs.declared.Answer.TheVariants.{No, Yes, Contradiction, AllowanceSpent, BadCount, BadTable, BadNumber, BadAsk}
 use Rattle.meaning.specs.Sheet.{Mark, Needed}
 use Rattle.meaning.specs.Model as model
 use Rattle.meaning.specs.Question as question
 use Rattle.meaning.specs.Lite.{lite}
-use Rattle.meaning.specs.Lent.{Call, collection_of, CountsOk, TablesOk, NumbersOk, EndsOk, AskOk, Sound}
+use Rattle.meaning.specs.Lent.{Call, collection_of, CountsOk, TablesOk, NumbersOk, AskOk, Sound}
 use Rattle.meaning.specs.Layout.{Lays, zeros}
 
 module _ (c : Call) where
@@ -27,14 +27,12 @@ module _ (c : Call) where
   abbrev pub HoldsSheet : ℕ → List ℕ → Type 0
   HoldsSheet n = Lays (Mark (lite (collection_of c)) n)
 
-  -- the library's order: 4, 5, 6, 7, 8, 2, 3, then 1 or 0
+  -- the library's order: 4, 5, 6, 8, 2, 3, then 1 or 0; 7 is never given
   pub data Outcome : Answer → List ℕ → List ℕ → Type 0 where
     bad-count : (CountsOk c → ⊥) → Outcome BadCount c.area c.spare
     bad-table : CountsOk c → (TablesOk c → ⊥) → Outcome BadTable c.area c.spare
     bad-number : CountsOk c → TablesOk c → (NumbersOk c → ⊥) → Outcome BadNumber c.area c.spare
-    equal-ends : CountsOk c → TablesOk c → NumbersOk c → (EndsOk c → ⊥)
-        → Outcome EqualEnds c.area c.spare
-    bad-ask : CountsOk c → TablesOk c → NumbersOk c → EndsOk c → (AskOk c → ⊥)
+    bad-ask : CountsOk c → TablesOk c → NumbersOk c → (AskOk c → ⊥)
         → Outcome BadAsk c.area c.spare
     contradiction : Sound c → Breaks → Outcome Contradiction c.area c.spare
     spent : {n : ℕ} {area : List ℕ} → Sound c → (Breaks → ⊥) → RoundsNeeded n → c.allowance < n

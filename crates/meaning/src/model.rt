@@ -1,11 +1,11 @@
 // Laws of the canonical model.
 ghost use Rattle.meaning.specs.LawsOfModel.{ElementsAreRows, BareBelongs, RowBelongs, UnnamedHas};
-ghost use Rattle.meaning.specs.LawsOfModel.{FactsJoin, ChildrenJoin, NeighboursDiffer};
+ghost use Rattle.meaning.specs.LawsOfModel.{FactsJoin, SelfFactsJoin, ChildrenJoin, NeighboursDiffer};
 ghost use Rattle.meaning.specs.LawsOfModel.{LeanContradictionSame, LeanYesSame};
 ghost use Rattle.meaning.specs.LawsOfModel.{ConceptFactsHold, RoleFactsHold, ConceptRulesKept};
 ghost use Rattle.meaning.specs.LawsOfModel.{RoleRulesKept, ConceptsAbove, RolesAbove, InversesBack};
 ghost use Rattle.meaning.specs.LawsOfModel.{NeighbourIsHad, NeighbourIsThere};
-ghost use Rattle.meaning.specs.LawsOfModel.{ConceptForbidden, RoleForbidden, EmptyConceptForbidden};
+ghost use Rattle.meaning.specs.LawsOfModel.{ConceptForbidden, RoleForbidden, SelfForbidden, EmptyConceptForbidden};
 ghost use Rattle.meaning.specs.LawsOfModel.{NoContradictionWhereNone, ContradictionFound};
 ghost use Rattle.meaning.specs.LawsOfModel.{RoleStepMoves, TestStepStays};
 ghost use Rattle.meaning.specs.LawsOfModel.{YesIsWord, EmptyPathCounts, PathIsWalk};
@@ -17,6 +17,7 @@ pub fn elements()
     ensures longer { RowBelongs }
     ensures unnamed { UnnamedHas }
     ensures facts { FactsJoin }
+    ensures self_edge { SelfFactsJoin }
     ensures children { ChildrenJoin }
     ensures neighbours_differ { NeighboursDiffer }
     ensures lean_contradiction { LeanContradictionSame }
@@ -40,6 +41,7 @@ pub fn model()
 pub fn contradiction()
     ensures concept_forbidden { ConceptForbidden }
     ensures role_forbidden { RoleForbidden }
+    ensures self_clash { SelfForbidden }
     ensures empty_forbidden { EmptyConceptForbidden }
     ensures none { NoContradictionWhereNone }
     ensures found { ContradictionFound }

@@ -1,4 +1,4 @@
--- A file that is read whole is accepted: for each of its asks the library is lent a call that none of its tests 4 to 8 refuses.
+-- A file that is read whole is accepted: for each of its asks the library is lent a call that none of its tests 4, 5, 6 and 8 refuses.
 use Rattle.std.specs.Prelude.{ℕ, zero, suc, ◌+◌, ◌*◌, ◌/◌, ◌%◌, ◌<◌, ◌≤◌, ◌≡◌, ◌≢◌, ◌⊎◌, Option, None, Some, IfSome, is_some, cond, unwrap_or, length, get_or, drop}
 use Rattle.std.proofs.Math.Path.{refl}
 use Rattle.std.proofs.Common.{ap, sym, ◌∙◌, subst, inl, inr, get_or-drop, mul-zero, mul-suc, arith}
@@ -13,7 +13,7 @@ use Rattle.kinds.specs.declared.Counts.{Counts}
 use Rattle.kinds.specs.Kinds.{concept_name, role_name, individual, state, signed, concept_of, number_of, concept-number, CountsFit, IndividualDeclared, StateDeclared}
 use Rattle.meaning.specs.Collection.{Each, step, ConceptsDeclared, RolesDeclared, ConceptFactDeclared, RoleFactDeclared, StepDeclared}
 use Rattle.meaning.specs.Layout.{area_length}
-use Rattle.meaning.specs.Lent.{field, records, concept_pair, role_pair, concept_fact, role_fact, letter_of, step_kind, step_at, final_at, Whole, TablesOk, NumbersOk, EndsDiffer, EndsOk, Sound}
+use Rattle.meaning.specs.Lent.{field, records, concept_pair, role_pair, concept_fact, role_fact, letter_of, step_kind, step_at, final_at, Whole, TablesOk, NumbersOk, Sound}
 use Rattle.tables.proofs.Meant.{each_in}
 use Rattle.expression.specs.Fits.{FitsTables, RecordsDeclared}
 use Rattle.expression.specs.Listed.{Listed}
@@ -41,9 +41,7 @@ module _ (c : Counts) (n : ℕ → ℕ) where
   Passes role_rules = RolesDeclared c (signed (n 0), signed (n 1))
   Passes role_exclusions = RolesDeclared c (signed (n 0), signed (n 1))
   Passes concept_facts = ConceptFactDeclared c (concept_name (n 0), individual (n 1))
-  Passes role_facts =
-      RoleFactDeclared c (role_name (n 0), individual (n 1), individual (n 2))
-      × EndsDiffer (role_name (n 0), individual (n 1), individual (n 2))
+  Passes role_facts = RoleFactDeclared c (role_name (n 0), individual (n 1), individual (n 2))
   Passes steps = (n 0 ≤ 1) × StepDeclared c (step (state (n 1)) (letter_of (n 0) (n 2)) (state (n 3)))
   Passes finals = StateDeclared c (state (n 0))
   Passes asks = IndividualDeclared c (individual (n 0)) × IndividualDeclared c (individual (n 1))
@@ -67,7 +65,7 @@ module _ (before : List Frame) (t : Taken before) (l : List ℕ) where
   taken-passes role_rules (RoleRule R S) p = p.numbers
   taken-passes role_exclusions (RoleExclusion R S) p = p.numbers
   taken-passes concept_facts (ConceptFact A a) p = p.numbers
-  taken-passes role_facts (RoleFact r a b) p = (p.numbers, p.ends)
+  taken-passes role_facts (RoleFact r a b) p = p.numbers
   taken-passes steps (RoleStep u R v) p = (omega arith, p.numbers)
   taken-passes steps (TestStep u A v) p = (omega arith, p.numbers)
   taken-passes finals (Final u) p = p.numbers
@@ -238,15 +236,12 @@ module _ {fs : List Frame} (t : Taken fs) where
         role-rules = each role_rules (omega arith) role_pair (RolesDeclared (declared_by fs)) (record-passes role_rules);
         role-exclusions = each role_exclusions (omega arith) role_pair (RolesDeclared (declared_by fs)) (record-passes role_exclusions);
         concept-facts = each concept_facts (omega arith) concept_fact (ConceptFactDeclared (declared_by fs)) (record-passes concept_facts);
-        role-facts = each role_facts (omega arith) role_fact (RoleFactDeclared (declared_by fs)) (λ i h. (record-passes role_facts i h).0);
+        role-facts = each role_facts (omega arith) role_fact (RoleFactDeclared (declared_by fs)) (record-passes role_facts);
         steps = declared.steps;
         finals = declared.finals;
       };
       step-kinds = fits.step_kinds;
     }
-
-    ends-ok : EndsOk (asked fs q k)
-    ends-ok = each role_facts (omega arith) role_fact EndsDiffer (λ i h. (record-passes role_facts i h).1)
 
 -- a file with a record in some table has its line 1
 some-begun : (kind : Kind) (k : ℕ) (fs : List Frame) → k < entries kind fs → fs ≢ []
@@ -254,14 +249,13 @@ unfolding entries
 some-begun kind k [] h e = omega arith
 some-begun kind k (f ∷ fs) h e = cc
 
--- THEOREM: where frames are taken, the call of each ask among them passes the library's tests 4 to 8
+-- THEOREM: where frames are taken, the call of each ask among them passes the library's tests 4, 5, 6 and 8
 pub accepted : (fs : List Frame) → Taken fs → (q : Listed) → IsQuestion (file_of fs) q → (k : ℕ) → k < entries asks fs → Sound (asked fs q k)
 accepted fs t q is k h =
     record {
       counts = fitting fs t (some-begun asks k fs h);
       tables = tables-ok t q is k;
       numbers = numbers-ok t q is k;
-      ends = ends-ok t q is k;
       ask = record-passes t asks k h;
     }
 

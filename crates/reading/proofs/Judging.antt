@@ -6,10 +6,10 @@ use Rattle.frames.specs.declared.Frame.{Frame}
 use Rattle.frames.specs.declared.Frame.TheVariants.{Declared, ConceptRule, ConceptExclusion, RoleRule, RoleExclusion, ConceptFact, RoleFact, RoleStep, TestStep, Final, Ask, Allowance, Expression}
 use Rattle.reading.specs.declared.File.{File}
 use Rattle.reading.specs.declared.Refusal.{Refusal}
-use Rattle.reading.specs.declared.Refusal.TheVariants.{BadCount, BadTable, BadNumber, EqualEnds, BadAsk, OutOfPlace}
+use Rattle.reading.specs.declared.Refusal.TheVariants.{BadCount, BadTable, BadNumber, BadAsk, OutOfPlace}
 use Rattle.reading.specs.Tables.{Kind, concept_rules, concept_exclusions, role_rules, role_exclusions, concept_facts, role_facts, steps, finals, asks, record_in, most, entries, table}
 use Rattle.reading.specs.File.{file_of, IsInPlace, HasShelfRoom, RoomIn}
-use Rattle.reading.specs.Judged.{InPlace, CountsOk, HasRoom, NumbersOk, EndsDiffer, AskOk, Judged}
+use Rattle.reading.specs.Judged.{InPlace, CountsOk, HasRoom, NumbersOk, AskOk, Judged}
 use Rattle.reading.specs.Turns.{ExpressionJudged, JudgedBy}
 use Rattle.reading.proofs.TableLaws.{table-length}
 
@@ -91,9 +91,8 @@ module _ (file : File) (f : Frame) where
       (First (CountsOk f) (Err BadCount)
       (First (HasShelfRoom file f) (Err BadTable)
       (First (NumbersOk file.counts f) (Err BadNumber)
-      (First (EndsDiffer f) (Err EqualEnds)
       (First (AskOk file.counts f) (Err BadAsk)
-      (ExpressionJudged file.counts f))))))
+      (ExpressionJudged file.counts f)))))
 
 tests-judged : (before : List Frame) (f : Frame) (r : Result (Unit {0}) Refusal) → Tests (file_of before) f r → Judged before f r
 tests-judged before f r h =

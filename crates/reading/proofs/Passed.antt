@@ -4,14 +4,13 @@ use Rattle.laws.specs.First.{first-passed}
 use Rattle.frames.specs.declared.Frame.{Frame}
 use Rattle.reading.specs.Tables.{declared_by}
 use Rattle.reading.specs.Reading.{Finds, taken, Taken, none, more}
-use Rattle.reading.specs.Judged.{InPlace, CountsOk, HasRoom, NumbersOk, EndsDiffer, AskOk, IsShallow, IsExpressed, IsShaped, Judged}
+use Rattle.reading.specs.Judged.{InPlace, CountsOk, HasRoom, NumbersOk, AskOk, IsShallow, IsExpressed, IsShaped, Judged}
 
 pub record Passed (before : List Frame) (f : Frame) : Type 0 where
   pub in_place : InPlace before f
   pub counts : CountsOk f
   pub room : HasRoom before f
   pub numbers : NumbersOk (declared_by before) f
-  pub ends : EndsDiffer f
   pub ask : AskOk (declared_by before) f
   pub shallow : IsShallow f
   pub expressed : IsExpressed f
@@ -27,8 +26,7 @@ passed before f j =
     let h = first-passed g.1 (λ e. cc) in
     let i = first-passed h.1 (λ e. cc) in
     let k = first-passed i.1 (λ e. cc) in
-    let l = first-passed k.1 (λ e. cc) in
-    record { in_place = a.0; counts = b.0; room = c.0; numbers = d.0; ends = g.0; ask = h.0; shallow = i.0; expressed = k.0; shaped = l.0 }
+    record { in_place = a.0; counts = b.0; room = c.0; numbers = d.0; ask = g.0; shallow = h.0; expressed = i.0; shaped = k.0 }
 
 pub judged_ok : {before : List Frame} {line : List ℕ} {f : Frame} → Finds before line (Ok f) → Judged before f (Ok tt)
 judged_ok (taken f o j) = j

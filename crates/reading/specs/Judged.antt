@@ -11,7 +11,7 @@ use Rattle.expression.specs.Answer.{HasMarks}
 use Rattle.frames.specs.declared.Frame.{Frame}
 use Rattle.frames.specs.declared.Frame.TheVariants.{Declared, ConceptRule, ConceptExclusion, RoleRule, RoleExclusion, ConceptFact, RoleFact, RoleStep, TestStep, Final, Ask, Allowance, Expression}
 use Rattle.reading.specs.declared.Refusal.{Refusal}
-use Rattle.reading.specs.declared.Refusal.TheVariants.{BadCount, BadTable, BadNumber, EqualEnds, BadAsk, OutOfPlace, NoExpression, AnotherShape}
+use Rattle.reading.specs.declared.Refusal.TheVariants.{BadCount, BadTable, BadNumber, BadAsk, OutOfPlace, NoExpression, AnotherShape}
 use Rattle.reading.specs.declared.Refusal.TheVariants as refusal
 use Rattle.reading.specs.Tables.{Kind, steps, finals, record_in, most, entries, table, declared_by, allowance_given, expression_given}
 
@@ -53,11 +53,6 @@ module _ (counts : Counts) where
   NumbersOk (Expression row) = MarksDeclared counts row
   NumbersOk other = ⊤
 
--- not 7: a role fact's ends differ
-abbrev pub EndsDiffer : Frame → Type 0
-EndsDiffer (RoleFact r a b) = a ≢ b
-EndsDiffer other = ⊤
-
 -- not 8: each asked individual is declared
 module _ (counts : Counts) where
   abbrev pub AskOk : Frame → Type 0
@@ -82,7 +77,7 @@ module _ (counts : Counts) where
       (n : ℕ) × HasMarks row n × (counts.states ≡ n + 1) × (counts.start ≡ state 0)
   IsShaped other = ⊤
 
--- a frame after those before it: 11, then 4, 5, 6, 7, 8, 13, 12, 14, and else it is taken
+-- a frame after those before it: 11, then 4, 5, 6, 8, 13, 12, 14, and else it is taken
 module _ (before : List Frame) (f : Frame) where
   abbrev pub Judged : Result (Unit {0}) Refusal → Type 0
   Judged =
@@ -90,9 +85,8 @@ module _ (before : List Frame) (f : Frame) where
       (First (CountsOk f) (Err BadCount)
       (First (HasRoom before f) (Err BadTable)
       (First (NumbersOk (declared_by before) f) (Err BadNumber)
-      (First (EndsDiffer f) (Err EqualEnds)
       (First (AskOk (declared_by before) f) (Err BadAsk)
       (First (IsShallow f) (Err refusal.TooDeep)
       (First (IsExpressed f) (Err NoExpression)
       (First (IsShaped (declared_by before) f) (Err AnotherShape)
-      (λ r. r ≡ Ok tt)))))))))
+      (λ r. r ≡ Ok tt))))))))

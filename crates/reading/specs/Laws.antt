@@ -1,5 +1,5 @@
 -- Laws of reading a file (docs/RULES.md, sections 7 and 8).
-use Rattle.std.specs.Prelude.{ℕ, suc, ◌*◌, ◌<◌, ◌≤◌, ◌≡◌, ◌↔◌, List, [], ◌∷◌, Result, length, take}
+use Rattle.std.specs.Prelude.{ℕ, suc, ◌*◌, ◌<◌, ◌≤◌, ◌≡◌, ◌≢◌, ◌↔◌, List, [], ◌∷◌, Result, length, take}
 use Rattle.meaning.specs.Lent.{Sound}
 use Rattle.streams.specs.Lines.{lines}
 use Rattle.expression.specs.Listed.{Listed}
@@ -35,9 +35,9 @@ abbrev pub ReadsOnce : Type 0
 ReadsOnce = (ls : List (List ℕ)) (r q : Result (Unit {0}) Fault) (x y : File)
     → ReadsFile ls r x → ReadsFile ls q y → (r ≡ q) × (x ≡ y)
 
--- the number that refuses a line is one of 4 to 14
+-- the number that refuses a line is one of 4 to 14, but never 7
 abbrev pub IsListed : ℕ → Type 0
-IsListed number = (4 ≤ number) × (number ≤ 14)
+IsListed number = (4 ≤ number) × (number ≤ 14) × (number ≢ 7)
 
 abbrev pub RefusalsListed : Type 0
 RefusalsListed = (r : Refusal) → IsListed (refusal_number r)
@@ -46,7 +46,8 @@ RefusalsListed = (r : Refusal) → IsListed (refusal_number r)
 abbrev pub ReadingTaken : Type 0
 ReadingTaken = (ls : List (List ℕ)) (v : Verdict) → Reading [] ls v → Taken (frames_of v)
 
--- where frames were taken, the call of each ask among them passes the library's tests 4 to 8
+-- where frames were taken, the call of each ask among them passes the library's tests 4, 5, 6
+-- and 8
 abbrev pub TakenAccepted : Type 0
 TakenAccepted = (fs : List Frame) → Taken fs → (q : Listed) → IsQuestionOf fs q
     → (k : ℕ) → k < entries asks fs → Sound (asked fs q k)

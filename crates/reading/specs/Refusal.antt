@@ -4,14 +4,13 @@ use Rattle.std.specs.Prelude.{ℕ}
 use Rattle.frames.specs.declared.Misread.{Misread}
 use Rattle.frames.specs.declared.Misread.TheVariants as unread
 use Rattle.reading.specs.declared.Refusal.{Refusal}
-use Rattle.reading.specs.declared.Refusal.TheVariants.{BadCount, BadTable, BadNumber, EqualEnds, BadAsk, BadLine, BadFrame, OutOfPlace, NoExpression, TooDeep, AnotherShape}
+use Rattle.reading.specs.declared.Refusal.TheVariants.{BadCount, BadTable, BadNumber, BadAsk, BadLine, BadFrame, OutOfPlace, NoExpression, TooDeep, AnotherShape}
 
--- the number of each refusal
+-- the number of each refusal; 7 is never given
 abbrev pub refusal_number : Refusal → ℕ
 refusal_number BadCount = 4
 refusal_number BadTable = 5
 refusal_number BadNumber = 6
-refusal_number EqualEnds = 7
 refusal_number BadAsk = 8
 refusal_number BadLine = 9
 refusal_number BadFrame = 10

@@ -1,7 +1,7 @@
 // A frame judged: of its tests, in the order of their numbers, the first that fails refuses it.
 ghost use Rattle.std.specs.Prelude.{◌↔◌, ◌≡◌, ◌+◌, All, IsTrue};
 ghost use Rattle.kinds.specs.Kinds.{state};
-ghost use Rattle.reading.specs.Judged.{CountsOk, NumbersOk, EndsDiffer, AskOk};
+ghost use Rattle.reading.specs.Judged.{CountsOk, NumbersOk, AskOk};
 ghost use Rattle.reading.specs.File.{IsInPlace, HasShelfRoom};
 ghost use Rattle.reading.specs.Turns.{HasNoQuestion, MarkOk, MarksRead, RowJudged, ExpressionJudged, JudgedBy};
 
@@ -61,16 +61,6 @@ fn numbers_ok(frame: &Frame, counts: Counts) -> bool
         }
         Frame::Final(s) => s.declared(counts),
         Frame::Expression(marks) => marks_ok(marks.as_slice(), counts),
-        _ => true,
-    }
-}
-
-// 7: a role fact's ends.
-fn ends_differ(frame: &Frame) -> bool
-    ensures { IsTrue result ↔ EndsDiffer frame.now }
-{
-    match frame {
-        Frame::RoleFact(_, i, j) => *i != *j,
         _ => true,
     }
 }
@@ -183,9 +173,6 @@ impl File {
         }
         if !numbers_ok(frame, self.counts) {
             return Err(Refusal::BadNumber);
-        }
-        if !ends_differ(frame) {
-            return Err(Refusal::EqualEnds);
         }
         if !ask_ok(frame, self.counts) {
             return Err(Refusal::BadAsk);

@@ -47,7 +47,6 @@ pub enum Refusal {
     BadCount,
     BadTable,
     BadNumber,
-    EqualEnds,
     BadAsk,
     BadLine,
     BadFrame,
@@ -92,7 +91,6 @@ impl Refusal {
             Refusal::BadCount => 4,
             Refusal::BadTable => 5,
             Refusal::BadNumber => 6,
-            Refusal::EqualEnds => 7,
             Refusal::BadAsk => 8,
             Refusal::BadLine => 9,
             Refusal::BadFrame => 10,
@@ -204,7 +202,8 @@ impl File {
     // What a call of the library is lent, with the file's own automaton.
     pub fn collection<'a>(&'a self, automaton: &'a Option<Automaton>) -> Collection<'a>
         ensures counts { result.counts ≡ self.now.counts }
-        ensures tables { lists result ≡ lent_tables self.now (question_by self.now automaton.now) }
+        ensures tables { lists result
+            ≡ lent_tables self.now (question_by self.now automaton.now) }
     {
         Collection {
             counts: self.counts,

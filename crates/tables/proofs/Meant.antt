@@ -5,11 +5,11 @@ use Rattle.kinds.specs.declared.Counts.{Counts}
 use Rattle.kinds.specs.Kinds.{StateDeclared}
 use Rattle.laws.specs.Numbers.{numbered-in, numbered-out}
 use Rattle.meaning.specs.Collection.{Each, ConceptsDeclared, RolesDeclared, ConceptFactDeclared, RoleFactDeclared, StepDeclared}
-use Rattle.meaning.specs.Lent.{records, field, rule_width, concept_fact_width, role_fact_width, step_width, final_width, concept_pair, role_pair, concept_fact, role_fact, letter_of, step_at, final_at, NumbersFit, EndsDiffer, EndsFit}
+use Rattle.meaning.specs.Lent.{records, field, rule_width, concept_fact_width, role_fact_width, step_width, final_width, concept_pair, role_pair, concept_fact, role_fact, letter_of, step_at, final_at, NumbersFit}
 use Rattle.tables.specs.declared.collection.Collection.{Collection}
 use Rattle.tables.specs.Every.{EachRecord}
 use Rattle.tables.specs.Letters.{read_letter, IsLetterDeclared}
-use Rattle.tables.specs.Lists.{lists, RecordsFit, EndsApart}
+use Rattle.tables.specs.Lists.{lists, RecordsFit}
 use Rattle.meaning.specs.Collection.{LetterDeclared}
 
 -- where a test fails its fact does not hold
@@ -68,9 +68,3 @@ module _ (c : Collection) where
 
   pub numbers-meant : RecordsFit c ↔ NumbersFit c.counts (lists c)
   numbers-meant = (numbers_in, numbers-out)
-
-  pub ends-meant : EndsApart c ↔ EndsFit (lists c)
-  ends-meant = (
-    each_in role_fact_width role_fact EndsDiffer _,
-    each-out role_fact_width role_fact EndsDiffer _,
-  )

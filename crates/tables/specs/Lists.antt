@@ -1,11 +1,10 @@
--- The lists of numbers that a lent collection's tables hold, and tests 6 and 7 as facts about
--- records by their fields.
-use Rattle.std.specs.Prelude.{◌≡◌, List, ℕ}
+-- The lists of numbers that a lent collection's tables hold, and test 6 as facts about records by
+-- their fields.
+use Rattle.std.specs.Prelude.{List, ℕ}
 use Rattle.kinds.specs.declared.Counts.{Counts}
 use Rattle.meaning.specs.Lent.{Tables, rule_width, concept_fact_width, role_fact_width, step_width, final_width, final_at}
 use Rattle.kinds.specs.Kinds.{StateDeclared}
 use Rattle.tables.specs.declared.collection.Collection.{Collection}
-use Rattle.tables.specs.declared.records.RoleFact.{RoleFact}
 use Rattle.tables.specs.Every.{EachRecord}
 use Rattle.tables.specs.Records.{read_concept_pair, read_role_pair, read_concept_fact, read_role_fact, read_step, read_step_kind, IsConceptPairDeclared, IsRolePairDeclared, IsConceptFactDeclared, IsRoleFactDeclared, IsStepDeclared, IsStepKind}
 
@@ -57,10 +56,3 @@ pub record RecordsFit (c : Collection) : Type 0 where
   pub steps : AreSteps c.counts c.steps.numbers.now
   pub step_kinds : AreStepKinds c.counts c.steps.numbers.now
   pub finals : AreFinalStates c.counts c.finals.numbers.now
-
--- a role fact is between two individuals
-abbrev pub HasTwoEnds : RoleFact → Type 0
-HasTwoEnds f = f.first ≡ f.second → ⊥
-
-abbrev pub EndsApart : Collection → Type 0
-EndsApart c = EachRecord role_fact_width read_role_fact c.role_facts.numbers.now HasTwoEnds

@@ -1,4 +1,4 @@
-// A collection as it is lent, and its tests 4 to 7.
+// A collection as it is lent, and its tests 4, 5 and 6.
 ghost use Rattle.std.specs.Prelude.{◌≡◌, ◌↔◌, IsTrue, IsOk};
 
 use crate::records::{ConceptFact, ConceptPair, RoleFact, RolePair, Step, StepKind};
@@ -19,7 +19,7 @@ pub struct Collection<'a> {
     pub finals: Table<'a, State>,
 }
 
-// Why a collection is refused: the answers 4 to 7 of docs/RULES.md (section 7).
+// Why a collection is refused: the answers 4, 5 and 6 of docs/RULES.md (section 7).
 #[derive(Clone, Copy, PartialEq, Eq)]
 pub enum Refusal {
     // A count is out of its range, or the start state is not declared.
@@ -28,8 +28,6 @@ pub enum Refusal {
     BadTable,
     // A number in a record is not declared, or a step's kind is above 1.
     BadNumber,
-    // A role fact leads from an individual to itself.
-    EqualEnds,
 }
 
 impl Refusal {
@@ -43,7 +41,6 @@ impl Refusal {
             Refusal::BadCount => Answer::BadCount,
             Refusal::BadTable => Answer::BadTable,
             Refusal::BadNumber => Answer::BadNumber,
-            Refusal::EqualEnds => Answer::EqualEnds,
         }
     }
 }
@@ -71,8 +68,8 @@ pub const AREA: usize = State::PAIRS * Concept::NUMBERS;
 impl<'a> Collection<'a> {
     ghost use Rattle.kinds.specs.Kinds.{CountsFit};
     ghost use Rattle.meaning.specs.Lent.{ShapesOk, TablesFit};
-    ghost use Rattle.tables.specs.Lists.{lists, RecordsFit, EndsApart};
-    ghost use Rattle.tables.specs.Tests.{PassesTests, StopsAtTables, StopsAtNumbers, StopsAtEnds};
+    ghost use Rattle.tables.specs.Lists.{lists, RecordsFit};
+    ghost use Rattle.tables.specs.Tests.{PassesTests, StopsAtTables, StopsAtNumbers};
 
     // Whole records in each table, and not too many.
     fn shapes_fit(&self) -> bool
@@ -112,19 +109,7 @@ impl<'a> Collection<'a> {
             && kinds.all_declared(counts)
     }
 
-    // The two ends of every role fact differ.
-    fn ends_fit(&self) -> bool
-        ensures { IsTrue result ↔ EndsApart self.now }
-    {
-        for fact in self.role_facts.iter() {
-            if fact.first == fact.second {
-                return false;
-            }
-        }
-        true
-    }
-
-    // The tests 4 to 7, in this order: the first that fails is the refusal.
+    // The tests 4, 5 and 6, in this order: the first that fails is the refusal.
     // `area` and `spare` are the lengths in bytes of the two areas that are lent.
     pub fn check(&self, area: usize, spare: usize) -> Result<(), Refusal>
         ensures ok { IsOk result ↔ PassesTests self.now area spare }
@@ -135,8 +120,6 @@ impl<'a> Collection<'a> {
             (result ≡ Err Refusal.BadTable) ↔ StopsAtTables c area spare }
         ensures bad_number { let c = self.now in
             (result ≡ Err Refusal.BadNumber) ↔ StopsAtNumbers c area spare }
-        ensures equal_ends { let c = self.now in
-            (result ≡ Err Refusal.EqualEnds) ↔ StopsAtEnds c area spare }
     {
         if !self.counts.fit() {
             return Err(Refusal::BadCount);
@@ -146,9 +129,6 @@ impl<'a> Collection<'a> {
         }
         if !self.records_fit() {
             return Err(Refusal::BadNumber);
-        }
-        if !self.ends_fit() {
-            return Err(Refusal::EqualEnds);
         }
         Ok(())
     }

@@ -1,4 +1,4 @@
-// The lent tables, read by record, and the tests 4 to 8 of docs/RULES.md (section 7).
+// The lent tables, read by record, and the tests 4, 5, 6 and 8 of docs/RULES.md (section 7).
 #![tactic(auto)]
 
 pub mod ask;

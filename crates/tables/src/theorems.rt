@@ -6,5 +6,6 @@ ghost use Rattle.tables.specs.Tests.{IsChecked};
 
 /// Only one value satisfies the contract.
 pub fn unique()
-    ensures one_refusal { (c : Collection) (area spare : ℕ) → AtMostOne (IsChecked c area spare) }
+    ensures one_refusal { (c : Collection) (area spare : ℕ)
+        → AtMostOne (IsChecked c area spare) }
 {}

@@ -1,4 +1,4 @@
-//! Part (d) of the comparison: modules `library` and `desk` against the built-out model, on small collections.
+//! Part (e) of the comparison: modules `library` and `desk` against the built-out model, on small collections.
 
 use super::dice::Dice;
 use super::expressions::{self, expressed};
@@ -52,7 +52,9 @@ pub fn model_part(mut dice: Dice, tally: &mut Tally) -> Outcome {
     if expected != found {
         return Err(differs((expected, found)));
     }
-    shown::agrees(&input, &known).map_err(differs)
+    let met = shown::agrees(&input, &known).map_err(differs)?;
+    met.into_iter().for_each(|what| tally.met(what));
+    Ok(())
 }
 
 fn count(said: &Said, tally: &mut Tally) {

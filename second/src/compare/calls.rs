@@ -56,7 +56,7 @@ pub fn lent(dice: &mut Dice) -> Lent {
     let mut lent = Lent { kind, call, asks, lengths: [AREA; 2], fills, planted: Vec::new() };
     match kind {
         "wild" => make_wild(dice, &mut lent),
-        "damaged" => plant(dice, &mut lent, &mut [4, 5, 6, 7, 8]),
+        "damaged" => plant(dice, &mut lent, &mut [4, 5, 6, 8]),
         _ => {}
     }
     lent
@@ -86,13 +86,12 @@ pub fn plant(dice: &mut Dice, lent: &mut Lent, numbers: &mut [u8]) {
     dice.shuffle(numbers);
     let mut chosen = numbers[..dice.pick(&[1, 1, 1, 2, 3])].to_vec();
     // Records first: a fault of shape would make it uncertain where the next record begins.
-    chosen.sort_by_key(|number| [7, 6, 8, 4, 5].iter().position(|planted| planted == number));
+    chosen.sort_by_key(|number| [6, 8, 4, 5].iter().position(|planted| planted == number));
     for number in &chosen {
         match number {
             4 => bad_count(dice, &mut lent.call),
             5 => bad_shape(dice, lent),
             6 => undeclared(dice, &mut lent.call),
-            7 => equal_ends(dice, &mut lent.call),
             _ => bad_pair(dice, lent),
         }
     }
@@ -165,16 +164,6 @@ fn undeclared(dice: &mut Dice, call: &mut Call) {
     let gap = table < 2 && call.counts[0] < 64 && dice.percent(30);
     // Between the declared names and 64 there are basic concepts that aren't valid either.
     call.tables[table][start + place] = if gap { call.counts[0] } else { at_least(dice, low) };
-}
-
-fn equal_ends(dice: &mut Dice, call: &mut Call) {
-    call.counts[1] = call.counts[1].max(1);
-    call.counts[2] = call.counts[2].max(1);
-    let who = dice.below(usize::from(call.counts[2])) as u16;
-    let role = dice.below(usize::from(call.counts[1])) as u16;
-    let table = &mut call.tables[5];
-    let start = 3 * dice.below(table.len() / 3 + 1);
-    table.splice(start..start, [role, who, who]);
 }
 
 fn bad_pair(dice: &mut Dice, lent: &mut Lent) {

@@ -19,12 +19,12 @@ pub fn damaged(dice: &mut Dice) -> Damaged {
     if dice.percent(4) {
         return tiny(dice);
     }
-    let mut damaged = match dice.between(4, 11) {
+    let mut damaged = match dice.pick(&[4, 5, 6, 8, 9, 10, 11]) {
         _ if dice.percent(35) => damaged_expression(dice),
         4 => bad_counts(dice),
         5 => one_too_many(dice),
         11 => bad_place(dice),
-        number => one_bad_line(dice, number as u8),
+        number => one_bad_line(dice, number),
     };
     // A later faulty line changes nothing: the first one is told.
     if !damaged.lines.is_empty() && dice.percent(30) {
@@ -69,14 +69,13 @@ fn pick_bad_line(dice: &mut Dice) -> (Vec<u8>, Vec<u8>) {
     }
 }
 
-/// 9, 10, 6, 7 and 8 need one line only.
+/// 9, 10, 6 and 8 need one line only.
 fn one_bad_line(dice: &mut Dice, number: u8) -> Damaged {
     let (counts, mut lines) = if number == 6 { plain_lines(dice) } else { sound_lines(dice) };
     let (bad, mut also) = match number {
         9 => bad_characters(dice),
         10 => bad_frame(dice),
-        6 => undeclared(dice, &counts),
-        7 => return equal_ends(dice),
+        6 => (undeclared(dice, &counts), Vec::new()),
         _ => (bad_ask(dice, &counts), Vec::new()),
     };
     let at = if number >= 9 && dice.percent(30) { 1 } else { dice.between(2, lines.len() + 1) };
@@ -158,7 +157,7 @@ fn bad_concept(dice: &mut Dice, counts: &Counts) -> u8 {
 }
 
 /// One record with a number that isn't declared, or with several.
-fn undeclared(dice: &mut Dice, counts: &Counts) -> (Vec<u8>, Vec<u8>) {
+fn undeclared(dice: &mut Dice, counts: &Counts) -> Vec<u8> {
     let [names, roles, people, states] =
         [counts.names, counts.roles, counts.individuals, counts.states].map(usize::from);
     let any = dice.below(4) as u8;
@@ -182,30 +181,18 @@ fn undeclared(dice: &mut Dice, counts: &Counts) -> (Vec<u8>, Vec<u8>) {
     if matches!(bytes[0], 2..=5 | 8 | 9) && dice.percent(50) {
         bytes.swap(1, last);
     }
-    (line(&bytes), Vec::new())
+    line(&bytes)
 }
 
-fn undeclared_role_fact(dice: &mut Dice, counts: &Counts) -> (Vec<u8>, Vec<u8>) {
+fn undeclared_role_fact(dice: &mut Dice, counts: &Counts) -> Vec<u8> {
     let stranger = over(dice, usize::from(counts.individuals));
     let role = over(dice, usize::from(counts.roles));
-    match dice.below(4) {
-        0 => (line(&[7, 0, stranger, stranger]), vec![7]),
-        1 => (line(&[7, role, 0, 0]), vec![7]),
-        2 => (line(&[7, 0, 0, stranger.max(1)]), Vec::new()),
-        _ => (line(&[7, role, 0, 1]), Vec::new()),
-    }
-}
-
-fn equal_ends(dice: &mut Dice) -> Damaged {
-    loop {
-        let (counts, mut lines) = sound_lines(dice);
-        if counts.roles > 0 && counts.individuals > 0 {
-            let who = dice.below(usize::from(counts.individuals)) as u8;
-            let at = dice.between(2, lines.len() + 1);
-            lines.insert(at - 1, line(&[7, dice.below(usize::from(counts.roles)) as u8, who, who]));
-            return Damaged { lines, at, number: 7, also: Vec::new() };
-        }
-    }
+    line(&match dice.below(4) {
+        0 => [7, 0, stranger, stranger],
+        1 => [7, role, 0, 0],
+        2 => [7, 0, 0, stranger.max(1)],
+        _ => [7, role, 0, 1],
+    })
 }
 
 fn bad_ask(dice: &mut Dice, counts: &Counts) -> Vec<u8> {
@@ -289,15 +276,14 @@ fn one_too_many(dice: &mut Dice) -> Damaged {
         let [one, two, three] = [0; 3].map(|_| dice.below(2) as u8);
         lines.push(match kind {
             2..=6 | 0x0B => line(&[kind, one, two]),
-            7 => line(&[7, one, two, 1 - two]),
+            7 => line(&[7, one, two, three]),
             8 => line(&[dice.pick(&[8, 9]), one, two, three]),
             _ => line(&[kind, one]),
         });
     }
     let (extra, also) = match (kind, dice.below(3)) {
         (2..=6, 0) => (line(&[kind, 0xFF, 0xFF]), vec![6]),
-        (7, 0) => (line(&[7, 0, 0, 0]), vec![7]),
-        (7, 1) => (line(&[7, 2, 2, 2]), vec![6, 7]),
+        (7, 0) => (line(&[7, 2, 2, 2]), vec![6]),
         (8, 0) => (line(&[9, 0, 2, 0]), vec![6]),
         (0x0A, 0) => (line(&[0x0A, 2]), vec![6]),
         (0x0B, 0) => (line(&[0x0B, 0, 2]), vec![8]),

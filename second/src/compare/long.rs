@@ -55,7 +55,7 @@ fn fault_after_the_fullest_file(dice: &mut Dice) -> Damaged {
     let (number, also) = match dice.below(6) {
         0 => next(b"0C0001", 11, vec![]),
         1 => next(b"01FFFFFFFFFF", 11, vec![4]),
-        2 => next(b"07000000", 5, vec![7]),
+        2 => next(b"07000000", 5, vec![]),
         3 => next(&[b'A'; 700_000], 9, vec![10]),
         4 => next(&[b'A'; 64], 10, vec![]),
         _ => next(b"0BFFFF", 5, vec![8]),

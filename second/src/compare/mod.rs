@@ -49,10 +49,10 @@ const TYPED: u64 = 5;
 const MOST_SHOWN: u64 = 5;
 
 /// What the desk program can answer with, in an answer or a refusal.
-pub const DESK_NUMBERS: [u8; 15] = [0, 1, 2, 3, 4, 5, 6, 7, 8, 9, 10, 11, 12, 13, 14];
+pub const DESK_NUMBERS: [u8; 14] = [0, 1, 2, 3, 4, 5, 6, 8, 9, 10, 11, 12, 13, 14];
 
 /// What the library can answer a pair with.
-const ANSWERS: [u8; 9] = [0, 1, 2, 3, 4, 5, 6, 7, 8];
+const ANSWERS: [u8; 8] = [0, 1, 2, 3, 4, 5, 6, 8];
 
 /// How many passed and how many failed.
 pub fn compare(options: &Options) -> (u64, u64) {
@@ -63,30 +63,30 @@ pub fn compare(options: &Options) -> (u64, u64) {
         None => println!("  skipped: no --desk command was given"),
         Some(words) => {
             let work = || |dice, tally: &mut Tally| parts::desk_part(&words, dice, tally);
-            judge(&mut total, run(options, DESK, work), &DESK_NUMBERS, &[]);
+            judge(&mut total, run(options, DESK, work), &DESK_NUMBERS, &[parts::SELF_DEALING]);
         }
     }
     println!("b. the library through its C boundary against module library, with both areas");
-    through_drivers(options, &mut total, (LIBRARY, &ANSWERS, &[]), parts::library_part);
+    through_drivers(options, &mut total, (LIBRARY, &ANSWERS, &[parts::SELF_DEALING]), parts::library_part);
     println!("c. rows of pairs, likewise, with the entries of each row");
     through_drivers(options, &mut total, (ROWS, &ANSWERS, &rows::MET), parts::row_part);
     println!("d. the tables made of an expression, likewise, with the rows they are put into");
     through_drivers(options, &mut total, (TYPED, &typed::NUMBERS, &typed::MET), parts::typed_part);
     println!("e. modules library and desk against the built-out model, on small collections");
     let work = || |dice, tally: &mut Tally| built_out::model_part(dice, tally);
-    judge(&mut total, run(options, MODEL, work), &[0, 1, 2, 3], &[]);
+    judge(&mut total, run(options, MODEL, work), &[0, 1, 2, 3], &shown::MET);
     total
 }
 
 /// One case put to a library driver.
 type DriverCase = fn(&mut Driver, Dice, &mut Tally) -> Outcome;
 
-/// A part's number, and what must be hit often enough in it: numbers, and what a row can be.
+/// A part's number, and what must be hit often enough in it: numbers, and what a case can be.
 type Part<'a> = (u64, &'a [u8], &'a [&'static str]);
 
 /// A part in which library drivers answer, each thread with one of its own.
 fn through_drivers(options: &Options, total: &mut (u64, u64), part: Part, case: DriverCase) {
-    let (part, numbers, rows) = part;
+    let (part, numbers, cases) = part;
     let Some(words) = options.library.as_deref().and_then(Words::of) else {
         println!("  skipped: no --library command was given");
         return;
@@ -97,7 +97,7 @@ fn through_drivers(options: &Options, total: &mut (u64, u64), part: Part, case: 
         let start = || Driver::start(&words, &ended_badly);
         move |dice, tally: &mut Tally| with_driver(start, &mut driver, |ready| case(ready, dice, tally))
     };
-    judge(total, run(options, part, work), numbers, rows);
+    judge(total, run(options, part, work), numbers, cases);
     let ended_badly = ended_badly.into_inner();
     if ended_badly > 0 {
         println!("  FAILED: {ended_badly} library drivers ended with another exit status than 0");
@@ -180,9 +180,9 @@ fn show(difference: &Difference, seed: u64, part: u64, case: u64) {
     println!("  second program:\n{}\n  other:\n{}", head(&difference.expected), head(&difference.found));
 }
 
-fn judge(total: &mut (u64, u64), tally: Tally, numbers: &[u8], rows: &[&'static str]) {
+fn judge(total: &mut (u64, u64), tally: Tally, numbers: &[u8], cases: &[&'static str]) {
     tally.print();
-    let seldom = tally.too_seldom(numbers, rows);
+    let seldom = tally.too_seldom(numbers, cases);
     for what in &seldom {
         println!("  FAILED: {what} was hit in fewer than {LEAST_HITS} cases");
     }

@@ -12,7 +12,9 @@ use super::rows::{met, row_lent};
 use super::tally::Tally;
 use super::text;
 use super::typed::{self, typed};
+use crate::collection::Collection;
 use crate::desk::desk;
+use crate::desk::read::read;
 use crate::library::ask;
 use std::collections::BTreeSet;
 
@@ -24,6 +26,18 @@ pub struct Difference {
 }
 
 pub type Outcome = Result<(), Difference>;
+
+/// What each part must meet in collections that are answered.
+pub const SELF_DEALING: &str = "a self-dealing fact";
+
+pub fn has_equal_ends(collection: &Collection) -> bool {
+    collection.role_facts.iter().any(|(_, first, second)| first == second)
+}
+
+/// Whether what is lent has a role fact with equal ends.
+fn deals_with_itself(lent: &Lent) -> bool {
+    lent.call.tables[5].chunks_exact(3).any(|fact| fact[1] == fact[2])
+}
 
 /// An input for the desk, and for a faulty one what it was made for.
 fn desk_case(dice: &mut Dice, tally: &mut Tally) -> (Vec<u8>, Option<Damaged>) {
@@ -57,6 +71,9 @@ pub fn desk_part(words: &Words, mut dice: Dice, tally: &mut Tally) -> Outcome {
     let (input, made_for) = desk_case(&mut dice, tally);
     let expected = desk(&input);
     tally_desk(&expected, tally);
+    if read(&input).is_ok_and(|file| has_equal_ends(&file.collection)) {
+        tally.met(SELF_DEALING);
+    }
     let differs = |expected: &[u8], found: String| Difference {
         input: input.clone(),
         expected: String::from_utf8_lossy(expected).into_owned(),
@@ -103,6 +120,9 @@ pub fn library_part(driver: &mut Driver, mut dice: Dice, tally: &mut Tally) -> O
     if number < 2 {
         tally.rounds(count);
     }
+    if number < 4 && deals_with_itself(&lent) {
+        tally.met(SELF_DEALING);
+    }
     let request = protocol::request(&lent);
     let differs = |expected, found| Difference { input: request.clone().into_bytes(), expected, found };
     if let Some(&first) = lent.planted.iter().min() {
@@ -123,11 +143,14 @@ pub fn row_part(driver: &mut Driver, mut dice: Dice, tally: &mut Tally) -> Outco
     tally.kind(lent.kind);
     let (answers, expected) = protocol::answer(&lent);
     if let Asks::Row(row) = &lent.asks {
-        met(row, answers.as_deref()).into_iter().for_each(|what| tally.row(what));
+        met(row, answers.as_deref()).into_iter().for_each(|what| tally.met(what));
     }
     let answers = answers.unwrap_or_default();
     let numbers: BTreeSet<u8> = answers.iter().map(|answer| answer.0).collect();
     numbers.iter().for_each(|number| tally.number(*number));
+    if numbers.iter().any(|number| *number < 4) && deals_with_itself(&lent) {
+        tally.met(SELF_DEALING);
+    }
     // All answers 0 and 1 of one row have the same count.
     if let Some((_, count)) = answers.iter().find(|answer| answer.0 < 2) {
         tally.rounds(*count);
@@ -149,7 +172,7 @@ pub fn typed_part(driver: &mut Driver, mut dice: Dice, tally: &mut Tally) -> Out
     let (made, expected) = protocol::answer_expression(&typed);
     let number = made.as_ref().err().copied().unwrap_or(0);
     tally.number(number);
-    typed::met(&typed, made.as_ref().ok()).into_iter().for_each(|what| tally.row(what));
+    typed::met(&typed, made.as_ref().ok()).into_iter().for_each(|what| tally.met(what));
     let request = protocol::request_expression(&typed);
     if let Some(planted) = typed.planted.filter(|planted| *planted != number) {
         let found = format!("module library itself: {number}");

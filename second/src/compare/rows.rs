@@ -3,11 +3,13 @@
 use super::calls::{call_of, make_stranger, make_wild, pair_of, plant, some_many_rounds, Asks, Lent, Row};
 use super::dice::Dice;
 use super::generate::{full, medium, small, Asked};
+use super::parts::SELF_DEALING;
 use crate::library::PAIRS;
 use crate::sheet::AREA;
 
 /// What a row can be, beside the numbers it is answered with; 8 is an undeclared pair.
-pub const MET: [&str; 15] = [
+pub const MET: [&str; 16] = [
+    SELF_DEALING,
     "no pair",
     "one pair",
     "2 to 255 pairs",
@@ -41,7 +43,7 @@ pub fn row_lent(dice: &mut Dice) -> Lent {
     let mut lent = Lent { kind, call, asks, lengths: [AREA; 2], fills, planted: Vec::new() };
     match kind {
         "wild" => make_wild(dice, &mut lent),
-        "damaged" => plant(dice, &mut lent, &mut [4, 5, 6, 7]),
+        "damaged" => plant(dice, &mut lent, &mut [4, 5, 6]),
         _ => {}
     }
     lent

@@ -1,7 +1,8 @@
 //! Whether what `explain` shows is so: its paths are paths of the canonical model, its clash is one.
 
+use super::parts::{has_equal_ends, SELF_DEALING};
 use crate::explain::clash::{Clash, ConceptSide, What};
-use crate::explain::path::Path;
+use crate::explain::path::{Move, Path};
 use crate::explain::{Asked, Behind, Explanation};
 use crate::model::check::{belongs, concepts, is_path, roles};
 use crate::model::known::Known;
@@ -10,8 +11,11 @@ use crate::numbers::Concept;
 /// Enough for the paths of small collections; a longer one isn't looked at.
 const MOST_STEPS: usize = 2_000;
 
-/// The error is what was expected and what was found.
-pub fn agrees(input: &[u8], known: &Known) -> Result<(), (String, String)> {
+/// What a case can show, beside its answers.
+pub const MET: [&str; 3] = [SELF_DEALING, "a path by a self-dealing fact", "a clash by a self-dealing fact"];
+
+/// Which of `MET` it shows; the error is what was expected and what was found.
+pub fn agrees(input: &[u8], known: &Known) -> Result<Vec<&'static str>, (String, String)> {
     let fails = |what: &str| Err((what.to_string(), "explain shows something else".to_string()));
     let Ok(explained) = Explanation::of(input, MOST_STEPS) else { return fails("a sound file") };
     for asked in &explained.asks {
@@ -27,8 +31,24 @@ pub fn agrees(input: &[u8], known: &Known) -> Result<(), (String, String)> {
     match &explained.clash {
         Some(clash) if !clashes(clash, &explained, known) => fails("a clash that is one"),
         Some(_) if explained.asks.iter().any(|asked| asked.number != 2) => fails("no clash"),
-        _ => Ok(()),
+        _ => Ok(met(&explained)),
     }
+}
+
+fn met(explained: &Explanation) -> Vec<&'static str> {
+    let path = explained.asks.iter().any(|asked| match &asked.behind {
+        Behind::Path(path) => path
+            .stands
+            .windows(2)
+            .any(|pair| matches!(pair[1].by, Some(Move::Fact { .. })) && pair[0].element == pair[1].element),
+        _ => false,
+    });
+    let clash = explained.clash.as_ref().is_some_and(|clash| match &clash.what {
+        What::OnPair { first, second, .. } => first == second,
+        What::OnElement { .. } => false,
+    });
+    let met = [has_equal_ends(&explained.file.collection), path, clash];
+    MET.into_iter().zip(met).filter(|(_, is_so)| *is_so).map(|(what, _)| what).collect()
 }
 
 fn leads(path: &Path, asked: &Asked, known: &Known) -> bool {

@@ -17,7 +17,7 @@ pub struct Tally {
     faulty_lines: BTreeMap<u32, u64>,
     depths: BTreeMap<usize, u64>,
     orders: BTreeMap<(u8, u8), u64>,
-    rows: BTreeMap<&'static str, u64>,
+    met: BTreeMap<&'static str, u64>,
 }
 
 impl Tally {
@@ -47,9 +47,9 @@ impl Tally {
         *self.orders.entry((given, also)).or_default() += 1;
     }
 
-    /// Something that a row of pairs or of marks was, once for a case.
-    pub fn row(&mut self, met: &'static str) {
-        *self.rows.entry(met).or_default() += 1;
+    /// Something that a collection, a row of pairs or one of marks was, once for a case.
+    pub fn met(&mut self, met: &'static str) {
+        *self.met.entry(met).or_default() += 1;
     }
 
     pub fn add(&mut self, other: Tally) {
@@ -67,7 +67,7 @@ impl Tally {
         add(&mut self.faulty_lines, other.faulty_lines);
         add(&mut self.depths, other.depths);
         add(&mut self.orders, other.orders);
-        add(&mut self.rows, other.rows);
+        add(&mut self.met, other.met);
     }
 
     pub fn print(&self) {
@@ -82,16 +82,16 @@ impl Tally {
         print_row("faulty line", &self.faulty_lines, range);
         print_row("depth of the model", &self.depths, |depth| depth.to_string());
         print_row("order met", &self.orders, |(given, also)| format!("{given} before {also}"));
-        print_row("rows", &self.rows, |met| met.to_string());
+        print_row("cases with", &self.met, |met| met.to_string());
     }
 
-    /// Those of the numbers, and of what a row can be, that were hit too seldom.
-    pub fn too_seldom(&self, numbers: &[u8], rows: &[&'static str]) -> Vec<String> {
+    /// Those of the numbers, and of what a case can be, that were hit too seldom.
+    pub fn too_seldom(&self, numbers: &[u8], cases: &[&'static str]) -> Vec<String> {
         let seldom = |hits: Option<&u64>| hits.copied().unwrap_or(0) < LEAST_HITS;
         let numbers = numbers.iter().filter(|number| seldom(self.numbers.get(number)));
-        let rows = rows.iter().filter(|met| seldom(self.rows.get(*met)));
+        let cases = cases.iter().filter(|met| seldom(self.met.get(*met)));
         let numbers = numbers.map(|number| format!("number {number}"));
-        numbers.chain(rows.map(|met| format!("a row with {met}"))).collect()
+        numbers.chain(cases.map(|met| format!("a case with {met}"))).collect()
     }
 }
 

@@ -48,11 +48,11 @@ pub fn throw_facts(dice: &mut Dice, collection: &mut Collection, amounts: &Amoun
     for _ in 0..if_any(&names, if_any(&people, amounts.facts)) {
         collection.concept_facts.push((dice.pick(&names), dice.pick(&people)));
     }
-    while collection.role_facts.len() < if_any(&roles, amounts.role_facts) && people.len() > 1 {
-        let (first, second) = (dice.pick(&people), dice.pick(&people));
-        if first != second {
-            collection.role_facts.push((dice.pick(&roles), first, second));
-        }
+    for _ in 0..if_any(&roles, if_any(&people, amounts.role_facts)) {
+        let first = dice.pick(&people);
+        // Of many people two picked are seldom one, so it is made so.
+        let second = if dice.percent(30) { first } else { dice.pick(&people) };
+        collection.role_facts.push((dice.pick(&roles), first, second));
     }
 }
 

@@ -78,7 +78,7 @@ fn begin(numbers: [u8; 5]) -> Result<File, u8> {
     Ok(File { collection, asks, allowance: None, expression: None, lines })
 }
 
-/// One frame after the first: 11, then 5, 6, 7, 8, 13, 12, 14 as its kind can have them.
+/// One frame after the first: 11, then 5, 6, 8, 13, 12, 14 as its kind can have them.
 fn take(file: &mut File, frame: Frame, at: usize) -> Result<(), u8> {
     match frame {
         Frame::Counts(_) => Err(11),
@@ -166,13 +166,7 @@ fn fact(file: &mut File, frame: Frame, at: usize) -> Result<(), u8> {
             let ends = counts.individual(first.into()).zip(counts.individual(second.into()));
             let record = counts.role_name(role.into()).zip(ends);
             let record = record.map(|(role, (first, second))| (role, first, second));
-            put(&mut collection.role_facts, &mut lines.role_facts, 4_096, at, record)?;
-            // Tested after 5 and 6; the file is given up anyway, so the record may stand.
-            if first == second {
-                Err(7)
-            } else {
-                Ok(())
-            }
+            put(&mut collection.role_facts, &mut lines.role_facts, 4_096, at, record)
         }
         _ => unreachable!("only facts come here"),
     }

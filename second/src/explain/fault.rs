@@ -30,7 +30,6 @@ fn reason(input: &[u8], line: &[u8], fault: Fault) -> String {
         4 => counts(line),
         5 => too_many(line),
         6 => undeclared(input, line),
-        7 => "a role fact with equal ends: it must join two different individuals".to_string(),
         12 => no_expression(line),
         13 => too_deep(line),
         14 => other_states(input, line),

@@ -39,7 +39,9 @@ pub fn clash(clash: &Clash, words: &Words) -> String {
     text += &row(clash, words);
     match &clash.what {
         What::OnElement { sides, .. } => sides.iter().for_each(|side| text += &concept_side(side, words)),
-        What::OnPair { sides, .. } => sides.iter().for_each(|side| text += &role_side(side, words)),
+        What::OnPair { first, second, sides } => {
+            sides.iter().for_each(|side| text += &role_side(side, first == second, words))
+        }
     }
     text
 }
@@ -75,8 +77,9 @@ fn concept_side(side: &ConceptSide, words: &Words) -> String {
     }
 }
 
-fn role_side(side: &RoleSide, words: &Words) -> String {
+fn role_side(side: &RoleSide, alone: bool, words: &Words) -> String {
     let made = match side.fact_line {
+        Some(line) if alone => format!("line {line} joins it to itself by {}", words.role(side.from)),
         Some(line) => format!("line {line} joins them by {}", words.role(side.from)),
         None => format!("they are joined by {}", words.role(side.from)),
     };

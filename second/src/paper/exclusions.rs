@@ -124,7 +124,8 @@ pub fn pairs(explained: &Explanation, words: &Words) -> String {
             } else {
                 format!("; {}", words.chain(*typed, links, Words::role))
             };
-            let why = format!("line {line} joins them by {}{rules}", words.role(*typed));
+            let ends = if first == second { "it to itself" } else { "them" };
+            let why = format!("line {line} joins {ends} by {}{rules}", words.role(*typed));
             table.row([pair(*first, *second), words.role(*role), why]);
         }
     }

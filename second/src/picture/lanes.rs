@@ -1,4 +1,5 @@
 //! The role facts, and the steps of the path along them: each runs in a lane above the row of individuals.
+//! A fact with equal ends runs in a loop, up from its individual and down to it again.
 
 use super::edge::{label_on_line, note_box, note_size, travel_label};
 use super::scene::{Scene, Travel};
@@ -12,6 +13,9 @@ enum Kind<'a> {
     Step(&'a Travel),
     Clash(Vec<String>),
 }
+
+/// Between a loop's side and the next line beside it.
+const BESIDE: i32 = 20;
 
 pub struct Lane<'a> {
     from: usize,
@@ -44,6 +48,10 @@ impl Lane<'_> {
         (self.from.min(self.to), self.from.max(self.to))
     }
 
+    fn is_loop(&self) -> bool {
+        self.from == self.to
+    }
+
     /// Whether it needs room between the two boxes that stand at these places.
     pub fn room(&self, left: usize, right: usize) -> i32 {
         if self.ends() == (left, right) {
@@ -55,7 +63,7 @@ impl Lane<'_> {
 }
 
 impl Scene<'_> {
-    /// From the lowest lane to the highest: short ways first, then facts, steps and the clash.
+    /// From the lowest lane to the highest: loops and short ways first, then facts, steps and the clash.
     pub fn lanes(&self) -> Vec<Lane<'_>> {
         let file = &self.explained.file;
         let mut lanes = Vec::new();
@@ -63,13 +71,13 @@ impl Scene<'_> {
             let label = format!("{} (line {line})", self.words.role(role));
             lanes.push(Lane { from: first.at(), to: second.at(), kind: Kind::Fact(label) });
         }
-        for travel in self.travels.iter().filter(|travel| named(travel)) {
+        for travel in self.travels.iter().filter(|travel| travel.by_fact) {
             let (from, to) = (travel.from.who.at(), travel.to.who.at());
             lanes.push(Lane { from, to, kind: Kind::Step(travel) });
         }
         let people: Vec<Individual> = file.collection.counts.all_individuals().collect();
         for &one in &people {
-            for &other in people.iter().filter(|other| **other > one) {
+            for &other in people.iter().filter(|other| **other >= one) {
                 if let Some(lines) = self.clash_between(&Element::named(one), &Element::named(other)) {
                     lanes.push(Lane { from: one.at(), to: other.at(), kind: Kind::Clash(lines) });
                 }
@@ -80,8 +88,22 @@ impl Scene<'_> {
     }
 }
 
-fn named(travel: &Travel) -> bool {
-    travel.from.row.is_empty() && travel.to.row.is_empty() && travel.from != travel.to
+/// How far each loop at this box reaches to both sides of the box's middle: a higher one goes around a lower one.
+fn loops(lanes: &[Lane], end: usize) -> Vec<(usize, i32)> {
+    let mut half = 0;
+    let here = lanes.iter().enumerate().filter(|(_, lane)| lane.is_loop() && lane.from == end);
+    here.map(|(place, lane)| {
+        half = (lane.size().0 / 2 + BESIDE).max(half + BESIDE);
+        (place, half)
+    })
+    .collect()
+}
+
+/// How far the box must reach to both sides, so that the other ways end beside its loops.
+pub fn reach(lanes: &[Lane], end: usize) -> i32 {
+    let Some(&(_, half)) = loops(lanes, end).last() else { return 0 };
+    let others = lanes.iter().filter(|lane| !lane.is_loop() && (lane.from == end || lane.to == end));
+    half + BESIDE * (others.count() as i32 + 1)
 }
 
 /// The lanes above boxes whose tops stand at 0; and how high they reach.
@@ -91,26 +113,42 @@ pub fn draw(lanes: &[Lane], stands: &[Stand]) -> (Vec<Shape>, i32) {
     for (place, lane) in lanes.iter().enumerate() {
         let (_, high) = lane.size();
         let y = -height - high / 2;
-        let ends = [lane.from, lane.to].map(|end| (port(lanes, stands, place, end), stands[end].in_clash));
+        let mut ends =
+            [lane.from, lane.to].map(|end| (port(lanes, stands, place, end), stands[end].in_clash));
+        if lane.is_loop() {
+            ends[0].0 = 2 * stands[lane.from].x - ends[1].0;
+        }
         shapes.extend(one(lane, ends, y));
         height += high;
     }
     (shapes, if lanes.is_empty() { 0 } else { height })
 }
 
-/// Where a lane meets a box. Ways to the left have the left part of the box's top; nested ways don't cross.
+/// Where a lane meets a box, a loop where it comes down. Ways to the left have the left part of the box's top, loops
+/// the middle; nested ways don't cross.
 fn port(lanes: &[Lane], stands: &[Stand], place: usize, end: usize) -> i32 {
     let other = |lane: &Lane| if lane.from == end { lane.to } else { lane.from };
-    let here = lanes.iter().enumerate().filter(|(_, lane)| lane.from == end || lane.to == end);
+    let loops = loops(lanes, end);
+    if let Some((_, half)) = loops.iter().find(|(at, _)| *at == place) {
+        return stands[end].x + half;
+    }
+    let here = lanes.iter().enumerate();
+    let here = here.filter(|(_, lane)| !lane.is_loop() && (lane.from == end || lane.to == end));
     let mut order: Vec<(bool, i32, usize)> = Vec::new();
     for (at, lane) in here {
         let to_right = other(lane) > end;
         order.push((to_right, if to_right { -(at as i32) } else { at as i32 }, at));
     }
     order.sort();
-    let position = order.iter().position(|entry| entry.2 == place).unwrap_or(0) as i32;
     let Stand { x, half, .. } = stands[end];
-    x - half + 2 * half * (position + 1) / (order.len() as i32 + 1)
+    let (mut from, mut to) = (x - half, x + half);
+    if let Some((_, taken)) = loops.last() {
+        let to_right = other(&lanes[place]) > end;
+        (from, to) = if to_right { (x + taken, to) } else { (from, x - taken) };
+        order.retain(|entry| entry.0 == to_right);
+    }
+    let position = order.iter().position(|entry| entry.2 == place).unwrap_or(0) as i32;
+    from + (to - from) * (position + 1) / (order.len() as i32 + 1)
 }
 
 fn one(lane: &Lane, ends: [(i32, bool); 2], y: i32) -> Vec<Shape> {

@@ -62,7 +62,8 @@ fn written(sentences: &[String], font: Font, width: i32, top: i32) -> (Vec<Shape
 /// All individuals in a row with what is below them, from (0, 0); and the width and height.
 fn model(scene: &Scene, trees: &[Node]) -> (Vec<Shape>, [i32; 2]) {
     let lanes = scene.lanes();
-    let blocks: Vec<Block> = trees.iter().map(|tree| scene.place(tree, 0)).collect();
+    let place = |(at, tree)| scene.place(tree, lanes::reach(&lanes, at));
+    let blocks: Vec<Block> = trees.iter().enumerate().map(place).collect();
     let mut stands: Vec<Stand> = Vec::new();
     let mut end = 0;
     for (at, (block, tree)) in blocks.iter().zip(trees).enumerate() {
@@ -106,11 +107,13 @@ fn caption(scene: &Scene, trees: &[Node]) -> Vec<String> {
     let explained = scene.explained;
     let unnamed = trees.iter().any(|tree| !tree.children.is_empty());
     let edges = unnamed || !explained.file.collection.role_facts.is_empty();
+    let alone = explained.file.collection.role_facts.iter().any(|(_, first, second)| first == second);
     let no = explained.asks.iter().any(|asked| matches!(asked.behind, Behind::Reached(_)));
     let parts = [
         (true, "Square boxes: individuals, with their concepts."),
         (unnamed, "Rounded boxes: unnamed elements, an individual followed by a row of signed roles."),
         (edges, "Arrows: the pair has these signed roles along it, and their inverses against it."),
+        (alone, "A loop: the individual's pair with itself has them along it and against it."),
         (trees.iter().any(goes_on), "Dotted lines: the model goes on, without end."),
         (!scene.travels.is_empty(), "Thick dashed arrows: the path, step by step, each with its states."),
         (no, "Paths from: the states in which some path comes to the element."),
@@ -174,6 +177,10 @@ mod tests {
             "010202030600 020040 07010001 060001 07010102 08000201 08010002 08020103 08030204 09040005 0A04 0B0002",
             "010201010500 060000 060100 09000001 09010102 09020003 0A03 0B0000",
             "010002030100 050000 07010001 07000002 07010201 0A00 0B0000",
+            "010202020300 07010000 07000001 08000201 08010002 0A02 0B0001 0B0000",
+            "010202020300 07010000 07000001 08000201 08010002 0A02 050203 0B0001",
+            "010203030600 060001 07010101 07000001 07000101 07020102 07010001 08000001 08010301 08010002 08020403 08030103 09030004 0A03 0A04 0B0002 0B0001",
+            "010201010500 060000 07000000 020140 08000001 08010102 09020003 08030104 0A04 0B0000",
         ];
         files.extend(others.map(String::from));
         files.push(B.to_string());

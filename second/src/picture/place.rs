@@ -117,7 +117,7 @@ impl Scene<'_> {
         let half = half.max(left).max(right);
         let rule = if notes.is_empty() { 0 } else { 8 };
         let height = (lines.len() + notes.len()) as i32 * LINE + rule + PAD;
-        let tests = self.between(&node.element, &node.element).len() as i32;
+        let tests = self.tests(&node.element).len() as i32;
         Rect { left: -half, top: 0, right: half, bottom: height.max(tests * 50) }
     }
 
@@ -152,7 +152,7 @@ impl Scene<'_> {
     fn loops(&self, node: &Node, frame: Rect) -> (Vec<Shape>, i32) {
         let mut shapes = Vec::new();
         let mut wide = 0;
-        let tests = self.between(&node.element, &node.element);
+        let tests = self.tests(&node.element);
         let first = frame.bottom / 2 - (tests.len() as i32 - 1) * 25;
         for (place, travel) in tests.into_iter().enumerate() {
             let (x, y) = (frame.right, first + place as i32 * 50);

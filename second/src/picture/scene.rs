@@ -15,6 +15,8 @@ pub struct Travel {
     pub number: usize,
     pub from: Element,
     pub to: Element,
+    /// Along a role fact, whose ends may be one individual.
+    pub by_fact: bool,
     /// What the step is and its states, a line each.
     pub lines: [String; 2],
 }
@@ -30,9 +32,14 @@ impl<'a> Scene<'a> {
         Scene { explained, words, travels: travels(explained, words) }
     }
 
-    /// The steps from one element to another; at one element these are its tests.
+    /// The steps between an element and its child, in one direction.
     pub fn between(&self, from: &Element, to: &Element) -> Vec<&Travel> {
         self.travels.iter().filter(|travel| travel.from == *from && travel.to == *to).collect()
+    }
+
+    /// The tests at an element: what stays there and isn't along a fact.
+    pub fn tests(&self, element: &Element) -> Vec<&Travel> {
+        self.between(element, element).into_iter().filter(|travel| !travel.by_fact).collect()
     }
 
     /// Whether the element, or a pair it is in, is where the clash is.
@@ -140,7 +147,8 @@ fn travels(explained: &Explanation, words: &Words) -> Vec<Travel> {
         };
         let moved = format!("state {} → {}", pair[0].state.0, pair[1].state.0);
         let (from, to) = (pair[0].element.clone(), pair[1].element.clone());
-        travels.push(Travel { number: before + 1, from, to, lines: [what, moved] });
+        let by_fact = matches!(pair[1].by, Some(Move::Fact { .. }));
+        travels.push(Travel { number: before + 1, from, to, by_fact, lines: [what, moved] });
     }
     travels
 }

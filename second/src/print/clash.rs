@@ -20,7 +20,7 @@ pub fn clash(clash: &Clash) -> String {
                 clash.line
             );
             text += &row(clash);
-            sides.iter().for_each(|side| text += &role_side(side));
+            sides.iter().for_each(|side| text += &role_side(side, first == second));
         }
     }
     text
@@ -43,8 +43,9 @@ fn concept_side(element: &str, side: &ConceptSide) -> String {
     }
 }
 
-fn role_side(side: &RoleSide) -> String {
+fn role_side(side: &RoleSide, alone: bool) -> String {
     let made = match side.fact_line {
+        Some(line) if alone => format!("line {line} joins it to itself by {}", side.from),
         Some(line) => format!("line {line} joins them by {}", side.from),
         None => format!("they are parent and child, joined by {}", side.from),
     };

@@ -1,5 +1,6 @@
 -- A contradiction: by its constructors, and by the finite test.
 use Rattle.meaning.specs.Model.{at-element, at_pair}
+use Rattle.meaning.proofs.ModelLaws.{self-clash}
 use Rattle.meaning.proofs.ClashShown.{contradiction↔clash, self-exclusion, empty-concept, nothing-excluded}
 use Rattle.meaning.proofs.model.contradiction.Goals as goal
 
@@ -7,6 +8,7 @@ pub returns : goal.returns
 returns c = record {
   concept_forbidden = λ 𝓒 C m x b h. self-exclusion 𝓒 x C m b h;
   role_forbidden = λ 𝓒 R m x y e. at_pair x y R R m e e;
+  self_clash = self-clash;
   empty_forbidden = λ 𝓒 C D E d e m x b h. empty-concept 𝓒 x C D E d e m b h;
   none = λ 𝓒. (
     λ n. nothing-excluded 𝓒 n,

@@ -2,7 +2,7 @@
 use Rattle.std.proofs.Common.{ap}
 use Rattle.meaning.specs.Model.{bare, grown, fact, child, parent, ahead, behind}
 use Rattle.meaning.proofs.Clash.{last}
-use Rattle.meaning.proofs.ModelLaws.{born, bare-declared, row-of}
+use Rattle.meaning.proofs.ModelLaws.{born, bare-declared, row-of, self-edges}
 use Rattle.meaning.proofs.StraightBack.{straight-back-contradiction, straight-back-yes}
 use Rattle.meaning.specs.Model.{individuals}
 use Rattle.meaning.proofs.model.elements.Goals as goal
@@ -14,6 +14,7 @@ returns c = record {
   longer = λ 𝓒 x R. (λ b. born 𝓒 (individuals 𝓒) b, λ w. grown w.0 w.1);
   unnamed = λ 𝓒 x R D. (λ h. h, λ h. h);
   facts = λ 𝓒 r a b m S l. (fact (ahead m l), fact (behind m l));
+  self_edge = λ 𝓒 r a m. self-edges 𝓒 m;
   children = λ 𝓒 x R b S l. (child b l, parent b l);
   neighbours_differ = λ 𝓒 x R S n e. n (ap (last 𝓒) e);
   lean_contradiction = straight-back-contradiction;

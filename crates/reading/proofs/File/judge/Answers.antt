@@ -16,14 +16,10 @@ returns-then-not-has_room c = judged_by (holds (grind arith) (holds (grind arith
 pub returns-then-not-numbers_ok : goal.returns-then-not-numbers_ok
 returns-then-not-numbers_ok c = judged_by (holds (grind arith) (holds (grind arith) (holds (grind arith) (fails (λ h. grind arith)))))
 
-pub returns-then-not-ends_differ : goal.returns-then-not-ends_differ
-returns-then-not-ends_differ c =
-    judged_by (holds (grind arith) (holds (grind arith) (holds (grind arith) (holds (grind arith) (fails (λ h. grind arith))))))
-
 pub returns-then-not-ask_ok : goal.returns-then-not-ask_ok
 returns-then-not-ask_ok c =
-    judged_by (holds (grind arith) (holds (grind arith) (holds (grind arith) (holds (grind arith) (holds (grind arith) (fails (λ h. grind arith)))))))
+    judged_by (holds (grind arith) (holds (grind arith) (holds (grind arith) (holds (grind arith) (fails (λ h. grind arith))))))
 
 pub returns : goal.returns
 returns c =
-    judged_by (holds (grind arith) (holds (grind arith) (holds (grind arith) (holds (grind arith) (holds (grind arith) (holds (grind arith) c.expression_ok.ensures))))))
+    judged_by (holds (grind arith) (holds (grind arith) (holds (grind arith) (holds (grind arith) (holds (grind arith) c.expression_ok.ensures)))))
