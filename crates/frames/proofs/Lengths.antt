@@ -1,5 +1,5 @@
 -- A kind past the twelve of a fixed length has none; a sound line has a byte; its marks one by one.
-use Rattle.std.specs.Prelude.{ℕ, zero, suc, ◌+◌, ◌/◌, ◌<◌, ◌≤◌, ◌≡◌, List, [], ◌∷◌, ◌++◌, length}
+use Rattle.std.specs.Prelude.{ℕ, zero, suc, ◌+◌, ◌/◌, ◌≤◌, ◌≡◌, List, [], ◌∷◌, ◌++◌, length}
 use Rattle.std.proofs.Common.{refl, add-one, length-append, arith}
 use Rattle.frames.specs.Digits.{LineOk}
 use Rattle.frames.specs.Frames.{frame_length, marks_of}

@@ -9,9 +9,10 @@ ghost use Rattle.frames.specs.Reader.{Advanced};
 
 use kinds::{Concept, ConceptName, Counts, Individual, RoleName, Rounds, SignedRole, State};
 use marks::Marks;
-use streams::LINE;
+use sound::SoundLine;
 
 pub mod marks;
+mod sound;
 pub mod theorems;
 
 // What a line says.
@@ -45,67 +46,22 @@ pub const BASE: u8 = 16;
 // A byte is below it.
 const BYTE: u16 = 256;
 
-// What each character is worth as a digit; 255 is no digit.
-const DIGITS: [u8; 256] = [
-    255, 255, 255, 255, 255, 255, 255, 255, 255, 255, 255, 255, 255, 255, 255, 255, 255, 255, 255,
-    255, 255, 255, 255, 255, 255, 255, 255, 255, 255, 255, 255, 255, 255, 255, 255, 255, 255, 255,
-    255, 255, 255, 255, 255, 255, 255, 255, 255, 255, 0, 1, 2, 3, 4, 5, 6, 7, 8, 9, 255, 255, 255,
-    255, 255, 255, 255, 10, 11, 12, 13, 14, 15, 255, 255, 255, 255, 255, 255, 255, 255, 255, 255,
-    255, 255, 255, 255, 255, 255, 255, 255, 255, 255, 255, 255, 255, 255, 255, 255, 255, // a: small letters are no digits
-    255, 255, 255, 255, 255, 255, 255, 255, 255, 255, 255, 255, 255, 255, 255, 255, 255, 255, 255,
-    255, 255, 255, 255, 255, 255, 255, 255, 255, 255, 255, 255, 255, 255, 255, 255, 255, 255, 255,
-    255, 255, 255, 255, 255, 255, 255, 255, 255, 255, 255, 255, 255, 255, 255, 255, 255, 255, 255,
-    255, 255, 255, 255, 255, 255, 255, 255, 255, 255, 255, 255, 255, 255, 255, 255, 255, 255, 255,
-    255, 255, 255, 255, 255, 255, 255, 255, 255, 255, 255, 255, 255, 255, 255, 255, 255, 255, 255,
-    255, 255, 255, 255, 255, 255, 255, 255, 255, 255, 255, 255, 255, 255, 255, 255, 255, 255, 255,
-    255, 255, 255, 255, 255, 255, 255, 255, 255, 255, 255, 255, 255, 255, 255, 255, 255, 255, 255,
-    255, 255, 255, 255, 255, 255, 255, 255, 255, 255, 255, 255, 255, 255, 255, 255, 255, 255, 255,
-    255, 255, 255, 255, 255, 255,
-];
-
 // The bytes of a frame of each kind, the kind's own byte among them; 0 where there is no such kind.
 const LENGTHS: [usize; 13] = [0, 6, 3, 3, 3, 3, 3, 4, 4, 4, 2, 3, 3];
 
 // The kind whose frame may have any length.
 const EXPRESSION: u16 = 13;
 
-fn digit(x: u8) -> u8
-    ensures { result ≡ digit_of x }
-{
-    DIGITS[x as usize]
-}
-
-// A line of some characters, not too many, an even number, and each a digit.
-fn line_ok(line: &[u8]) -> bool
-    ensures { IsTrue result ↔ LineOk line.now }
-{
-    let n = line.len();
-    0 < n && n <= LINE && n % 2 == 0 && line.iter().all(|c| digit(*c) < BASE)
-}
-
-// Byte k of a line, and 0 past its end.
-#[tactic(auto, unfolding(crate::specs::Digits::byte_of))]
-fn byte_at(line: &[u8], k: usize) -> u16
-    ensures { result ≡ byte_of line.now k }
-{
-    if k < line.len() / 2 {
-        let at = 2 * k;
-        u16::from(BASE) * u16::from(digit(line[at])) + u16::from(digit(line[at + 1]))
-    } else {
-        0
-    }
-}
-
 // A line and a place in it, counted in bytes.
 #[derive(Drop)]
 struct Reader<'a> {
-    line: &'a [u8],
+    line: &'a SoundLine<'a>,
     at: usize,
 }
 
 impl<'a> Reader<'a> {
     // At a line's first byte.
-    fn opened(line: &'a [u8]) -> Reader<'a>
+    fn opened(line: &'a SoundLine<'a>) -> Reader<'a>
         ensures line { result.line ≡ line.entry }
         ensures at { result.at ≡ 0 }
     {
@@ -118,7 +74,7 @@ impl<'a> Reader<'a> {
         ensures value { result ≡ byte_of self.old.line.now self.old.at }
         ensures next { Advanced self.old self.new }
     {
-        let byte = byte_at(self.line, self.at);
+        let byte = self.line.byte_at(self.at);
         self.at += 1;
         byte
     }
@@ -202,22 +158,22 @@ fn frame_length(kind: u16) -> usize
 }
 
 // Whether a line has the length of its kind.
-fn has_length(line: &[u8], kind: u16) -> bool
+fn has_length(line: &SoundLine, kind: u16) -> bool
     requires { kind ≡ byte_of line.now 0 }
     ensures { IsTrue result ↔ HasLength line.now }
 {
-    kind == EXPRESSION || line.len() / 2 == frame_length(kind)
+    kind == EXPRESSION || line.bytes() == frame_length(kind)
 }
 
 // The bytes of a line after its kind.
 #[tactic(auto, using(crate::proofs::Bytes::byte_small, crate::proofs::Lengths::one_byte, crate::proofs::Lengths::marks_none, crate::proofs::Lengths::marks_more, crate::proofs::Lengths::marks_long))]
-fn marks_in(line: &[u8]) -> Marks
+fn marks_in(line: &SoundLine) -> Marks
     requires { LineOk line.now }
     ensures { result ≡ marks_of (byte_of line.now) (bytes line.now - 1) }
 {
     let mut marks = Marks::new();
-    for k in 0..line.len() / 2 - 1 {
-        marks.push(byte_at(line, k + 1) as u8);
+    for k in 0..line.bytes() - 1 {
+        marks.push(line.byte_at(k + 1) as u8);
     }
     marks
 }
@@ -259,12 +215,12 @@ fn frame_of(kind: u16, reader: &mut Reader) -> Result<Frame, Misread>
 pub fn read(line: &[u8]) -> Result<Frame, Misread>
     ensures { FrameOf line.now result }
 {
-    if !line_ok(line) {
+    let Some(sound) = SoundLine::read(line) else {
         return Err(Misread::BadLine);
-    }
-    let mut reader = Reader::opened(line);
+    };
+    let mut reader = Reader::opened(&sound);
     let kind = reader.byte();
-    if !has_length(line, kind) {
+    if !has_length(&sound, kind) {
         return Err(Misread::BadFrame);
     }
     frame_of(kind, &mut reader)

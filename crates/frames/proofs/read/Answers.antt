@@ -3,8 +3,8 @@ use Rattle.std.proofs.Common.{arith}
 use Rattle.laws.specs.First.{fails, holds}
 use Rattle.frames.proofs.read.Goals as goal
 
-pub returns-then-not-line_ok : goal.returns-then-not-line_ok
-returns-then-not-line_ok c = fails (λ ok. grind arith)
+pub returns-in_default : goal.returns-in_default
+returns-in_default c = fails (λ ok. grind arith)
 
 pub returns-then-not-has_length : goal.returns-then-not-has_length
 returns-then-not-has_length c = holds (grind arith) (fails (λ shaped. grind arith))
