@@ -2,7 +2,6 @@
 -- each mark reads its own number, so that a word shows by which marks it goes.
 use Rattle.std.specs.Prelude.{◌≡◌, refl, ◌↔◌, List, [], ◌∷◌, ◌++◌, ℕ}
 use Rattle.std.proofs.Common.{sym, ap, ◌∙◌, append_assoc, append-nil}
-use Rattle.kinds.specs.Kinds.{signed}
 use Rattle.meaning.specs.Collection.{Letter, role, test}
 use Rattle.expression.specs.Tree.{Tree, mark, both, either, many, WordOf, one, joined, left, right, none, more}
 use Rattle.expression.specs.Tree.{MarkReads, itself, in_first, in_second, in_this, in_that, in_many}

@@ -1,6 +1,6 @@
 -- Brackets too deep: read from the left, opened less closed brackets pass 8. What else is wrong in
 -- the row does not count; a closing bracket counts down even where none is open.
-use Rattle.std.specs.Prelude.{List, ℕ, ◌+◌, ◌<◌, ◌≤◌, eqb, length, take}
+use Rattle.std.specs.Prelude.{List, ℕ, ◌+◌, ◌<◌, ◌≤◌, ◌==◌, length, take}
 use Rattle.laws.specs.Count.{count}
 use Rattle.expression.specs.Marks.{opening, closing}
 
@@ -10,7 +10,7 @@ most_depth = 8
 
 -- how often a mark stands in a row
 abbrev pub times : ℕ → List ℕ → ℕ
-times mark row = count row (λ b. eqb b mark)
+times mark row = count row (λ b. b == mark)
 
 -- of the first i marks, those that open pass those that close by more than that
 pub record PassesAt (row : List ℕ) (i : ℕ) : Type 0 where

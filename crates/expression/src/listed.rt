@@ -73,12 +73,12 @@ fn numbers(from: u16, mark: u8, to: u16) -> [u16; Step::WIDTH]
 }
 
 // A record more, after so many numbers.
-fn put(steps: &mut Steps, used: usize, record_of: [u16; Step::WIDTH])
+fn put(steps: &mut Steps, used: usize, record_of: &[u16; Step::WIDTH])
     requires { used + Step.WIDTH ≤ ROOM }
-    ensures { take (used + Step.WIDTH) steps.new ≡ take used steps.old ++ record_of }
+    ensures { take (used + Step.WIDTH) steps.new ≡ take used steps.old ++ record_of.now }
 {
     let all = &mut steps[..];
-    all[used..used + Step::WIDTH].copy_from_slice(&record_of);
+    all[used..used + Step::WIDTH].copy_from_slice(record_of);
 }
 
 // The steps, by the state left and then by the state entered: how many numbers there are.
@@ -92,7 +92,8 @@ fn list_steps(rows: &Rows, letters: &Marks, steps: &mut Steps) -> usize
         let from = place / State::NUMBERS;
         let to = place % State::NUMBERS;
         if rows[from].contains(State(to as u16)) {
-            put(steps, used, numbers(from as u16, letters[to], to as u16));
+            let record_of = numbers(from as u16, letters[to], to as u16);
+            put(steps, used, &record_of);
             used += Step::WIDTH;
         }
     }
@@ -117,7 +118,8 @@ fn list_finals(set: StateSet, finals: &mut Finals) -> usize
 // The tables of what is known of the states.
 fn listed(states: usize, rows: &Rows, letters: &Marks, set: StateSet) -> Automaton
     ensures states { result.states ≡ states }
-    ensures steps { result.steps ≡ flat_map step_numbers (steps_below rows.now letters.now places) }
+    ensures steps { result.steps
+        ≡ flat_map step_numbers (steps_below rows.now letters.now places) }
     ensures finals { result.finals ≡ map final_number (finals_below set most_states) }
 {
     let mut steps = [0; ROOM];
@@ -134,12 +136,11 @@ fn listed(states: usize, rows: &Rows, letters: &Marks, set: StateSet) -> Automat
 }
 
 // The start leads to what can be first.
-fn started(mut rows: Rows, first: StateSet) -> Rows
-    ensures long { length rows ≡ most_states }
-    ensures start { result ≡ slice_set rows 0 first }
+fn start(rows: &mut Rows, first: StateSet)
+    ensures long { length rows.old ≡ most_states }
+    ensures start { rows.new ≡ slice_set rows.old 0 first }
 {
     rows[0] = first;
-    rows
 }
 
 // The states whose marks can be last, and the start where the empty word is allowed.
@@ -172,8 +173,13 @@ fn answered(marks: &[u8]) -> Result<Automaton, Refusal>
     if reader.count >= State::NUMBERS {
         return Err(Refusal::TooManyMarks(reader.count));
     }
-    let rows = started(reader.rows, part.first);
-    Ok(listed(reader.count + 1, &rows, &reader.letters, final_states(part)))
+    start(&mut reader.rows, part.first);
+    Ok(listed(
+        reader.count + 1,
+        &reader.rows,
+        &reader.letters,
+        final_states(part),
+    ))
 }
 
 /// The automaton of a row of marks, or why it has none: too deep comes before all else, and no

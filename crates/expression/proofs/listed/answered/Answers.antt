@@ -20,8 +20,8 @@ returns-then-reader-ge-NUMBERS c =
 
 pub returns : goal.returns
 returns c =
-    let l = c.started-rows.ensures.long in
-    let s = c.started-rows.ensures.start in
+    let l = c.start.ensures.long in
+    let s = c.start.ensures.start in
     let t = c.listed.ensures.steps in
     it-is _ c.in-Ok.ensures.outcome c.if-reader-marks.false (λ h. let k = c.if-is_too_deep.ensures.1 h in cc) (omega arith) (omega arith) c.final_states.ensures
     c.listed.result c.listed.ensures.states (rw s at t) c.listed.ensures.finals

@@ -14,7 +14,7 @@ loop-place-preserved c =
       | then-contains w ↦
           rw (w.steps-is, w.used-is) (record {
             within = omega arith;
-            listed = steps_on _ _ _ (c.contains.ensures.0 w.if-contains.true) i.listed w.numbers.ensures w.put.ensures;
+            listed = steps_on _ _ _ (c.contains.ensures.0 w.if-contains.true) i.listed w.numbers-record_of.ensures w.put.ensures;
           })
       | else-contains w ↦
           rw (w.steps-is, w.used-is) (record { within = omega arith; listed = steps_off _ _ _ (λ h. let k = c.contains.ensures.1 h in cc) i.listed })
