@@ -1,4 +1,4 @@
-/* The library's calls for C: one pair of individuals asked of a collection, or a row of pairs; and the tables of a question from an expression. docs/LINKING.md says how to link it. */
+/* The library's calls for C: one pair of individuals asked of a collection, or a row of pairs; how many marks each round of its loop sheet makes; and the tables of a question from an expression. docs/LINKING.md says how to link it. */
 #ifndef LAMPSAFFRON_H
 #define LAMPSAFFRON_H
 
@@ -71,6 +71,28 @@ bool lampsaffron_ask_all(
     uint8_t *spare, size_t spare_len,
     uint8_t *numbers, size_t numbers_len,
     uint16_t *counts, size_t counts_len);
+
+/* How many marks each round of a collection's loop sheet makes: the counts, tables, allowance and areas of lampsaffron_ask, but no pair.
+   marks is a row with a place for each round that is allowed, and more are left alone. Returns 4, 5 or 6 as the tests do, and 5 as well where
+   marks_len is below the allowance, which is tested first of what is 5; 2, a contradiction; 3, the allowance is below the rounds needed; else 0.
+   After 0 and 3 *rounds gets how many rounds were made, the smaller of those needed and those allowed, and marks[k] how many marks round k + 1
+   added; these and states * (names + 2 * roles) are together the marks that stand in the first area, and the second area holds zeros.
+   After all else nothing is written. */
+uint8_t lampsaffron_marks(
+    uint16_t names, uint16_t roles, uint16_t individuals, uint16_t states, uint16_t start,
+    const uint16_t *concept_rules, size_t concept_rules_len,
+    const uint16_t *concept_exclusions, size_t concept_exclusions_len,
+    const uint16_t *role_rules, size_t role_rules_len,
+    const uint16_t *role_exclusions, size_t role_exclusions_len,
+    const uint16_t *concept_facts, size_t concept_facts_len,
+    const uint16_t *role_facts, size_t role_facts_len,
+    const uint16_t *steps, size_t steps_len,
+    const uint16_t *finals, size_t finals_len,
+    uint16_t allowance,
+    uint8_t *area, size_t area_len,
+    uint8_t *spare, size_t spare_len,
+    uint16_t *marks, size_t marks_len,
+    uint16_t *rounds);
 
 /* The tables of steps and final states of a question typed as an expression, from its byte marks. Where the number is 0 they stand at the
    front of both rows, *steps_used and *finals_used get how many numbers each has, and *states how many states to declare; the start state is 0.

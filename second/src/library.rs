@@ -1,11 +1,12 @@
-//! The library's calls: over lent tables, with both areas (docs/RULES.md, sections 3 and 7); from marks to tables (section 8).
+//! The library's calls: over lent tables, with both areas (docs/RULES.md, sections 3 and 7); what each round adds (section 6);
+//! from marks to tables (section 8).
 
 use crate::collection::{Collection, Counts, Step};
 use crate::expression::automaton::Automaton;
 use crate::expression::read::{expression, too_deep};
 use crate::expression::Letter;
 use crate::numbers::{Concept, Individual, Role, State, MOST_STATES};
-use crate::prepared::Prepared;
+use crate::prepared::{Prepared, ALLOWANCE_SPENT, CONTRADICTION};
 use crate::sheet::AREA;
 
 /// How many numbers a record has and how many records there may be, in the order of docs/RULES.md, section 3.
@@ -80,6 +81,25 @@ pub fn ask_all(
     let row: Vec<[u16; 2]> = whole.map(|pair| [pair[0], pair[1]]).collect();
     let fits = !broken && row.len() <= PAIRS && entries == [row.len(); 2];
     fits.then(|| ask_each(call, &row, area, spare))
+}
+
+/// The number, and how many marks each worked round adds, round 1 first, for a row that has so much room: 4, then 5 where
+/// there is no room for each round that is allowed, 5 and 6, 2, 3, or else 0. Nothing is told, and the areas stay as they
+/// were, after all but 0 and 3.
+pub fn marks(call: &Call, room: usize, area: &mut [u8], spare: &mut [u8]) -> (u8, Vec<u16>) {
+    let collection = match checked(call, area.len(), spare.len()) {
+        Err(4) => return (4, Vec::new()),
+        _ if room < call.allowance.into() => return (5, Vec::new()),
+        Err(number) => return (number, Vec::new()),
+        Ok(collection) => collection,
+    };
+    let prepared = Prepared::of(&collection, call.allowance);
+    let (Some(added), Some(bytes)) = (prepared.added(), prepared.sheet_bytes()) else {
+        return (CONTRADICTION, Vec::new());
+    };
+    area.copy_from_slice(&bytes);
+    spare.fill(0);
+    (if prepared.spent() { ALLOWANCE_SPENT } else { 0 }, added.to_vec())
 }
 
 /// One pair after the other, each with the areas as the one before left them.

@@ -43,8 +43,8 @@ impl<'a> Prepared<'a> {
     pub fn answer(&mut self, first: Individual, second: Individual) -> (u8, u16) {
         let rounds = match &self.closing {
             None => return (CONTRADICTION, 0),
-            Some(done) if done.spent => return (ALLOWANCE_SPENT, done.rounds),
-            Some(done) => done.rounds,
+            Some(done) if done.spent => return (ALLOWANCE_SPENT, done.rounds()),
+            Some(done) => done.rounds(),
         };
         let (collection, people) = (self.collection, &self.people);
         let (rules, staying) = (&self.rules, &self.staying);
@@ -53,6 +53,16 @@ impl<'a> Prepared<'a> {
         let there = walk[second.at()];
         let arrived = collection.finals.iter().any(|last| there >> last.0 & 1 == 1);
         (if arrived { YES } else { NO }, rounds)
+    }
+
+    /// How many marks each worked round added, round 1 first; None after a contradiction: then no round is worked.
+    pub fn added(&self) -> Option<&[u16]> {
+        self.closing.as_ref().map(|done| &done.added[..])
+    }
+
+    /// One more round would add marks, and the allowance is spent.
+    pub fn spent(&self) -> bool {
+        self.closing.as_ref().is_some_and(|done| done.spent)
     }
 
     /// The first area after 0, 1 and 3; None where the areas stay untouched.

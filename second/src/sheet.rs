@@ -32,9 +32,17 @@ pub struct Rules {
 
 /// How the closing ended: the rounds that were worked and whether one more would have changed the sheet.
 pub struct Closing {
-    pub rounds: u16,
+    /// How many marks each worked round added, round 1 first.
+    pub added: Vec<u16>,
     pub spent: bool,
     pub sheet: Sheet,
+}
+
+impl Closing {
+    /// No more than the allowance, which is a 16-bit number.
+    pub fn rounds(&self) -> u16 {
+        self.added.len() as u16
+    }
 }
 
 impl Rules {
@@ -108,17 +116,20 @@ impl Rules {
 
     /// Works rounds until the sheet stays as it is or the allowance is spent.
     pub fn close(&self, allowance: u16) -> Closing {
-        let mut sheet = self.round_zero();
-        let mut rounds = 0;
+        let mut closing = Closing { added: Vec::new(), spent: false, sheet: self.round_zero() };
+        let mut standing = closing.sheet.marks();
         loop {
-            let next = self.round(&sheet);
+            let next = self.round(&closing.sheet);
             // Finding that nothing changes isn't counted.
-            let spent = next != sheet;
-            if !spent || rounds == allowance {
-                return Closing { rounds, spent, sheet };
+            closing.spent = next != closing.sheet;
+            if !closing.spent || closing.rounds() == allowance {
+                return closing;
             }
-            sheet = next;
-            rounds += 1;
+            // A round keeps all marks, so it added as many as stand now and didn't before.
+            let then_standing = next.marks();
+            closing.added.push(then_standing - standing);
+            standing = then_standing;
+            closing.sheet = next;
         }
     }
 }
@@ -126,6 +137,12 @@ impl Rules {
 impl Sheet {
     pub fn loops(&self, concept: Concept) -> &Relation {
         &self.loops[concept.at()]
+    }
+
+    /// How many marks stand: 16 × 16 × 128 at most.
+    pub fn marks(&self) -> u16 {
+        let rows = self.loops.iter().flatten();
+        rows.map(|row| row.count_ones() as u16).sum()
     }
 
     /// The mark (s, t, B) at byte s×2,048 + t×128 + B.

@@ -1,6 +1,6 @@
 //! The comparison tried on the second program itself: all five parts, and each number hit often enough.
 
-use second::compare::{compare, sample::sample, Options, DESK_NUMBERS};
+use second::compare::{compare, desk_met, sample::sample, Options, DESK_NUMBERS};
 use second::desk::desk;
 
 #[test]
@@ -42,8 +42,8 @@ fn a_bad_exit_status_fails() {
     let (_, desk) = compare(&of(ending_badly("desk"), None));
     let (_, library) = compare(&of(None, ending_badly("answer")));
     let (_, right) = compare(&of(None, Some(format!("{} answer", env!("CARGO_BIN_EXE_second")))));
-    // Of so few cases each number of the desk, and a self-dealing fact, is met too seldom. Three parts have a driver.
-    assert_eq!(desk, sound + 40 + DESK_NUMBERS.len() as u64 + 1);
+    // Of so few cases each number of the desk, and all else of it, is met too seldom. Three parts have a driver.
+    assert_eq!(desk, sound + 40 + (DESK_NUMBERS.len() + desk_met().len()) as u64);
     assert_eq!(library, right + 3);
     std::fs::remove_dir_all(&folder).expect("our own folder");
     for case in 0..40 {
@@ -56,7 +56,13 @@ fn a_bad_exit_status_fails() {
 #[test]
 fn a_collection_that_needs_1954_rounds() {
     let output = String::from_utf8(desk(&sample("rounds", 1).expect("a kind"))).expect("text");
-    assert!(output.lines().all(|line| line.ends_with("0107A2")) && output.lines().count() == 4);
+    let (rounds, answers): (Vec<&str>, Vec<&str>) = output.lines().partition(|line| line.starts_with("8A"));
+    assert!(answers.iter().all(|line| line.ends_with("0107A2")) && answers.len() == 4);
+    // Each round goes one child up the ring of roles, and marks what promises that child: the child above it, and
+    // having such a neighbour. In the last round the child above was marked by the test before.
+    assert_eq!(rounds.len(), 1_954);
+    let added = (1..=1_954).map(|round| format!("8A{round:04X}{:04X}", if round < 1_954 { 2 } else { 1 }));
+    assert!(added.eq(rounds.iter().map(|line| line.to_string())) && output.starts_with("8A"));
 }
 
 #[test]

@@ -25,6 +25,7 @@ fn case_1_with_its_path() {
     let text = explained(&format!("{B} 0B0000 0B0001"));
     says(&text, &["A0 ≤ ∃r0 (line 2)", "i0 has ∃r0: typed on line 4; A0 ≤ ∃r0 (line 2)"]);
     says(&text, &["Round 1: 2 added, 26 marks", "Round 2: 2 added, 28 marks", "Rounds needed: 2."]);
+    says(&text, &["  the desk writes 8A00010002\nRound 2", "  the desk writes 8A00020002\nRounds needed"]);
     says(&text, &["(q1, q2, ∃r0⁻) rule 1: test q1 –A1?→ q2 (line 6), ∃r0⁻ ≤ A1"]);
     says(&text, &["(q0, q3, A0) rule 3: R = r0, A0 ≤ ∃r0; down q0 –r0→ q1 (line 5)", "below (q1, q2, ∃r0⁻)"]);
     says(&text, &["(i0, q0)\n  (i0·r0, q1)", "(i0·r0, q2)  by the test A1?", "(i0, q3)  up by q2 –r0⁻→ q3"]);
@@ -60,6 +61,12 @@ fn a_spent_allowance() {
     says(
         &text,
         &["the allowance of 1 is below the 2 rounds needed", "The allowance is spent here: 1 round."],
+    );
+    says(&text, &["  the desk writes 8A00010002\nThe allowance is spent here"]);
+    assert_eq!(text.matches("the desk writes 8A").count(), 1);
+    assert!(
+        !explained(&format!("{B} 0C0001")).contains("the desk writes 8A"),
+        "nothing is written without an ask"
     );
 }
 

@@ -215,7 +215,9 @@ fn a_path_by_an_expression() {
     let file = "010202030400 07000001 07000102 060101 0D0041000183 0B0000";
     assert_eq!(out(file), "8F00050E\n");
     let file = "010202030500 07000001 07000102 060101 0D0041000183 0B0002 0B0001 0B0000 0B0100";
-    assert_eq!(out(file), "8B0002010001\n8B0001010001\n8B0000010001\n8B0100000001\n");
+    // Round 1 makes (1, 2) for Deed, and (2, 4) for ∃signs, down and up again.
+    let answers = "8B0002010001\n8B0001010001\n8B0000010001\n8B0100000001\n";
+    assert_eq!(out(file), format!("8A00010002\n{answers}"));
 }
 
 fn explained(words: &str) -> String {

@@ -11,6 +11,40 @@ fn raw(input: &[u8]) -> String {
     String::from_utf8(desk(input)).expect("text")
 }
 
+/// The lines of the rounds that added so many marks each.
+fn rounds(added: &[u16]) -> String {
+    let rounds = added.iter().enumerate();
+    rounds.map(|(before, added)| format!("8A{:04X}{added:04X}\n", before + 1)).collect()
+}
+
+#[test]
+fn the_lines_of_rounds_stand_once_and_before_the_first_answer() {
+    let words = "010101010200 060000 09000001 0A01";
+    assert_eq!(out(&format!("{words} 0B0000 0B0000")), "8A00010001\n8B0000010001\n8B0000010001\n");
+    // Wherever the asks and the allowance stand.
+    assert_eq!(out("010100010200 0B0000 0C0001 060000 09000001 0A01"), "8A00010001\n8B0000010001\n");
+    // None: no ask, an allowance of 0, a contradiction, a faulty last line.
+    assert_eq!(out(words), "");
+    assert_eq!(out(&format!("{words} 0B0000 0C0000")), "8B0000030000\n");
+    assert_eq!(out(&format!("{words} 0B0000 030000")), "8B0000020000\n");
+    assert_eq!(out(&format!("{words} 0B0000 0B0001")), "8F000608\n");
+}
+
+#[test]
+fn every_concept_and_pair_of_states_in_one_round() {
+    // 128 concepts are below name 0, which is tested from each of 16 states to each other: 16 × 15 × 128 marks at once.
+    let mut words = String::from("014020011000 060000 0A0F 0B0000");
+    for concept in 1..128 {
+        words += &format!(" 02{concept:02X}00");
+    }
+    for (from, to) in
+        (0..16).flat_map(|from| (0..16).map(move |to| (from, to))).filter(|(from, to)| from != to)
+    {
+        words += &format!(" 09{from:02X}00{to:02X}");
+    }
+    assert_eq!(out(&words), rounds(&[30_720]) + "8B0000010001\n");
+}
+
 #[test]
 fn the_model_is_not_cut_at_a_fixed_depth() {
     // A chain of signs for ever; 15 times down, then up in the last state as often as there is a parent.
@@ -18,14 +52,16 @@ fn the_model_is_not_cut_at_a_fixed_depth() {
     for state in 0..15 {
         words += &format!(" 08{state:02X}00{:02X}", state + 1);
     }
-    assert_eq!(out(&(words + " 0B0000")), "8B000001000F\n");
+    // Each round goes one up, for A0, ∃r0 and ∃r0⁻.
+    assert_eq!(out(&(words + " 0B0000")), rounds(&[3; 15]) + "8B000001000F\n");
 }
 
 #[test]
 fn a_round_reads_only_the_round_before() {
     // Tests 0→1→2→3→4: marks double their reach from the second round on, so three rounds.
     let words = "010100010500 060000 09000001 09010002 09020003 09030004 0A04 0B0000";
-    assert_eq!(out(words), "8B0000010003\n");
+    // Four marks from a state to the next, three to the next but one, and the last two.
+    assert_eq!(out(words), rounds(&[4, 3, 3]) + "8B0000010003\n");
 }
 
 #[test]

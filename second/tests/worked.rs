@@ -1,7 +1,7 @@
 //! Cases 1 to 16 and the collection with facts (docs/PAPER.md and cases/README.md), asked of the desk, the library and the built-out model.
 
 use second::desk::{desk, read::read};
-use second::library::{ask, Call};
+use second::library::{ask, marks, Call};
 use second::model::{self, known::Known, letter, Answer, Model};
 use second::numbers::Individual;
 
@@ -13,6 +13,10 @@ const B: &str = "010202020400 020040 024101 060000 08000001 09010102 08020103 0A
 /// The collection with facts without its asks: each rule of the rounds adds a mark.
 const FACTS: &str = "010202030600 020040 024101 020143 030001 050002 060000 07000001 07000201 \
                      08000001 09010102 08020303 08030204 08040105 0A05";
+
+/// What its rounds add: (1, 2) for Deed and ∃(signs backward), (2, 4) for both and ∃(holds backward); (1, 4) for the first
+/// two; (0, 5) for Owner and ∃signs.
+const ADDED: [u16; 3] = [5, 2, 2];
 
 /// Case 10 without its asks.
 const TEN: &str = "010202020300 020040 020042 060000 08000001 08010302 0A02";
@@ -27,16 +31,24 @@ fn lines(words: &str) -> Vec<u8> {
     words.split(' ').map(|line| format!("{line}\n")).collect::<String>().into_bytes()
 }
 
-/// The same outcome from all three: desk line, library call with both areas, model (and the sheet to the letter).
-fn agree(words: &str, first: u8, second: u8, number: u8, count: u16) -> Vec<u8> {
+/// The same outcome from all three: desk lines with the marks that each round adds, library calls with both areas, model
+/// (and the sheet to the letter).
+fn agree(words: &str, (first, second): (u8, u8), (number, count): (u8, u16), added: &[u16]) -> Vec<u8> {
     let asked = format!("{words} 0B{first:02X}{second:02X}");
-    let output = format!("8B{first:02X}{second:02X}{number:02X}{count:04X}\n");
+    let rounds = added.iter().enumerate();
+    let rounds: String = rounds.map(|(before, added)| format!("8A{:04X}{added:04X}\n", before + 1)).collect();
+    let output = format!("{rounds}8B{first:02X}{second:02X}{number:02X}{count:04X}\n");
     assert_eq!(desk(&lines(&asked)), output.into_bytes());
 
     let file = read(&lines(&asked)).expect("a sound file");
     let call = Call::of(&file.collection, file.allowance());
     let (mut area, mut spare) = (vec![0x5A; AREA], vec![0xA5; AREA]);
     assert_eq!(ask(&call, [first.into(), second.into()], &mut area, &mut spare), (number, count));
+    // A yes and a no are both 0 here.
+    let (mut other, mut other_spare) = (vec![0x5A; AREA], vec![0xA5; AREA]);
+    let told = marks(&call, file.allowance().into(), &mut other, &mut other_spare);
+    assert_eq!(told, (if number == 1 { 0 } else { number }, added.to_vec()));
+    assert!(other == area && other_spare == spare);
 
     let known = Known::of(&file.collection);
     if number == 2 {
@@ -44,6 +56,7 @@ fn agree(words: &str, first: u8, second: u8, number: u8, count: u16) -> Vec<u8> 
     } else {
         let sheets = letter::all_rounds(&known);
         assert_eq!(area, sheets[usize::from(count)]);
+        assert_eq!(letter::added(&sheets[..=usize::from(count)]), added);
         assert!(spare.iter().all(|byte| *byte == 0));
         assert_eq!(number == 3, sheets.len() - 1 > usize::from(count));
     }
@@ -60,14 +73,14 @@ fn fault(words: &str) -> String {
 #[test]
 fn the_whole_worked_input() {
     let input = lines(&format!("{B} 0B0000 0B0001"));
-    assert_eq!(desk(&input), b"8B0000010002\n8B0001000002\n");
+    assert_eq!(desk(&input), b"8A00010002\n8A00020002\n8B0000010002\n8B0001000002\n");
 }
 
 #[test]
 fn case_1_and_2_b() {
-    let sheet = agree(B, 0, 0, 1, 2);
+    let sheet = agree(B, (0, 0), (1, 2), &[2, 2]);
     assert_eq!(sheet.iter().map(|byte| u32::from(*byte)).sum::<u32>(), 28);
-    agree(B, 0, 1, 0, 2);
+    agree(B, (0, 1), (0, 2), &[2, 2]);
 }
 
 #[test]
@@ -94,62 +107,62 @@ fn case_1_with_tables_written_by_hand() {
 
 #[test]
 fn case_3_allowance_1() {
-    agree(&format!("{B} 0C0001"), 0, 0, 3, 1);
-    agree(&format!("{B} 0C0000"), 0, 0, 3, 0);
-    agree(&format!("{B} 0C0002"), 0, 0, 1, 2);
+    agree(&format!("{B} 0C0001"), (0, 0), (3, 1), &[2]);
+    agree(&format!("{B} 0C0000"), (0, 0), (3, 0), &[]);
+    agree(&format!("{B} 0C0002"), (0, 0), (1, 2), &[2, 2]);
 }
 
 #[test]
 fn case_4_contradiction_on_an_unnamed_deed() {
-    agree(&format!("{B} 030141"), 0, 0, 2, 0);
+    agree(&format!("{B} 030141"), (0, 0), (2, 0), &[]);
 }
 
 #[test]
 fn case_5_without_the_owner() {
-    agree(&format!("{B} 030141").replace(" 060000", ""), 0, 0, 0, 2);
+    agree(&format!("{B} 030141").replace(" 060000", ""), (0, 0), (0, 2), &[2, 2]);
 }
 
 #[test]
 fn case_6_roles_excluded_below_an_owner() {
-    agree(&format!("{B} 040002 050002"), 0, 0, 2, 0);
+    agree(&format!("{B} 040002 050002"), (0, 0), (2, 0), &[]);
 }
 
 #[test]
 fn case_7_holds_both_ways() {
     let steps = "08000001 09010102 08020103 0A03";
-    agree(&format!("010202020400 050203 07010001 07010100 {steps}"), 0, 0, 2, 0);
+    agree(&format!("010202020400 050203 07010001 07010100 {steps}"), (0, 0), (2, 0), &[]);
 }
 
 #[test]
 fn case_8_start_state_final() {
-    agree("010202020100 0A00", 0, 0, 1, 0);
-    agree("010202020100 0A00", 0, 1, 0, 0);
+    agree("010202020100 0A00", (0, 0), (1, 0), &[]);
+    agree("010202020100 0A00", (0, 1), (0, 0), &[]);
 }
 
 #[test]
 fn case_9_signs_twice_and_back() {
     let nine = "010202020500 020040 024140 060000 08000001 08010002 08020103 08030104 0A04";
-    agree(nine, 0, 0, 1, 2);
+    agree(nine, (0, 0), (1, 2), &[3, 3]);
 }
 
 #[test]
 fn case_10_two_promises_are_two_neighbours() {
-    agree(TEN, 0, 0, 0, 0);
+    agree(TEN, (0, 0), (0, 0), &[]);
 }
 
 #[test]
 fn case_11_one_neighbour_by_a_third_role() {
-    agree(ELEVEN, 0, 0, 1, 1);
+    agree(ELEVEN, (0, 0), (1, 1), &[2]);
 }
 
 #[test]
 fn facts_walked_along_and_backward() {
-    let sheet = agree(FACTS, 0, 2, 1, 3);
+    let sheet = agree(FACTS, (0, 2), (1, 3), &ADDED);
     assert_eq!(sheet.iter().map(|byte| u32::from(*byte)).sum::<u32>(), 45);
-    agree(FACTS, 2, 0, 1, 3);
-    agree(FACTS, 0, 0, 1, 3);
-    agree(FACTS, 0, 1, 0, 3);
-    agree(FACTS, 1, 1, 0, 3);
+    agree(FACTS, (2, 0), (1, 3), &ADDED);
+    agree(FACTS, (0, 0), (1, 3), &ADDED);
+    agree(FACTS, (0, 1), (0, 3), &ADDED);
+    agree(FACTS, (1, 1), (0, 3), &ADDED);
 }
 
 #[test]
@@ -176,30 +189,44 @@ fn case_12_in_the_library() {
 }
 
 #[test]
+fn the_refusals_of_the_call_for_the_marks_of_rounds() {
+    let mut call = Call { counts: [2, 2, 255, 16, 15], tables: Default::default(), allowance: 3 };
+    let number = |call: &Call, room, spare| marks(call, room, &mut vec![0; AREA], &mut vec![0; spare]).0;
+    assert_eq!(number(&call, 3, AREA), 0);
+    assert_eq!(number(&call, 2, AREA), 5);
+    assert_eq!(number(&call, 3, AREA - 1), 5);
+    call.tables[4] = vec![0, 255];
+    assert_eq!(number(&call, 3, AREA), 6);
+    assert_eq!(number(&call, 2, AREA), 5);
+    call.counts[3] = 17;
+    assert_eq!(number(&call, 2, AREA), 4);
+}
+
+#[test]
 fn cases_13_to_16_an_edge_to_itself() {
-    let sheet = agree(THIRTEEN, 0, 1, 1, 0);
+    let sheet = agree(THIRTEEN, (0, 1), (1, 0), &[]);
     assert_eq!(sheet.iter().map(|byte| u32::from(*byte)).sum::<u32>(), 18);
-    agree(THIRTEEN, 0, 0, 0, 0);
-    agree(&format!("{THIRTEEN} 050203"), 0, 1, 2, 0);
-    let sheet = agree(&format!("{B} 07010000 0C0001"), 0, 0, 3, 1);
+    agree(THIRTEEN, (0, 0), (0, 0), &[]);
+    agree(&format!("{THIRTEEN} 050203"), (0, 1), (2, 0), &[]);
+    let sheet = agree(&format!("{B} 07010000 0C0001"), (0, 0), (3, 1), &[2]);
     assert_eq!(sheet.iter().map(|byte| u32::from(*byte)).sum::<u32>(), 26);
 }
 
 #[test]
 fn an_edge_to_itself_is_walked_both_ways_and_excluded_by_its_inverse() {
     for steps in ["08000001", "08000101"] {
-        agree(&format!("010002020200 07000000 {steps} 0A01"), 0, 0, 1, 0);
+        agree(&format!("010002020200 07000000 {steps} 0A01"), (0, 0), (1, 0), &[]);
     }
     // The unnamed neighbours are no owners, so a path stays at 0 both times.
     for [there, back] in [["00", "01"], ["01", "00"]] {
         let steps = format!("0800{there}01 09010002 0802{back}03");
-        agree(&format!("010102020400 060000 07000000 {steps} 0A03"), 0, 0, 1, 1);
+        agree(&format!("010102020400 060000 07000000 {steps} 0A03"), (0, 0), (1, 1), &[1]);
     }
     // Through a role rule, written forward and backward; and by two facts with equal ends.
     for clash in ["040002 050203 07000000", "040103 050302 07000000", "050003 07000000 07010000"] {
-        agree(&format!("010002020100 {clash} 0A00"), 1, 1, 2, 0);
+        agree(&format!("010002020100 {clash} 0A00"), (1, 1), (2, 0), &[]);
     }
-    agree("010002020100 050001 07000001 0A00", 1, 1, 1, 0);
+    agree("010002020100 050001 07000001 0A00", (1, 1), (1, 0), &[]);
 }
 
 #[test]

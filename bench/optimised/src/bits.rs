@@ -54,6 +54,16 @@ impl Relation {
         left
     }
 
+    /// How many pairs stand; four rows at a time.
+    #[inline(always)]
+    pub fn count(&self) -> u16 {
+        let words = self.0.chunks_exact(4).map(|rows| {
+            let row = |at: usize| u64::from(rows[at]) << (16 * at);
+            row(0) | row(1) | row(2) | row(3)
+        });
+        words.map(|word| word.count_ones() as u16).sum()
+    }
+
     #[inline(always)]
     pub fn is_empty(&self) -> bool {
         self.0.iter().fold(0, |all, row| all | row) == 0

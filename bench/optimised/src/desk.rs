@@ -30,8 +30,8 @@ pub fn desk(input: Vec<u8>) -> Vec<u8> {
     if file.asks.is_empty() {
         return Vec::new();
     }
-    let mut output = Vec::with_capacity(13 * file.asks.len());
-    match outcome(&file) {
+    let mut output = Vec::with_capacity(13 * file.asks.len() + 11 * usize::from(ALLOWANCE));
+    match outcome(&file, &mut output) {
         Outcome::Same(number, count) => {
             for &ask in &file.asks {
                 answer(&mut output, ask, number, count);
@@ -48,7 +48,8 @@ pub fn desk(input: Vec<u8>) -> Vec<u8> {
     output
 }
 
-fn outcome(file: &File) -> Outcome {
+/// What the asks are answered with; the lines of the rounds are written as these are worked.
+fn outcome(file: &File, output: &mut Vec<u8>) -> Outcome {
     let orders = Orders::of(file);
     let excluded = Excluded::of(file, &orders);
     if individuals(file, &orders, &excluded).is_none() {
@@ -58,7 +59,11 @@ fn outcome(file: &File) -> Outcome {
     let Some(mut map) = Map::of(file, &orders, &excluded, &along) else {
         return Outcome::Same(CONTRADICTION, 0);
     };
-    let sheet = close(file, &orders, &along, file.allowance.unwrap_or(ALLOWANCE));
+    let told = |round: u16, added: u16| {
+        let ([high, low], [more, less]) = (round.to_be_bytes(), added.to_be_bytes());
+        output.extend_from_slice(&line::<5, 11>([0x8A, high, low, more, less]));
+    };
+    let sheet = close(file, &orders, &along, file.allowance.unwrap_or(ALLOWANCE), told);
     if sheet.spent {
         return Outcome::Same(SPENT, sheet.rounds);
     }
@@ -69,13 +74,13 @@ fn outcome(file: &File) -> Outcome {
 #[inline(always)]
 fn answer(output: &mut Vec<u8>, (first, second): (u8, u8), number: u8, count: u16) {
     let [high, low] = count.to_be_bytes();
-    output.extend_from_slice(&line([0x8B, first, second, number, high, low]));
+    output.extend_from_slice(&line::<6, 13>([0x8B, first, second, number, high, low]));
 }
 
-/// Six bytes as capital hexadecimal and the end of the line.
+/// Bytes as capital hexadecimal and the end of the line.
 #[inline(always)]
-fn line(bytes: [u8; 6]) -> [u8; 13] {
-    let mut line = [b'\n'; 13];
+fn line<const BYTES: usize, const LONG: usize>(bytes: [u8; BYTES]) -> [u8; LONG] {
+    let mut line = [b'\n'; LONG];
     for (place, byte) in bytes.into_iter().enumerate() {
         line[2 * place] = DIGITS[usize::from(byte >> 4)];
         line[2 * place + 1] = DIGITS[usize::from(byte & 15)];
@@ -100,7 +105,8 @@ pub fn marks(input: Vec<u8>) -> Option<usize> {
     read(input, &mut file).ok()?;
     let orders = Orders::of(&file);
     individuals(&file, &orders, &Excluded::of(&file, &orders))?;
-    let sheet = close(&file, &orders, &along(&file, &orders), file.allowance.unwrap_or(ALLOWANCE));
+    let allowance = file.allowance.unwrap_or(ALLOWANCE);
+    let sheet = close(&file, &orders, &along(&file, &orders), allowance, |_, _| ());
     let concepts = Places(crate::order::all_concepts(&file));
     let rows = concepts.flat_map(|concept| sheet.of_concept(&orders, concept).0);
     Some(rows.map(|row| row.count_ones() as usize).sum())

@@ -10,6 +10,8 @@ pub struct Orders {
     pub concepts: [u128; 128],
     /// The lowest concept that is below and above this one: all that follows is worked once for it.
     pub same: [u8; 128],
+    /// For each lowest concept, how many it is worked for.
+    pub kin: [u8; 128],
     /// The concepts that are the lowest of their kind, and likewise the signed roles.
     pub lowest: u128,
     pub lowest_roles: u64,
@@ -41,11 +43,13 @@ impl Orders {
     pub fn of(file: &File) -> Orders {
         let roles = closed_roles(file);
         let concepts = closed_concepts(file, &roles);
-        let mut orders = Orders { roles, concepts, same: [0; 128], lowest: 0, lowest_roles: 0 };
+        let mut orders =
+            Orders { roles, concepts, same: [0; 128], kin: [0; 128], lowest: 0, lowest_roles: 0 };
         for concept in Places(all_concepts(file)) {
             let equal = |other: &usize| orders.concepts[other & 127] >> concept & 1 == 1;
             let lowest = Places(orders.concepts[concept]).find(equal).expect("itself");
             orders.same[concept] = lowest as u8;
+            orders.kin[lowest & 127] += 1;
             orders.lowest |= u128::from(lowest == concept) << concept;
         }
         for role in Places(all_roles(file)) {

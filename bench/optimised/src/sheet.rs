@@ -42,8 +42,15 @@ struct Closing<'a> {
     touched: u128,
 }
 
+/// Each round worked is told, with the marks that it added.
 #[inline(never)]
-pub fn close(file: &File, orders: &Orders, along: &[Relation; 64], allowance: u16) -> Sheet {
+pub fn close(
+    file: &File,
+    orders: &Orders,
+    along: &[Relation; 64],
+    allowance: u16,
+    mut told: impl FnMut(u16, u16),
+) -> Sheet {
     let mut closing = Closing::round_zero(file, orders, along);
     let mut added = [Relation::EMPTY; 128];
     let mut rounds = 0;
@@ -56,6 +63,9 @@ pub fn close(file: &File, orders: &Orders, along: &[Relation; 64], allowance: u1
             break true;
         }
         rounds += 1;
+        // What was added for a concept was added for all that are equal to it.
+        let marks = |concept: usize| added[concept & 127].count() * u16::from(orders.kin[concept & 127]);
+        told(rounds, Places(changed).map(marks).sum());
         closing.round(changed, &added);
     };
     Sheet { loops: closing.loops, rounds, spent }

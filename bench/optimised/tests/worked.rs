@@ -16,75 +16,82 @@ fn output(words: &str) -> String {
     String::from_utf8(desk(lines(words))).expect("text")
 }
 
-/// One ask added, and what comes back for it.
-fn asked(words: &str, first: u8, second: u8, number: u8, count: u16) {
-    let line = format!("8B{first:02X}{second:02X}{number:02X}{count:04X}\n");
+/// One ask added, and what comes back for it, after the marks that each round added.
+fn asked(words: &str, (first, second): (u8, u8), (number, count): (u8, u16), added: &[u16]) {
+    let rounds = added.iter().enumerate();
+    let rounds: String = rounds.map(|(before, added)| format!("8A{:04X}{added:04X}\n", before + 1)).collect();
+    let line = format!("{rounds}8B{first:02X}{second:02X}{number:02X}{count:04X}\n");
     assert_eq!(output(&format!("{words} 0B{first:02X}{second:02X}")), line);
 }
 
 #[test]
 fn the_whole_worked_input() {
-    assert_eq!(output(&format!("{B} 0B0000 0B0001")), "8B0000010002\n8B0001000002\n");
+    assert_eq!(output(&format!("{B} 0B0000 0B0001")), "8A00010002\n8A00020002\n8B0000010002\n8B0001000002\n");
 }
 
 #[test]
 fn case_1_yes_and_28_marks() {
-    asked(B, 0, 0, 1, 2);
+    asked(B, (0, 0), (1, 2), &[2, 2]);
     assert_eq!(marks(lines(B)), Some(28));
 }
 
 #[test]
 fn case_2_no() {
-    asked(B, 0, 1, 0, 2);
+    asked(B, (0, 1), (0, 2), &[2, 2]);
 }
 
 #[test]
 fn case_3_allowance_1() {
-    asked(&format!("{B} 0C0001"), 0, 0, 3, 1);
-    asked(&format!("{B} 0C0000"), 0, 0, 3, 0);
-    asked(&format!("{B} 0C0002"), 0, 0, 1, 2);
+    asked(&format!("{B} 0C0001"), (0, 0), (3, 1), &[2]);
+    asked(&format!("{B} 0C0000"), (0, 0), (3, 0), &[]);
+    asked(&format!("{B} 0C0002"), (0, 0), (1, 2), &[2, 2]);
 }
 
 #[test]
 fn case_4_contradiction_on_an_unnamed_deed() {
-    asked(&format!("{B} 030141"), 0, 0, 2, 0);
+    asked(&format!("{B} 030141"), (0, 0), (2, 0), &[]);
 }
 
 #[test]
 fn case_5_without_the_owner() {
-    asked(&format!("{B} 030141").replace(" 060000", ""), 0, 0, 0, 2);
+    asked(&format!("{B} 030141").replace(" 060000", ""), (0, 0), (0, 2), &[2, 2]);
 }
 
 #[test]
 fn case_6_roles_excluded_below_an_owner() {
-    asked(&format!("{B} 040002 050002"), 0, 0, 2, 0);
+    asked(&format!("{B} 040002 050002"), (0, 0), (2, 0), &[]);
 }
 
 #[test]
 fn case_7_holds_both_ways() {
-    asked("010202020400 07010001 07010100 050203", 0, 0, 2, 0);
+    asked("010202020400 07010001 07010100 050203", (0, 0), (2, 0), &[]);
 }
 
 #[test]
 fn case_8_start_state_final() {
-    asked("010202020400 0A00", 0, 0, 1, 0);
-    asked("010202020400 0A00", 0, 1, 0, 0);
+    asked("010202020400 0A00", (0, 0), (1, 0), &[]);
+    asked("010202020400 0A00", (0, 1), (0, 0), &[]);
 }
 
 #[test]
 fn case_9_signs_twice_and_back() {
-    asked("010102020500 020040 024140 060000 08000001 08010002 08020103 08030104 0A04", 0, 0, 1, 2);
+    asked(
+        "010102020500 020040 024140 060000 08000001 08010002 08020103 08030104 0A04",
+        (0, 0),
+        (1, 2),
+        &[3, 3],
+    );
 }
 
 #[test]
 fn case_10_two_promises_are_two_neighbours() {
-    asked(TEN, 0, 0, 0, 0);
+    asked(TEN, (0, 0), (0, 0), &[]);
 }
 
 #[test]
 fn case_11_one_neighbour_by_a_third_role() {
     let eleven = TEN.replace("010102020300", "010103020300") + " 020044 040400 040402";
-    asked(&eleven, 0, 0, 1, 1);
+    asked(&eleven, (0, 0), (1, 1), &[2]);
 }
 
 #[test]
@@ -100,20 +107,20 @@ fn case_12_limits() {
 #[test]
 fn cases_13_to_16_an_edge_to_itself() {
     let thirteen = "010202020300 07010000 07000001 08000201 08010002 0A02";
-    asked(thirteen, 0, 1, 1, 0);
+    asked(thirteen, (0, 1), (1, 0), &[]);
     assert_eq!(marks(lines(thirteen)), Some(18));
-    asked(thirteen, 0, 0, 0, 0);
-    asked(&format!("{thirteen} 050203"), 0, 1, 2, 0);
-    asked(&format!("{B} 07010000 0C0001"), 0, 0, 3, 1);
+    asked(thirteen, (0, 0), (0, 0), &[]);
+    asked(&format!("{thirteen} 050203"), (0, 1), (2, 0), &[]);
+    asked(&format!("{B} 07010000 0C0001"), (0, 0), (3, 1), &[2]);
 }
 
 #[test]
 fn an_edge_to_itself_is_walked_both_ways() {
     for steps in ["08000001", "08000101"] {
-        asked(&format!("010002020200 07000000 {steps} 0A01"), 0, 0, 1, 0);
+        asked(&format!("010002020200 07000000 {steps} 0A01"), (0, 0), (1, 0), &[]);
     }
-    asked("010102020400 060000 07000000 08000001 09010002 08020103 0A03", 0, 0, 1, 1);
-    asked("010002020100 040002 050203 07000000 0A00", 1, 1, 2, 0);
+    asked("010102020400 060000 07000000 08000001 09010002 08020103 0A03", (0, 0), (1, 1), &[1]);
+    asked("010002020100 040002 050203 07000000 0A00", (1, 1), (2, 0), &[]);
 }
 
 #[test]

@@ -1,18 +1,26 @@
 -- What a preparation of a file answers to the file's asks is the library's outcomes over the whole file.
-use Rattle.std.specs.Prelude.{ℕ, ◌≡◌, refl, List, Option, None, Some, IfSome, slice_get}
-use Rattle.std.proofs.Common.{arith}
+use Rattle.std.specs.Prelude.{ℕ, ◌≡◌, ◌<◌, refl, List, [], Option, None, Some, IfSome, slice_get}
+use Rattle.std.proofs.Common.{sym, subst, arith}
 use Rattle.std.proofs.Math.ListN.{length-replicate}
 use Rattle.kinds.specs.declared.Answer.{Answer}
 use Rattle.meaning.specs.Layout.{area_length, zeros}
+use Rattle.meaning.specs.Lent.{Sound}
+use Rattle.meaning.specs.Outcome.{Outcome, bad-count, bad-table, bad-number, bad-ask, contradiction, spent, says-yes, says-no}
+use Rattle.meaning.proofs.OutcomeExists.{outcome-exists}
 use Rattle.tables.specs.declared.collection.Collection.{Collection}
 use Rattle.tables.specs.Lists.{lists}
 use Rattle.expression.specs.Listed.{Listed}
 use Rattle.reading.specs.declared.File.{File}
-use Rattle.reading.specs.File.{lent_tables, allowance_in, held_ask, IsQuestion}
-use Rattle.index.specs.Preparation.{Preparation, preparation}
+use Rattle.reading.specs.File.{lent_tables, allowance_in, held_ask, held_call, IsQuestion}
+use Rattle.reading.specs.Reads.{IsRead}
+use Rattle.index.specs.Preparation.{Preparation, preparation, Fits}
+use Rattle.index.specs.Marks.{MarksTold}
 use Rattle.index.specs.Asked as index
 use Rattle.index.specs.Row as row
-use Rattle.file.specs.Replying.{ask_count, IsAnswer, AnswersEach}
+use Rattle.file.specs.Rounds as told
+use Rattle.file.specs.Rounds.{round_lines}
+use Rattle.file.specs.Replying.{ask_count, IsAnswer, HeldRounds, RoundsAll, AnswersEach}
+use Rattle.file.proofs.Asks.{call_sound}
 
 -- what a file's own preparation is of
 abbrev pub own : File → Listed → Preparation
@@ -32,10 +40,36 @@ answer_in : (file : File) (q : Listed) (k : ℕ) (o : Option Answer) → IfSome 
 answer_in file q k None h = tt
 answer_in file q k (Some r) h = h zeros zeros (length-replicate {A = ℕ} area_length 0) (length-replicate {A = ℕ} area_length 0)
 
--- and where nothing is asked there is nothing to answer
-pub nothing-asked : (file : File) (q : Listed) (answers : List Answer) → IsQuestion file q → ask_count file ≡ 0 → AnswersEach file answers
-nothing-asked file q answers is e = record { question = q; is = is; each = λ k h. absurd (omega (arith, e)) }
+module _ (file : File) (P : List ℕ → Type 0) where
+  -- and where nothing is asked there is nothing to tell and nothing to answer
+  pub nothing-asked : (q : Listed) (answers : List Answer) → IsQuestion file q → ask_count file ≡ 0 → P [] → AnswersEach file answers P
+  unfolding round_lines
+  nothing-asked q answers is e so = record {
+    rounds = record { question = q; is = is; counts = []; told = told.no-ask e; so = so };
+    each = λ k h. absurd (omega (arith, e));
+  }
 
--- THEOREM: replies from a file's own preparation are its answers
-pub replies-answer : (file : File) (q : Listed) (answers : List Answer) → IsQuestion file q → row.AnswersEach (own file q) file.asks answers → AnswersEach file answers
-replies-answer file q answers is h = record { question = q; is = is; each = λ k l. answer_in file q k (slice_get answers k) (h k l) }
+  -- THEOREM: replies from a file's own preparation are its answers
+  pub replies-answer : (r : RoundsAll file P) (answers : List Answer) → row.AnswersEach (own file r.question) file.asks answers → AnswersEach file answers P
+  replies-answer r answers h = record { rounds = r; each = λ k l. answer_in file r.question k (slice_get answers k) (h k l) }
+
+module _ (file : File) (read : IsRead file) (q : Listed) (is : IsQuestion file q) (some : 0 < ask_count file) where
+  sound : Sound (held_call file q 0)
+  sound = call_sound file read q is 0 some
+
+  -- THEOREM: the counts that are told of the preparation are those that are told of the file
+  pub counts-told : (counts : List ℕ) → MarksTold (own file q) counts → HeldRounds file q counts
+  counts-told counts marks = by (outcome-exists (held_call file q 0))
+    where
+      fits : Fits (own file q)
+      fits = record { counts = sound.counts; tables = record { tables = sound.tables.tables; area = refl; spare = refl }; numbers = sound.numbers }
+
+      by : {r : Answer} {x y : List ℕ} → Outcome (held_call file q 0) r x y → HeldRounds file q counts
+      by (bad-count h) = absurd (h sound.counts)
+      by (bad-table k h) = absurd (h sound.tables)
+      by (bad-number k t h) = absurd (h sound.numbers)
+      by (bad-ask k t n h) = absurd (h sound.ask)
+      by (contradiction w h) = subst (HeldRounds file q) (sym (marks.none (λ s. s.sane h))) (told.contradiction h)
+      by (spent {n = n} w sane need h lays) = told.rounds some sane need (marks.rounds (record { fits = fits; sane = sane }) n need)
+      by (says-yes {n = n} w sane need h lays reached) = told.rounds some sane need (marks.rounds (record { fits = fits; sane = sane }) n need)
+      by (says-no {n = n} w sane need h lays missed) = told.rounds some sane need (marks.rounds (record { fits = fits; sane = sane }) n need)

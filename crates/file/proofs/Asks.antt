@@ -2,11 +2,12 @@
 use Rattle.std.specs.Prelude.{ℕ, ◌<◌, ◌≤◌, ◌≡◌, ◌/◌, List, length}
 use Rattle.std.proofs.Common.{ap, ◌∙◌, sym, subst, arith}
 use Rattle.frames.specs.declared.Frame.{Frame}
+use Rattle.meaning.specs.Lent.{Sound}
 use Rattle.tables.specs.Asks.{ask_width}
 use Rattle.expression.specs.Listed.{Listed}
 use Rattle.reading.specs.declared.File.{File}
 use Rattle.reading.specs.Tables.{asks, most, entries, table}
-use Rattle.reading.specs.File.{file_of, held_ask, IsQuestion}
+use Rattle.reading.specs.File.{file_of, held_ask, held_call, IsQuestion}
 use Rattle.reading.specs.Reads.{IsRead}
 use Rattle.reading.proofs.TableLaws.{table-length}
 use Rattle.reading.proofs.Bounds.{few}
@@ -24,8 +25,11 @@ module _ (file : File) (read : IsRead file) where
   pub few_asks : ask_count file ≤ most asks
   few_asks = omega (arith, count_is, few asks read.frames read.taken)
 
+  -- none of the library's tests refuses the call of an ask
+  pub call_sound : (q : Listed) → IsQuestion file q → (k : ℕ) → k < ask_count file → Sound (held_call file q k)
+  call_sound q is k h =
+      let s : Sound (held_call (file_of read.frames) q k) = accepted read.frames read.taken q (rw read.kept at is) k (omega (arith, count_is)) in
+      subst (λ (f : File). Sound (held_call f q k)) (sym read.kept) s
+
   pub in_bytes : (q : Listed) → IsQuestion file q → (k : ℕ) → k < ask_count file → IsInBytes (held_ask file k)
-  in_bytes q is k h =
-      let s = accepted read.frames read.taken q (rw read.kept at is) k (omega (arith, count_is)) in
-      let here : IsInBytes (held_ask (file_of read.frames) k) = (omega (arith, s.counts.individuals, s.ask.0), omega (arith, s.counts.individuals, s.ask.1)) in
-      subst (λ (f : File). IsInBytes (held_ask f k)) (sym read.kept) here
+  in_bytes q is k h = let s = call_sound q is k h in (omega (arith, s.counts.individuals, s.ask.0), omega (arith, s.counts.individuals, s.ask.1))

@@ -23,9 +23,9 @@ pub record IsLeft (file : File) (q : Listed) (s : Records Ask) (left : List Answ
   pub long : ask_count file ≤ s.next + length left
   pub answers : (j : ℕ) → s.next + j < ask_count file → IfSome (slice_get left j) (IsAnswer file q (s.next + j))
 
-pub all_left : (file : File) (s : Records Ask) (left answers : List Answer) → IsRead file → s.table.numbers.now ≡ file.asks → s.next ≡ 0
-    → left ≡ answers → most asks ≤ length answers → (h : AnswersEach file answers) → IsLeft file h.question s left
-all_left file s left answers read n first e long h = record {
+pub all_left : (file : File) (s : Records Ask) (left answers : List Answer) (P : List ℕ → Type 0) → IsRead file → s.table.numbers.now ≡ file.asks → s.next ≡ 0
+    → left ≡ answers → most asks ≤ length answers → (h : AnswersEach file answers P) → IsLeft file h.rounds.question s left
+all_left file s left answers P read n first e long h = record {
   numbers = n;
   within = omega arith;
   long = omega (arith, few_asks file read, ap (λ (l : List Answer). length l) e);

@@ -6,8 +6,9 @@ pub mod Demanded
 -- Laws that the functions' proofs cite.
 pub mod Spelling
 pub mod Asks
+pub mod Rounds
+pub mod Listening
 pub mod Turns
 pub mod Each
-pub mod Copying
 pub mod Answering
 pub mod Served

@@ -1,12 +1,19 @@
 -- What stands on the lines that an input writes: each line at its place, and its bytes read back.
-use Rattle.std.specs.Prelude.{ℕ, zero, suc, ◌+◌, ◌*◌, ◌/◌, ◌%◌, ◌^◌, ◌<◌, ◌≤◌, ◌≡◌, refl, Bool, true, false, nat_lt, List, ◌++◌, if◌then◌else◌, length, take, drop}
-use Rattle.std.proofs.Common.{sym, ap, ◌∙◌, subst, arith}
-use Rattle.std.proofs.lemmas.List.{take_all, drop_at, take-append-le, drop-append-le, length-drop}
+use Rattle.std.specs.Prelude.{ℕ, zero, suc, ◌+◌, ◌-◌, ◌*◌, ◌/◌, ◌%◌, ◌^◌, ◌<◌, ◌≤◌, ◌≡◌, ◌⊎◌, refl, Bool, true, false, nat_lt, List, [], ◌++◌, if◌then◌else◌, length, take, drop, min, slice_index}
+use Rattle.std.proofs.Common.{sym, ap, ◌∙◌, subst, length-append, arith}
+use Rattle.std.proofs.lemmas.List.{take_all, take_at, drop_at, take-append-le, drop-append-le, length-drop}
 use Rattle.std.proofs.lemmas.Bool.Decides.{nat_tests}
 use Rattle.kinds.specs.declared.Answer.{Answer}
 use Rattle.kinds.specs.declared.Individual.{Individual}
 use Rattle.kinds.specs.Answer.{answer_number, number-listed}
+use Rattle.meaning.specs.Collection.{WellFormed}
+use Rattle.meaning.specs.Model.{Contradiction}
+use Rattle.meaning.specs.Sheet.{Needed}
+use Rattle.meaning.specs.Lite.{lite}
+use Rattle.meaning.specs.Marks.{RoundCounts}
 use Rattle.meaning.specs.Lent.{Call, Sound}
+use Rattle.meaning.proofs.OutcomeExists.{sound-well-formed}
+use Rattle.meaning.proofs.LiteMarks.{lite-make, lite-few}
 use Rattle.tables.specs.declared.ask.Ask.TheVariants.{Pair}
 use Rattle.frames.specs.Digits.{digit_of, byte_of}
 use Rattle.frames.specs.declared.Frame.{Frame}
@@ -14,17 +21,19 @@ use Rattle.reading.specs.declared.Refusal.{Refusal}
 use Rattle.reading.specs.Refusal.{refusal_number}
 use Rattle.tables.specs.Asks.{read_ask, first_of, second_of}
 use Rattle.expression.specs.Listed.{Listed}
-use Rattle.reading.specs.Tables.{asks, entries, table}
-use Rattle.reading.specs.File.{file_of, IsQuestion, asked}
+use Rattle.reading.specs.Tables.{asks, entries, table, rounds_allowed}
+use Rattle.reading.specs.File.{file_of, asked}
 use Rattle.reading.proofs.Once.{reading-once}
 use Rattle.reading.proofs.Questions.{question-once}
 use Rattle.reading.proofs.Accepted.{whole-accepted}
 use Rattle.reading.proofs.Listed.{refusals-listed}
-use Rattle.file.specs.Text.{character, text, fault_line, answer_line}
-use Rattle.file.specs.Writes.{Answers, Answered, IsSound, IsAsking, IsFaulty, Writes, fault, answers}
-use Rattle.file.specs.Told.{line_at, number_on, IsAnswerLine, IsFaultLine}
-use Rattle.file.specs.Laws.{AnswersEachAsk}
+use Rattle.file.specs.Text.{character, text, fault_line, round_line, answer_line}
+use Rattle.file.specs.Rounds.{round_lines}
+use Rattle.file.specs.Writes.{Answers, Answered, IsSound, IsAsking, IsFaulty, collection_read, FileRounds, Writes, fault, answers}
+use Rattle.file.specs.Told.{round_length, answer_length, answers_of, rounds_of, line_at, round_at, number_on, IsAnswerLine, IsRoundLine, IsFaultLine}
+use Rattle.file.specs.Laws.{AnswersEachAsk, TellsRounds}
 use Rattle.file.proofs.Turns.{answer-length, answered-length}
+use Rattle.file.proofs.Rounds.{rounds-length, round-is, told-once, none-told, rounds-told, few-told}
 use Rattle.file.proofs.WritesLaws.{fault-line}
 use Rattle.file.proofs.Listed.{sound-listed}
 
@@ -89,67 +98,162 @@ module _ (line : ℕ) (r : Refusal) where
     listed = let l = refusals-listed r in (omega (arith, fault-number, l.0), omega (arith, fault-number, l.1), λ e. l.2 (sym fault-number ∙ e));
   }
 
--- the lines of a text: those before its last, and its last
-module _ (x y : List ℕ) (n : ℕ) (e : length x ≡ 13 * n) where
-  line-before : (k : ℕ) → k < n → line_at (x ++ y) k ≡ line_at x k
-  line-before k h =
-      ap (λ (l : List ℕ). take 13 l) (drop-append-le (13 * k) x y (omega arith))
-      ∙ take-append-le 13 (drop (13 * k) x) y (omega (arith, length-drop (13 * k) x))
+-- and of a line of a round
+module _ (round marks : ℕ) where
+  round-kind : byte_of (round_line round marks) 0 ≡ 0x8A
+  unfolding round_line text byte_of
+  round-kind = byte-back 0x8A (omega arith)
 
-  line-last : length y ≡ 13 → line_at (x ++ y) n ≡ y
-  line-last f = ap (λ (l : List ℕ). take 13 l) (drop_at x y (13 * n) e) ∙ take_all 13 y (omega arith)
+  round-high : round < 2 ^ 16 → byte_of (round_line round marks) 1 ≡ round / 2 ^ 8
+  unfolding round_line text byte_of
+  round-high h = byte-back (round / 2 ^ 8) (omega arith)
+
+  round-low : byte_of (round_line round marks) 2 ≡ round % 2 ^ 8
+  unfolding round_line text byte_of
+  round-low = byte-back (round % 2 ^ 8) (omega arith)
+
+  marks-high : marks < 2 ^ 16 → byte_of (round_line round marks) 3 ≡ marks / 2 ^ 8
+  unfolding round_line text byte_of
+  marks-high h = byte-back (marks / 2 ^ 8) (omega arith)
+
+  marks-low : byte_of (round_line round marks) 4 ≡ marks % 2 ^ 8
+  unfolding round_line text byte_of
+  marks-low = byte-back (marks % 2 ^ 8) (omega arith)
+
+  round-line-is : round < 2 ^ 16 → marks < 2 ^ 16 → IsRoundLine round marks (round_line round marks)
+  round-line-is h k = record {
+    kind = round-kind;
+    round = omega (arith, round-high h, round-low);
+    marks = omega (arith, marks-high k, marks-low);
+  }
+
+-- part k of some answers
+abbrev part_at : List ℕ → ℕ → List ℕ
+part_at out k = take answer_length (drop (answer_length * k) out)
+
+-- those before the last, and the last
+module _ (x y : List ℕ) (n : ℕ) (e : length x ≡ answer_length * n) where
+  part-before : (k : ℕ) → k < n → part_at (x ++ y) k ≡ part_at x k
+  part-before k h =
+      ap (λ (l : List ℕ). take answer_length l) (drop-append-le (answer_length * k) x y (omega arith))
+      ∙ take-append-le answer_length (drop (answer_length * k) x) y (omega (arith, length-drop (answer_length * k) x))
+
+  part-last : length y ≡ answer_length → part_at (x ++ y) n ≡ y
+  part-last f = ap (λ (l : List ℕ). take answer_length l) (drop_at x y (answer_length * n) e) ∙ take_all answer_length y (omega arith)
+
+-- what stands before so many answers, and they
+module _ (x y : List ℕ) (n : ℕ) (e : length y ≡ answer_length * n) where
+  front-long : length x ≡ length (x ++ y) - answer_length * n
+  front-long = omega (arith, length-append x y)
+
+  rounds-are : rounds_of n (x ++ y) ≡ x
+  rounds-are = take_at x y _ front-long
+
+  answers-are : answers_of n (x ++ y) ≡ y
+  answers-are = drop_at x y _ front-long
 
 module _ (call : ℕ → Call) where
-  answer-next : (n : ℕ) (x y : List ℕ) → length x ≡ 13 * n → Answers (call n) y → ((k : ℕ) → k < n → Answers (call k) (line_at x k))
-      → (k : ℕ) → k < n + 1 → Answers (call k) (line_at (x ++ y) k)
+  answer-next : (n : ℕ) (x y : List ℕ) → length x ≡ answer_length * n → Answers (call n) y → ((k : ℕ) → k < n → Answers (call k) (part_at x k))
+      → (k : ℕ) → k < n + 1 → Answers (call k) (part_at (x ++ y) k)
   answer-next n x y e a before k h = by (nat_lt k n) refl
     where
-      by : (b : Bool) → nat_lt k n ≡ b → Answers (call k) (line_at (x ++ y) k)
+      by : (b : Bool) → nat_lt k n ≡ b → Answers (call k) (part_at (x ++ y) k)
       by true d =
           let i : k < n = grind (arith, nat_tests) in
-          subst (Answers (call k)) (sym (line-before x y n e k i)) (before k i)
+          subst (Answers (call k)) (sym (part-before x y n e k i)) (before k i)
       by false d =
           let i : n ≡ k = grind (arith, nat_tests) in
-          subst (λ (j : ℕ). Answers (call j) (line_at (x ++ y) j)) i (subst (Answers (call n)) (sym (line-last x y n e (answer-length a))) a)
+          subst (λ (j : ℕ). Answers (call j) (part_at (x ++ y) j)) i (subst (Answers (call n)) (sym (part-last x y n e (answer-length a))) a)
 
   -- line k of the lines for n calls is that of call k
-  answer-at : (n : ℕ) (out : List ℕ) → Answered call n out → (k : ℕ) → k < n → Answers (call k) (line_at out k)
+  answer-at : (n : ℕ) (out : List ℕ) → Answered call n out → (k : ℕ) → k < n → Answers (call k) (part_at out k)
   unfolding Answered
   answer-at zero out e k h = absurd (omega arith)
   answer-at (suc n) out (x, y, a, b, e) k h =
-      subst (λ (l : List ℕ). Answers (call k) (line_at l k)) (sym e) (answer-next n x y (answered-length call n x a) b (answer-at n x a) k (omega arith))
+      subst (λ (l : List ℕ). Answers (call k) (part_at l k)) (sym e) (answer-next n x y (answered-length call n x a) b (answer-at n x a) k (omega arith))
 
 module _ {input text : List ℕ} (w : Writes input text) where
-  -- the question of a sound input, and the lines for it
-  pub record IsAnswered (fs : List Frame) (out : List ℕ) : Type 0 where
-    pub question : Listed
-    pub is : IsQuestion (file_of fs) question
-    pub lines-are : Answered (asked fs question) (entries asks fs) out
+  -- the lines for a sound input's rounds and asks
+  pub record IsAnswered (fs : List Frame) (q : Listed) (x : List ℕ) : Type 0 where
+    pub counts : List ℕ
+    pub told : FileRounds fs q counts
+    pub out : List ℕ
+    pub lines-are : Answered (asked fs q) (entries asks fs) out
+    pub whole : x ≡ round_lines 0 counts ++ out
 
-  answered : (fs : List Frame) → IsSound input fs → IsAnswered fs text
-  answered fs s = by w
+  question-of : (fs : List Frame) → IsSound input fs → (q : Listed) × IsAsking input fs q × IsAnswered fs q text
+  question-of fs s = by w
     where
-      by : {out : List ℕ} → Writes input out → IsAnswered fs out
+      by : {x : List ℕ} → Writes input x → (q : Listed) × IsAsking input fs q × IsAnswered fs q x
       by (fault before r h) = let e = reading-once h s in absurd cc
-      by (answers gs q out h a) =
+      by (answers gs q counts out h t a) =
           let e = reading-once h.sound s in
           let d : gs ≡ fs = cc in
-          subst (λ (f : List Frame). IsAnswered f out) d (record { question = q; is = h.question; lines-are = a })
+          subst (λ (f : List Frame). (q : Listed) × IsAsking input f q × IsAnswered f q (round_lines 0 counts ++ out)) d
+          (q, h, record { counts = counts; told = t; out = out; lines-are = a; whole = refl })
 
-  -- line k of a sound input's text is the library's outcome for ask k
-  pub line-answers : (fs : List Frame) (q : Listed) → IsAsking input fs q → (k : ℕ) → k < entries asks fs → Answers (asked fs q k) (line_at text k)
-  line-answers fs q s =
-      let a = answered fs s.sound in
-      let e = question-once (file_of fs) a.question q a.is s.question in
-      answer-at (asked fs q) (entries asks fs) text (subst (λ (r : Listed). Answered (asked fs r) (entries asks fs) text) e a.lines-are)
+  module _ (fs : List Frame) (q : Listed) (s : IsAsking input fs q) where
+    answered : IsAnswered fs q text
+    answered =
+        let a = question-of fs s.sound in
+        subst (λ (r : Listed). IsAnswered fs r text) (question-once (file_of fs) a.0 q a.1.question s.question) a.2
 
-  module _ (fs : List Frame) (s : IsSound input fs) where
-    -- the question that it asks
-    asking : IsAsking input fs (answered fs s).question
-    asking = record { sound = s; question = (answered fs s).is }
+    answers-long : length answered.out ≡ answer_length * entries asks fs
+    answers-long = answered-length (asked fs q) (entries asks fs) answered.out answered.lines-are
 
-    pub text-long : length text ≡ 13 * entries asks fs
-    text-long = let a = answered fs s in answered-length (asked fs a.question) (entries asks fs) text a.lines-are
+    the-answers : answers_of (entries asks fs) text ≡ answered.out
+    the-answers = ap (answers_of (entries asks fs)) answered.whole ∙ answers-are (round_lines 0 answered.counts) answered.out (entries asks fs) answers-long
+
+    the-rounds : rounds_of (entries asks fs) text ≡ round_lines 0 answered.counts
+    the-rounds = ap (rounds_of (entries asks fs)) answered.whole ∙ rounds-are (round_lines 0 answered.counts) answered.out (entries asks fs) answers-long
+
+    -- line k of a sound input's answers is the library's outcome for ask k
+    pub line-answers : (k : ℕ) → k < entries asks fs → Answers (asked fs q k) (line_at (entries asks fs) text k)
+    line-answers k h =
+        subst (λ (l : List ℕ). Answers (asked fs q k) (part_at l k)) (sym the-answers) (answer-at (asked fs q) (entries asks fs) answered.out answered.lines-are k h)
+
+    pub text-long : (counts : List ℕ) → FileRounds fs q counts → length text ≡ round_length * length counts + answer_length * entries asks fs
+    text-long counts t =
+        omega (
+          arith,
+          ap (λ (l : List ℕ). length l) answered.whole,
+          length-append (round_lines 0 answered.counts) answered.out,
+          rounds-length 0 answered.counts,
+          ap (λ (l : List ℕ). length l) (told-once t answered.told),
+          answers-long,
+        )
+
+    -- THEOREM: no line of a round stands where nothing is asked, and in a contradiction
+    pub no-round : (entries asks fs ≡ 0) ⊎ Contradiction (collection_read fs q) → rounds_of (entries asks fs) text ≡ []
+    unfolding round_lines
+    no-round h = the-rounds ∙ ap (round_lines 0) (none-told answered.told h)
+
+    -- THEOREM: else there is one for each of rounds 1 to the lesser of the rounds needed and the allowance, in order, with the marks that it added
+    module _ (some : 0 < entries asks fs) (sane : Contradiction (collection_read fs q) → ⊥) (n : ℕ) (need : Needed (lite (collection_read fs q)) n) where
+      well : WellFormed (collection_read fs q)
+      well = sound-well-formed (asked fs q 0) (whole-accepted input fs s.sound q s.question 0 some)
+
+      added : RoundCounts (lite (collection_read fs q)) (min n (rounds_allowed fs)) answered.counts
+      added = rounds-told answered.told some sane n need
+
+      round-told : (k : ℕ) → k < min n (rounds_allowed fs) → IsRoundLine (k + 1) (slice_index answered.counts k) (round_at (entries asks fs) text k)
+      round-told k h =
+          let i : k < length answered.counts = omega (arith, added.long, h) in
+          let few = lite-few (collection_read fs q) well k _ (added.each k h) in
+          let here : round_at (entries asks fs) text k ≡ round_line (0 + k + 1) (slice_index answered.counts k) =
+          ap (λ (l : List ℕ). take round_length (drop (round_length * k) l)) the-rounds ∙ round-is 0 answered.counts k i in
+          let e : 0 + k + 1 ≡ k + 1 = omega arith in
+          subst (IsRoundLine (k + 1) (slice_index answered.counts k)) (sym (here ∙ ap (λ r. round_line r (slice_index answered.counts k)) e))
+          (round-line-is (k + 1) (slice_index answered.counts k) (omega (arith, i, few-told answered.told (λ _. well))) few)
+
+      pub rounds-are-told : TellsRounds fs (collection_read fs q) (min n (rounds_allowed fs)) text
+      rounds-are-told = record {
+        long = omega (arith, ap (λ (l : List ℕ). length l) the-rounds, rounds-length 0 answered.counts, added.long);
+        counts = answered.counts;
+        added = added;
+        each = round-told;
+        stand = λ m st. lite-make (collection_read fs q) well _ answered.counts m added st;
+      }
 
   fault-text : (before : List Frame) (r : Refusal) → IsFaulty input before r → text ≡ fault_line (length before + 1) (refusal_number r)
   fault-text before r s = by w
@@ -160,7 +264,7 @@ module _ {input text : List ℕ} (w : Writes input text) where
           let d : bs ≡ before = cc in
           let f : q ≡ r = cc in
           rw (d, f) refl
-      by (answers gs q out h a) = let e = reading-once h.sound s in absurd cc
+      by (answers gs q counts out h t a) = let e = reading-once h.sound s in absurd cc
 
   -- THEOREM: a faulty input writes the line of its first faulty line's number, and one of 4 to 14, but never 7
   pub fault-told : (before : List Frame) (r : Refusal) → IsFaulty input before r → IsFaultLine (length before + 1) text
@@ -194,12 +298,12 @@ ask-line fs line k h = record { kind = h.kind; first = h.first; second = h.secon
 module _ {input text : List ℕ} (w : Writes input text) (fs : List Frame) (s : IsSound input fs) where
   -- THEOREM: a sound input writes a line for each ask, with its pair and an answer from 0 to 3
   pub asks-answered : AnswersEachAsk fs text
-  asks-answered = record {
-    long = text-long w fs s;
-    each = λ k h.
-        let a = asking w fs s in
-        ask-line fs _ k (answer-line (line-answers w fs _ a k h) (whole-accepted input fs s _ a.question k h));
-  }
+  asks-answered =
+      let (q, a, _) = question-of w fs s in
+      record {
+        long = ap (λ (l : List ℕ). length l) (the-answers w fs q a) ∙ answers-long w fs q a;
+        each = λ k h. ask-line fs _ k (answer-line (line-answers w fs q a k h) (whole-accepted input fs s q a.question k h));
+      }
 
-  pub listed : (k : ℕ) → k < entries asks fs → number_on (line_at text k) ≤ 3
+  pub listed : (k : ℕ) → k < entries asks fs → number_on (line_at (entries asks fs) text k) ≤ 3
   listed k h = (asks-answered.each k h).listed

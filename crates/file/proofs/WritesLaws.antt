@@ -1,9 +1,11 @@
 -- An input writes one text; its first 467,155 bytes decide it; no text is longer than its room; two outcomes of a call are one.
-use Rattle.std.specs.Prelude.{ℕ, zero, suc, ◌+◌, ◌≤◌, ◌≡◌, refl, List, [], ◌++◌, Some, length, take, drop}
+use Rattle.std.specs.Prelude.{ℕ, zero, suc, ◌+◌, ◌<◌, ◌≤◌, ◌≡◌, refl, List, [], ◌++◌, Some, length, take, drop}
 use Rattle.std.proofs.Math.Path.{ap₂}
-use Rattle.std.proofs.Common.{sym, ap, ◌∙◌, subst, take-append-drop, length-take, arith}
+use Rattle.std.proofs.Common.{sym, ap, ◌∙◌, subst, take-append-drop, length-take, length-append, arith}
 use Rattle.std.specs.Io.KnownBytes.{Appends}
+use Rattle.meaning.specs.Collection.{WellFormed}
 use Rattle.meaning.specs.Lent.{Call}
+use Rattle.meaning.proofs.OutcomeExists.{sound-well-formed}
 use Rattle.tables.specs.declared.ask.Ask.TheVariants.{Pair}
 use Rattle.meaning.proofs.OutcomeLaws.{outcome-unique}
 use Rattle.expression.specs.Listed.{Listed}
@@ -18,13 +20,15 @@ use Rattle.reading.specs.Reading as read
 use Rattle.reading.proofs.Once.{reading-once}
 use Rattle.reading.proofs.Questions.{question-once}
 use Rattle.reading.proofs.Bounds.{few, most_lines, within-lines}
-use Rattle.reading.proofs.Accepted.{reading-taken}
+use Rattle.reading.proofs.Accepted.{reading-taken, whole-accepted}
 use Rattle.reading.proofs.Prefix.{most_bytes, reading-start, reading-whole}
 use Rattle.file.specs.declared.TheConstants.{MOST_TEXT}
 use Rattle.file.specs.Text.{text, fault_line, answer_line}
-use Rattle.file.specs.Writes.{Answers, Answered, Writes, fault, answers}
+use Rattle.file.specs.Rounds.{round_lines}
+use Rattle.file.specs.Writes.{Answers, Answered, collection_read, FileRounds, Writes, fault, answers}
 use Rattle.file.specs.Serves.{Serves}
 use Rattle.file.proofs.Turns.{answered-length}
+use Rattle.file.proofs.Rounds.{rounds-length, told-once, few-told}
 
 answers-once : (call : Call) (x y : List ℕ) → Answers call x → Answers call y → x ≡ y
 answers-once call x y a b =
@@ -37,16 +41,28 @@ answered-once call zero x y a b = a ∙ sym b
 answered-once call (suc k) x y (p, q, a, b, e) (u, v, c, d, i) =
     e ∙ ap₂ (λ (l m : List ℕ). l ++ m) (answered-once call k p u a c) (answers-once (call k) q v b d) ∙ sym i
 
--- what the text of a verdict is
+-- what the text of a sound input is
+record SoundText (fs : List Frame) (x : List ℕ) : Type 0 where
+  question : Listed
+  is : IsQuestion (file_of fs) question
+  counts : List ℕ
+  told : FileRounds fs question counts
+  out : List ℕ
+  answered : Answered (asked fs question) (entries asks fs) out
+  text-is : x ≡ round_lines 0 counts ++ out
+
+-- and of a verdict
 abbrev TextIs : Verdict → List ℕ → Type 0
 TextIs (faulty before r) x = x ≡ fault_line (length before + 1) (refusal_number r)
-TextIs (sound fs) x = (q : Listed) × IsQuestion (file_of fs) q × Answered (asked fs q) (entries asks fs) x
+TextIs (sound fs) x = SoundText fs x
 
 text-once : (v : Verdict) (x y : List ℕ) → TextIs v x → TextIs v y → x ≡ y
 text-once (faulty before r) x y a b = a ∙ sym b
 text-once (sound fs) x y a b =
-    let e = question-once (file_of fs) b.0 a.0 b.1 a.1 in
-    answered-once (asked fs a.0) (entries asks fs) x y a.2 (subst (λ (q : Listed). Answered (asked fs q) (entries asks fs) y) e b.2)
+    let e = question-once (file_of fs) b.question a.question b.is a.is in
+    let counts = told-once a.told (subst (λ (q : Listed). FileRounds fs q b.counts) e b.told) in
+    let out = answered-once (asked fs a.question) (entries asks fs) a.out b.out a.answered (subst (λ (q : Listed). Answered (asked fs q) (entries asks fs) b.out) e b.answered) in
+    a.text-is ∙ ap₂ (λ (c o : List ℕ). round_lines 0 c ++ o) counts out ∙ sym b.text-is
 
 record Found (input : List ℕ) (x : List ℕ) : Type 0 where
   verdict : Verdict
@@ -55,7 +71,11 @@ record Found (input : List ℕ) (x : List ℕ) : Type 0 where
 
 found : {input x : List ℕ} → Writes input x → Found input x
 found (fault before r h) = record { verdict = faulty before r; reading = h; text-is = refl }
-found (answers fs q out h a) = record { verdict = sound fs; reading = h.sound; text-is = (q, h.question, a) }
+found (answers fs q counts out h t a) = record {
+  verdict = sound fs;
+  reading = h.sound;
+  text-is = record { question = q; is = h.question; counts = counts; told = t; out = out; answered = a; text-is = refl };
+}
 
 -- THEOREM: an input writes one text
 pub writes-once : {input x y : List ℕ} → Writes input x → Writes input y → x ≡ y
@@ -82,17 +102,26 @@ serves-once input old x y a b = a.so ∙ ap (λ (text : List ℕ). old ++ text) 
 module _ (input : List ℕ) (n : ℕ) (h : most_bytes ≤ n) where
   pub writes-whole : {x : List ℕ} → Writes (take n input) x → Writes input x
   writes-whole (fault f r k) = fault f r (reading-whole input n h (faulty f r) k)
-  writes-whole (answers f q x k a) = answers f q x (record { sound = reading-whole input n h (sound f) k.sound; question = k.question }) a
+  writes-whole (answers f q c x k t a) = answers f q c x (record { sound = reading-whole input n h (sound f) k.sound; question = k.question }) t a
 
   pub writes_start : {x : List ℕ} → Writes input x → Writes (take n input) x
   writes_start (fault f r k) = fault f r (reading-start input n h (faulty f r) k)
-  writes_start (answers f q x k a) = answers f q x (record { sound = reading-start input n h (sound f) k.sound; question = k.question }) a
+  writes_start (answers f q c x k t a) = answers f q c x (record { sound = reading-start input n h (sound f) k.sound; question = k.question }) t a
 
 -- THEOREM: no text is longer than its room
 pub writes-length : {input out : List ℕ} → Writes input out → length out ≤ MOST_TEXT
 unfolding fault_line text
 writes-length (fault before n k) = omega arith
-writes-length {input} (answers fs q out k a) = omega (arith, answered-length (asked fs q) (entries asks fs) out a, few asks fs (reading-taken k.sound read.none))
+writes-length {input} (answers fs q counts out k t a) =
+    let fine : 0 < entries asks fs → WellFormed (collection_read fs q) = λ some. sound-well-formed (asked fs q 0) (whole-accepted input fs k.sound q k.question 0 some) in
+    omega (
+      arith,
+      length-append (round_lines 0 counts) out,
+      rounds-length 0 counts,
+      few-told t fine,
+      answered-length (asked fs q) (entries asks fs) out a,
+      few asks fs (reading-taken k.sound read.none),
+    )
 
 -- THEOREM: the first faulty line of any input has a number of at most 7,187
 pub fault-line : (input : List ℕ) (before : List Frame) (r : Refusal) → Reading [] (lines input) (faulty before r) → length before + 1 ≤ most_lines + 1

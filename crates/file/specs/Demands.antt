@@ -27,7 +27,7 @@ abbrev pub LinesSayAsModel : Type 0
 LinesSayAsModel = (input text : List ℕ) → Writes input text
     → (fs : List Frame) (q : Listed) → IsAsking input fs q
     → (k : ℕ) → k < entries asks fs → Enough (asked fs q k)
-    → IsAsModelSays (asked fs q k) (Spelled (asked fs q k)) (line_at text k)
+    → IsAsModelSays (asked fs q k) (Spelled (asked fs q k)) (line_at (entries asks fs) text k)
 
 -- a path in the canonical model from the first to the second spells a word of the expression
 abbrev pub SpellsWordOf : Tree → Call → Type 0
@@ -40,7 +40,8 @@ LinesSayOfExpression = (input text : List ℕ) → Writes input text
     → (fs : List Frame) (q : Listed) → IsAsking input fs q
     → (row : List ℕ) (e : Tree) (m : ℕ) → expression_given fs ≡ Some row → IsExpression row e m
     → (k : ℕ) → k < entries asks fs → Enough (asked fs q k)
-    → IsAsModelSays (asked fs q k) (SpellsWordOf e (asked fs q k)) (line_at text k)
+    → IsAsModelSays (asked fs q k) (SpellsWordOf e (asked fs q k))
+    (line_at (entries asks fs) text k)
 
 -- two lines are of one pair: bytes 1 and 2
 pub record SamePair (line other : List ℕ) : Type 0 where
@@ -66,7 +67,8 @@ LinesGrow = (input other text out : List ℕ) → Writes input text → Writes o
     → (fs gs : List Frame) (q r : Listed) → IsAsking input fs q → IsAsking other gs r
     → (j k : ℕ) → j < entries asks fs → k < entries asks gs
     → GrowsInto (asked fs q j) (asked gs r k)
-    → SamePair (line_at text j) (line_at out k) → IsGrownLine (line_at text j) (line_at out k)
+    → SamePair (line_at (entries asks fs) text j) (line_at (entries asks gs) out k)
+    → IsGrownLine (line_at (entries asks fs) text j) (line_at (entries asks gs) out k)
 
 -- a second file's call is the same, but allows no fewer rounds
 pub record AllowsMore (call other : Call) : Type 0 where
@@ -78,8 +80,9 @@ abbrev pub LinesReturn : Type 0
 LinesReturn = (input other text out : List ℕ) → Writes input text → Writes other out
     → (fs gs : List Frame) (q r : Listed) → IsAsking input fs q → IsAsking other gs r
     → (j k : ℕ) → j < entries asks fs → k < entries asks gs
-    → AllowsMore (asked fs q j) (asked gs r k) → number_on (line_at text j) ≤ 2
-    → line_at out k ≡ line_at text j
+    → AllowsMore (asked fs q j) (asked gs r k)
+    → number_on (line_at (entries asks fs) text j) ≤ 2
+    → line_at (entries asks gs) out k ≡ line_at (entries asks fs) text j
 
 -- concepts × states × (states − 1) rounds always suffice
 abbrev pub RoundsSuffice : Type 0

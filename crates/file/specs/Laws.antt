@@ -1,14 +1,21 @@
 -- Laws of what an input writes.
-use Rattle.std.specs.Prelude.{ℕ, ◌+◌, ◌*◌, ◌<◌, ◌≤◌, ◌≡◌, ◌↔◌, List, Some, length, take, drop}
+use Rattle.std.specs.Prelude.{ℕ, ◌+◌, ◌*◌, ◌<◌, ◌≤◌, ◌≡◌, ◌↔◌, ◌⊎◌, List, [], Some, length, take, drop, min, sum, slice_index}
 use Rattle.std.specs.Io.KnownBytes.{Appends}
+use Rattle.meaning.specs.Collection.{Collection}
+use Rattle.meaning.specs.Model.{Contradiction}
+use Rattle.meaning.specs.Sheet.{Needed}
+use Rattle.meaning.specs.Lite.{lite}
+use Rattle.meaning.specs.Marks.{Stands, RoundCounts}
+use Rattle.meaning.specs.LawsOfMarks.{first_marks}
+use Rattle.expression.specs.Listed.{Listed}
 use Rattle.frames.specs.declared.Frame.{Frame}
 use Rattle.reading.specs.declared.Refusal.{Refusal}
 use Rattle.tables.specs.Asks.{read_ask}
-use Rattle.reading.specs.Tables.{asks, entries, table}
+use Rattle.reading.specs.Tables.{asks, entries, table, rounds_allowed}
 use Rattle.file.specs.declared.TheConstants.{MOST_TEXT}
-use Rattle.file.specs.Writes.{IsSound, IsFaulty, Writes}
+use Rattle.file.specs.Writes.{IsSound, IsAsking, IsFaulty, collection_read, Writes}
 use Rattle.file.specs.Serves.{Serves}
-use Rattle.file.specs.Told.{line_at, IsAnswerLine, IsFaultLine}
+use Rattle.file.specs.Told.{round_length, answer_length, answers_of, rounds_of, line_at, round_at, IsAnswerLine, IsRoundLine, IsFaultLine}
 
 -- an input writes one text
 abbrev pub WritesOnce : Type 0
@@ -23,16 +30,43 @@ abbrev pub StartWrites : Type 0
 StartWrites = (input : List ℕ) (n : ℕ) → 467155 ≤ n → (text : List ℕ)
     → Writes (take n input) text ↔ Writes input text
 
--- a text of answers has 13 characters for each ask, and line k is an answer to ask k
+-- a text has 13 characters for each ask at its end, and line k of those is an answer to ask k
 pub record AnswersEachAsk (fs : List Frame) (text : List ℕ) : Type 0 where
-  pub long : length text ≡ 13 * entries asks fs
+  pub long : length (answers_of (entries asks fs) text) ≡ answer_length * entries asks fs
   pub each : (k : ℕ) → k < entries asks fs
-      → IsAnswerLine (read_ask (table asks fs) k) (line_at text k)
+      → IsAnswerLine (read_ask (table asks fs) k) (line_at (entries asks fs) text k)
 
 -- an input that is read whole writes such a text
 abbrev pub AsksAnswered : Type 0
 AsksAnswered = (input text : List ℕ) → Writes input text
     → (fs : List Frame) → IsSound input fs → AnswersEachAsk fs text
+
+-- before the answers stand 11 characters for each of n rounds, and line k of those tells of round
+-- k + 1 the marks that it added, which with states × concepts make those that stand after n rounds
+pub record TellsRounds
+    (fs : List Frame) (𝓒 : Collection) (n : ℕ) (text : List ℕ) : Type 0 where
+  pub long : length (rounds_of (entries asks fs) text) ≡ round_length * n
+  pub counts : List ℕ
+  pub added : RoundCounts (lite 𝓒) n counts
+  pub each : (k : ℕ) → k < n
+      → IsRoundLine (k + 1) (slice_index counts k) (round_at (entries asks fs) text k)
+  pub stand : (m : ℕ) → Stands (lite 𝓒) n m → m ≡ sum counts + first_marks 𝓒.counts
+
+-- an input that is read whole, asks something and is no contradiction tells so of rounds 1 to the
+-- lesser of the rounds needed and the allowance
+abbrev pub RoundsAreTold : Type 0
+RoundsAreTold = (input text : List ℕ) → Writes input text
+    → (fs : List Frame) (q : Listed) → IsAsking input fs q
+    → 0 < entries asks fs → (Contradiction (collection_read fs q) → ⊥)
+    → (n : ℕ) → Needed (lite (collection_read fs q)) n
+    → TellsRounds fs (collection_read fs q) (min n (rounds_allowed fs)) text
+
+-- and one without an ask, or of a contradiction, tells of none
+abbrev pub NoRoundTold : Type 0
+NoRoundTold = (input text : List ℕ) → Writes input text
+    → (fs : List Frame) (q : Listed) → IsAsking input fs q
+    → (entries asks fs ≡ 0) ⊎ Contradiction (collection_read fs q)
+    → rounds_of (entries asks fs) text ≡ []
 
 -- a faulty one writes a line of its first faulty line's number, from 1
 abbrev pub FaultTold : Type 0

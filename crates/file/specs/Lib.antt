@@ -1,4 +1,5 @@
 pub mod Text
+pub mod Rounds
 pub mod Writes
 pub mod Serves
 pub mod Replying

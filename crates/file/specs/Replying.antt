@@ -1,14 +1,16 @@
 -- The asks of a file answered, and what is written of what reading found.
-use Rattle.std.specs.Prelude.{ℕ, ◌<◌, ◌/◌, List, Result, Ok, Err, IfSome, length, slice_get}
+use Rattle.std.specs.Prelude.{ℕ, ◌<◌, ◌/◌, List, ◌++◌, Result, Ok, Err, IfSome, length, slice_get}
 use Rattle.kinds.specs.declared.Answer.{Answer}
+use Rattle.meaning.specs.Lent.{collection}
 use Rattle.meaning.specs.Outcome.{Outcome}
 use Rattle.tables.specs.Asks.{ask_width}
 use Rattle.expression.specs.Listed.{Listed}
 use Rattle.reading.specs.declared.File.{File}
 use Rattle.reading.specs.declared.Fault.{Fault}
 use Rattle.reading.specs.Refusal.{refusal_number}
-use Rattle.reading.specs.File.{IsQuestion, held_call}
+use Rattle.reading.specs.File.{IsQuestion, lent_tables, allowance_in, held_call}
 use Rattle.file.specs.Text.{fault_line}
+use Rattle.file.specs.Rounds.{round_lines, RoundsTold}
 use Rattle.file.specs.Writes.{Answered}
 
 module _ (file : File) where
@@ -19,19 +21,34 @@ module _ (file : File) where
   abbrev pub IsAnswer : Listed → ℕ → Answer → Type 0
   IsAnswer q k r = (area spare : List ℕ) × Outcome (held_call file q k) r area spare
 
-  -- entry k is the answer to ask k, of the file's question
-  pub record AnswersEach (answers : List Answer) : Type 0 where
+  -- the rounds that are told of it
+  abbrev pub HeldRounds : Listed → List ℕ → Type 0
+  HeldRounds q =
+      RoundsTold (collection file.counts (lent_tables file q)) (allowance_in file) ask_count
+
+  -- P of the lines for the rounds of the file's question
+  pub record RoundsAll (P : List ℕ → Type 0) : Type 0 where
     pub question : Listed
     pub is : IsQuestion file question
-    pub each : (k : ℕ) → k < ask_count → IfSome (slice_get answers k) (IsAnswer question k)
+    pub counts : List ℕ
+    pub told : HeldRounds question counts
+    pub so : P (round_lines 0 counts)
 
-  -- P of the lines for all asks
+  -- and entry k is the answer to ask k
+  pub record AnswersEach (answers : List Answer) (P : List ℕ → Type 0) : Type 0 where
+    pub rounds : RoundsAll P
+    pub each : (k : ℕ) → k < ask_count
+        → IfSome (slice_get answers k) (IsAnswer rounds.question k)
+
+  -- P of the lines for the rounds, and then those for all asks
   pub record AnswersAll (P : List ℕ → Type 0) : Type 0 where
     pub question : Listed
     pub is : IsQuestion file question
+    pub counts : List ℕ
+    pub told : HeldRounds question counts
     pub text : List ℕ
     pub answered : Answered (held_call file question) ask_count text
-    pub so : P text
+    pub so : P (round_lines 0 counts ++ text)
 
 -- P of the text for what reading found
 abbrev pub Tells : File → Result (Unit {0}) Fault → (List ℕ → Type 0) → Type 0

@@ -27,6 +27,10 @@ two_bytes number = number / 2 ^ 8 ∷ number % 2 ^ 8 ∷ []
 unfoldable pub fault_line : ℕ → ℕ → List ℕ
 fault_line line number = text (0x8F ∷ two_bytes line ++ number ∷ [])
 
+-- 8A, round (two bytes), marks that it added (two bytes)
+unfoldable pub round_line : ℕ → ℕ → List ℕ
+round_line round marks = text (0x8A ∷ two_bytes round ++ two_bytes marks)
+
 -- 8B, first, second, answer, count (two bytes)
 unfoldable pub answer_line : Ask → Answer → List ℕ
 answer_line (Pair a b) r =

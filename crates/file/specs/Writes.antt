@@ -1,8 +1,9 @@
 -- What a whole input writes, for any bytes (docs/RULES.md, section 8): the line of its first fault,
--- or an answer for each ask.
+-- or a line for each round and an answer for each ask.
 use Rattle.std.specs.Prelude.{ℕ, zero, suc, ◌+◌, ◌≡◌, List, [], ◌++◌, length}
 use Rattle.kinds.specs.declared.Answer.{Answer}
-use Rattle.meaning.specs.Lent.{Call}
+use Rattle.meaning.specs.Collection.{Collection}
+use Rattle.meaning.specs.Lent.{Call, collection}
 use Rattle.meaning.specs.Outcome.{Outcome}
 use Rattle.tables.specs.declared.ask.Ask.TheVariants.{Pair}
 use Rattle.expression.specs.Listed.{Listed}
@@ -10,10 +11,11 @@ use Rattle.frames.specs.declared.Frame.{Frame}
 use Rattle.streams.specs.Lines.{lines}
 use Rattle.reading.specs.declared.Refusal.{Refusal}
 use Rattle.reading.specs.Refusal.{refusal_number}
-use Rattle.reading.specs.Tables.{asks, entries}
-use Rattle.reading.specs.File.{IsQuestionOf, asked}
+use Rattle.reading.specs.Tables.{asks, entries, declared_by, rounds_allowed}
+use Rattle.reading.specs.File.{IsQuestionOf, tables_of, asked}
 use Rattle.reading.specs.Reading.{Reading, faulty, sound}
 use Rattle.file.specs.Text.{fault_line, answer_line}
+use Rattle.file.specs.Rounds.{round_lines, RoundsTold}
 
 -- the line for a call of the library: its outcome, and the pair that it asks
 pub record Answers (call : Call) (line : List ℕ) : Type 0 where
@@ -36,13 +38,23 @@ pub record IsAsking (input : List ℕ) (fs : List Frame) (q : Listed) : Type 0 w
   pub sound : IsSound input fs
   pub question : IsQuestionOf fs q
 
+-- the collection that some frames type, with their question
+abbrev pub collection_read : List Frame → Listed → Collection
+collection_read fs q = collection (declared_by fs) (tables_of fs q)
+
+-- the rounds that are told of them
+abbrev pub FileRounds : List Frame → Listed → List ℕ → Type 0
+FileRounds fs q = RoundsTold (collection_read fs q) (rounds_allowed fs) (entries asks fs)
+
 -- the line after these frames is its first faulty one
 abbrev pub IsFaulty : List ℕ → List Frame → Refusal → Type 0
 IsFaulty input before r = Reading [] (lines input) (faulty before r)
 
--- the number of the first faulty line, from 1, and the number that refuses it; or each ask's answer
+-- the number of the first faulty line, from 1, and the number that refuses it; or the rounds, and
+-- then each ask's answer
 pub data Writes (input : List ℕ) : List ℕ → Type 0 where
   fault : (before : List Frame) (r : Refusal) → IsFaulty input before r
       → Writes input (fault_line (length before + 1) (refusal_number r))
-  answers : (fs : List Frame) (q : Listed) (out : List ℕ) → IsAsking input fs q
-      → Answered (asked fs q) (entries asks fs) out → Writes input out
+  answers : (fs : List Frame) (q : Listed) (counts out : List ℕ) → IsAsking input fs q
+      → FileRounds fs q counts → Answered (asked fs q) (entries asks fs) out
+      → Writes input (round_lines 0 counts ++ out)

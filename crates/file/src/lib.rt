@@ -1,19 +1,22 @@
-// What a whole input writes, from a source to a sink or in memory: the line of its first fault, or an answer for each ask.
+// What a whole input writes, from a source to a sink or in memory: the line of its first fault, or a line for each round
+// and an answer for each ask.
 #![tactic(auto)]
 
-ghost use Rattle.std.specs.Prelude.{◌≡◌, ◌*◌, ◌<◌, ◌≤◌, ℕ, List, Some, Err, IfSome, IsOk, IsTrue, OnOk, drop, take};
+ghost use Rattle.std.specs.Prelude.{◌≡◌, ◌+◌, ◌*◌, ◌<◌, ◌≤◌, ℕ, List, Some, Err, IfSome, IsOk, IsTrue, OnOk, length, drop, take};
 ghost use Rattle.std.specs.Io.KnownBytes.{Keeps, Appends};
 ghost use Rattle.std.specs.declared.io.Error.{Error};
 ghost use Rattle.streams.specs.Takes.{TakesStart};
-ghost use Rattle.file.specs.Writes.{IsSound, IsFaulty, Writes};
+ghost use Rattle.file.specs.Writes.{IsSound, IsAsking, IsFaulty, FileRounds, Writes};
 ghost use Rattle.file.specs.Serves.{Serves, message_of};
-ghost use Rattle.file.specs.Told.{line_at};
+ghost use Rattle.file.specs.Told.{round_length, answer_length, line_at};
+ghost use Rattle.expression.specs.Listed.{Listed};
 ghost use Rattle.frames.specs.Digits.{byte_of};
 ghost use Rattle.frames.specs.declared.Frame.{Frame};
 ghost use Rattle.reading.specs.declared.Refusal.{Refusal};
 ghost use Rattle.reading.specs.Laws.{IsListed};
 ghost use Rattle.reading.specs.Tables.{asks, entries};
 
+use kinds::{ConceptName, SignedRole, State};
 use reading::{ASKS, File, read};
 use replies::{copy_found, write_found};
 use std::{fmt, io};
@@ -26,8 +29,13 @@ mod tests;
 mod text;
 pub mod theorems;
 
-// The characters of the longest text: the most answers.
-pub const MOST_TEXT: usize = ASKS * text::ANSWER_LINE;
+// The most rounds that any file needs: concepts × states × (states − 1), with the most of each.
+const MOST_ROUNDS: usize = (ConceptName::MOST as usize + SignedRole::NUMBERS)
+    * State::NUMBERS
+    * (State::NUMBERS - 1);
+
+// The characters of the longest text, were there one of the most rounds and the most answers.
+pub const MOST_TEXT: usize = MOST_ROUNDS * text::ROUND_LINE + ASKS * text::ANSWER_LINE;
 
 // What an input in memory writes, from the front of the text on; how much of it, is told. The rest of the text stays.
 pub fn answer(input: &[u8], text: &mut [u8; MOST_TEXT]) -> usize
@@ -37,9 +45,12 @@ pub fn answer(input: &[u8], text: &mut [u8; MOST_TEXT]) -> usize
 
     // The input writes no other text. Byte 3 of a line is its number: of an answer 0, 1, 2 or 3, of a fault one of 4 to 14, but never 7.
     ensures only { (out : List ℕ) → Writes input.now out → out ≡ take result text.new }
-    ensures long { (fs : List Frame) → IsSound input.now fs → result ≡ 13 * entries asks fs }
-    ensures listed { (fs : List Frame) → IsSound input.now fs → (k : ℕ) → k < entries asks fs
-        → byte_of (line_at (take result text.new) k) 3 ≤ 3 }
+    ensures long { (fs : List Frame) (q : Listed) → IsAsking input.now fs q
+        → (counts : List ℕ) → FileRounds fs q counts
+        → result ≡ round_length * length counts + answer_length * entries asks fs }
+    ensures listed { (fs : List Frame) → IsSound input.now fs
+        → (k : ℕ) → k < entries asks fs
+        → byte_of (line_at (entries asks fs) (take result text.new) k) 3 ≤ 3 }
     ensures fault { (before : List Frame) (r : Refusal) → IsFaulty input.now before r
         → IsListed (byte_of (take result text.new) 3) }
 {

@@ -1,31 +1,70 @@
-// What reading a file found, written: the line of its fault, or its asks answered from one preparation.
-ghost use Rattle.std.specs.Prelude.{◌≡◌, ◌++◌, ◌+◌, ◌^◌, ◌<◌, ◌≤◌, OnOk, OnErr, IfErr, length, drop, take};
+// What reading a file found, written: the line of its fault, or those of its rounds, as they are worked, and of its
+// asks, answered from one preparation.
+ghost use Rattle.std.specs.Prelude.{◌≡◌, ◌+◌, ◌^◌, ◌<◌, ◌≤◌, [], OnOk, OnErr, IfErr, length, drop, take};
 ghost use Rattle.std.specs.Io.KnownBytes.{Appends};
-ghost use Rattle.reading.specs.Refusal.{refusal_number};
 ghost use Rattle.reading.specs.Reads.{IsRead};
 ghost use Rattle.streams.specs.Takes.{TakesStart};
-ghost use Rattle.file.specs.Text.{fault_line};
-ghost use Rattle.file.specs.Replying.{AnswersEach, AnswersAll, Tells};
+ghost use Rattle.streams.specs.Puts.{Puts};
+ghost use Rattle.file.specs.Text.{round_line};
+ghost use Rattle.file.specs.Replying.{RoundsAll, AnswersEach, AnswersAll, Tells};
 
-use crate::text::{ANSWER_LINE, FAULT_LINE};
 use crate::{MOST_TEXT, text};
 use index::{Lent, Routes};
-use kinds::Answer;
+use kinds::{Answer, MarkCount, RoundListener, Rounds};
 use reading::{ASKS, Fault, File};
 use std::io;
-use streams::Sink;
-use streams::output::{Output, write_all};
+use streams::memory::Page;
+use streams::output::Gathered;
+use streams::{Sink, Taker};
 use tables::collection::AREA;
 
-// The answers to a file's asks, in their order. Where there is none no more is worked out than the automaton of an expression.
-fn work_out(file: &File, answers: &mut [Answer; ASKS])
+// What takes the lines of rounds, as they are worked.
+#[derive(Drop)]
+struct RoundLines<'a, T: Taker> {
+    to: &'a mut T,
+}
+
+impl<'a, T: Taker> RoundLines<'a, T> {
+    fn new(to: &'a mut T) -> RoundLines<'a, T>
+        ensures same_reference { result.to.ghost_name ≡ to.entry.ghost_name }
+        ensures to { result.to.now ≡ to.old }
+    {
+        RoundLines { to }
+    }
+}
+
+impl<T: Taker> RoundListener for RoundLines<'_, T> {
+    type Error = io::Error;
+
+    ghost hears = { λ old round marks new. (new.to.ghost_name ≡ old.to.ghost_name)
+        × T.takes old.to.now (round_line round marks) new.to.now };
+
+    ghost fails = { λ old round marks e new. (new.to.ghost_name ≡ old.to.ghost_name)
+        × T.fails old.to.now (round_line round marks) e new.to.now };
+
+    fn round_made(&mut self, round: Rounds, marks: MarkCount) -> io::Result<()> {
+        self.to.put(&text::round(round, marks))
+    }
+}
+
+// The rounds of a file told, and the answers to its asks, in their order. Where there is none no more is worked out
+// than the automaton of an expression.
+fn tell_rounds<'a, 'b, T: Taker>(
+    file: &File,
+    answers: &mut [Answer; ASKS],
+    lines: &'b mut RoundLines<'a, T>,
+) -> io::Result<()>
     requires { IsRead file.now }
-    ensures { AnswersEach file.now answers.new }
+    ensures same_reference { lines.new.to.ghost_name ≡ lines.old.to.ghost_name }
+    ensures ok { OnOk result (AnswersEach file.now answers.new
+        (λ out. T.takes lines.old.to.now out lines.new.to.now)) }
+    ensures err { IfErr result (λ e. RoundsAll file.now
+        (λ out. T.fails lines.old.to.now out e lines.new.to.now)) }
 {
     let asks = file.asks();
     let automaton = file.automaton();
     if asks.is_empty() {
-        return;
+        return Ok(());
     }
     let lent = Lent {
         collection: file.collection(&automaton),
@@ -34,66 +73,69 @@ fn work_out(file: &File, answers: &mut [Answer; ASKS])
     let mut area = [0; AREA];
     let mut spare = [0; AREA];
     let mut routes = Routes::new();
-    let prepared = lent.prepare(&mut area, &mut spare, &mut routes);
+    let prepared = lent.prepare_telling(&mut area, &mut spare, &mut routes, lines)?;
     prepared.reply_all(&asks, answers);
+    Ok(())
 }
 
-// A line put into a text; all but its place stays.
-fn place(text: &mut [u8; MOST_TEXT], at: usize, line: &[u8])
-    requires { at + length line.now ≤ MOST_TEXT }
-    ensures front { take (at + length line.now) text.new ≡ take at text.old ++ line.now }
-    ensures rest { drop (at + length line.now) text.new ≡ drop (at + length line.now) text.old }
-{
-    text[at..at + line.len()].copy_from_slice(line);
-}
-
-// Every ask of a file answered, in order, to a sink.
-fn write_answers<K: Sink>(file: &File, sink: &mut K) -> io::Result<()>
+// The same, to what takes lines.
+fn work_out<T: Taker>(file: &File, answers: &mut [Answer; ASKS], to: &mut T) -> io::Result<()>
     requires { IsRead file.now }
-    ensures ok { OnOk result (AnswersAll file.now
-        (Appends (K.contents sink.old) (K.contents sink.new))) }
-    ensures err { OnErr result (AnswersAll file.now
-        (TakesStart (K.contents sink.old) (K.contents sink.new))) }
+    ensures ok { OnOk result (AnswersEach file.now answers.new
+        (λ out. T.takes to.old out to.new)) }
+    ensures err { IfErr result (λ e. RoundsAll file.now (λ out. T.fails to.old out e to.new)) }
+{
+    let mut lines = RoundLines::new(to);
+    tell_rounds(file, answers, &mut lines)
+}
+
+// The rounds of a file told, and then every ask answered, in order.
+fn write_answers<T: Taker>(file: &File, to: &mut T) -> io::Result<()>
+    requires { IsRead file.now }
+    ensures ok { OnOk result (AnswersAll file.now (λ out. T.takes to.old out to.new)) }
+    ensures err { IfErr result (λ e. AnswersAll file.now (λ out. T.fails to.old out e to.new)) }
+{
+    let mut answers = [Answer::BadAsk; ASKS];
+    work_out(file, &mut answers, to)?;
+    for (ask, answer) in file.asks().iter().zip(answers.iter()) {
+        to.put(&text::answer(ask, *answer))?;
+    }
+    Ok(())
+}
+
+// What is written of a file that was read.
+fn write<T: Taker>(found: Result<(), Fault>, file: &File, to: &mut T) -> io::Result<()>
+    requires read { IsRead file.now }
+    requires numbered { IfErr found (λ fault. fault.line < 2 ^ 16) }
+    ensures ok { OnOk result (Tells file.now found (λ out. T.takes to.old out to.new)) }
+    ensures err { IfErr result (λ e. Tells file.now found (λ out. T.fails to.old out e to.new)) }
+{
+    match found {
+        Ok(()) => write_answers(file, to),
+        Err(fault) => to.put(&text::fault(fault)),
+    }
+}
+
+fn write_gathered<'a, 'b, K: Sink>(
+    found: Result<(), Fault>,
+    file: &File,
+    to: &'b mut Gathered<'a, K>,
+) -> io::Result<()>
+    requires read { IsRead file.now }
+    requires numbered { IfErr found (λ fault. fault.line < 2 ^ 16) }
+    requires empty { to.old.output ≡ [] }
+    ensures same_reference { to.new.sink.ghost_name ≡ to.old.sink.ghost_name }
+    ensures ok { OnOk result (Tells file.now found (Appends
+        (K.contents to.old.sink.now) (K.contents to.new.sink.now))) }
+    ensures err { OnErr result (Tells file.now found (TakesStart
+        (K.contents to.old.sink.now) (K.contents to.new.sink.now))) }
     ensures fails { IfErr result K.fails }
 {
-    let mut answers = [Answer::BadAsk; ASKS];
-    work_out(file, &mut answers);
-    let mut output = Output::new();
-    for (ask, answer) in file.asks().iter().zip(answers.iter()) {
-        output.put(sink, &text::answer(ask, *answer))?;
-    }
-    output.finish(sink)
+    write(found, file, to)?;
+    to.finish()
 }
 
-// The same, into memory.
-fn copy_answers(file: &File, text: &mut [u8; MOST_TEXT]) -> usize
-    requires { IsRead file.now }
-    ensures within { result ≤ MOST_TEXT }
-    ensures written { AnswersAll file.now (λ out. take result text.new ≡ out) }
-    ensures rest { drop result text.new ≡ drop result text.old }
-{
-    let mut answers = [Answer::BadAsk; ASKS];
-    work_out(file, &mut answers);
-    let mut at = 0;
-    for (ask, answer) in file.asks().iter().zip(answers.iter()) {
-        place(text, at, &text::answer(ask, *answer));
-        at += ANSWER_LINE;
-    }
-    at
-}
-
-// The line of a fault, into memory.
-fn copy_fault(fault: Fault, text: &mut [u8; MOST_TEXT]) -> usize
-    requires { fault.line < 2 ^ 16 }
-    ensures within { result ≤ MOST_TEXT }
-    ensures written { take result text.new ≡ fault_line fault.line (refusal_number fault.refusal) }
-    ensures rest { drop result text.new ≡ drop result text.old }
-{
-    place(text, 0, &text::fault(fault));
-    FAULT_LINE
-}
-
-// What is written of a file that was read, to a sink.
+// To a sink.
 pub(crate) fn write_found<K: Sink>(
     found: Result<(), Fault>,
     file: &File,
@@ -107,13 +149,23 @@ pub(crate) fn write_found<K: Sink>(
         (TakesStart (K.contents sink.old) (K.contents sink.new))) }
     ensures fails { IfErr result K.fails }
 {
-    match found {
-        Ok(()) => write_answers(file, sink),
-        Err(fault) => write_all(sink, &text::fault(fault)),
-    }
+    let mut gathered = Gathered::new(sink);
+    write_gathered(found, file, &mut gathered)
 }
 
-// The same, into memory.
+fn write_page<'a, 'b>(found: Result<(), Fault>, file: &File, to: &'b mut Page<'a>) -> io::Result<()>
+    requires read { IsRead file.now }
+    requires numbered { IfErr found (λ fault. fault.line < 2 ^ 16) }
+    ensures same_reference { to.new.text.ghost_name ≡ to.old.text.ghost_name }
+    ensures ok { OnOk result (Tells file.now found
+        (λ out. ⟦<Page<'a> as Taker>⟧.takes to.old out to.new)) }
+    ensures err { IfErr result (λ e. Tells file.now found
+        (λ out. ⟦<Page<'a> as Taker>⟧.fails to.old out e to.new)) }
+{
+    write(found, file, to)
+}
+
+// Into memory, where no text is longer than its room.
 pub(crate) fn copy_found(found: Result<(), Fault>, file: &File, text: &mut [u8; MOST_TEXT]) -> usize
     requires read { IsRead file.now }
     requires numbered { IfErr found (λ fault. fault.line < 2 ^ 16) }
@@ -121,8 +173,9 @@ pub(crate) fn copy_found(found: Result<(), Fault>, file: &File, text: &mut [u8; 
     ensures written { Tells file.now found (λ out. take result text.new ≡ out) }
     ensures rest { drop result text.new ≡ drop result text.old }
 {
-    match found {
-        Ok(()) => copy_answers(file, text),
-        Err(fault) => copy_fault(fault, text),
+    let mut page = Page::new(text);
+    match write_page(found, file, &mut page) {
+        Ok(()) => page.held(),
+        Err(_) => unreachable!(),
     }
 }

@@ -8,7 +8,8 @@ use std::process::Abort;
 const INPUT: &[u8] =
     b"010202020400\n020040\n024101\n060000\n08000001\n09010102\n08020103\n0A03\n0B0000\n0B0001\n";
 
-const OUTPUT: &[u8] = b"8B0000010002\n8B0001000002\n";
+// Rounds 1 and 2 add 2 marks each, to states × concepts = 4 × 6 = 24.
+const OUTPUT: &[u8] = b"8A00010002\n8A00020002\n8B0000010002\n8B0001000002\n";
 
 // The same question typed as an expression: signs, test Deed, signs backward.
 const EXPRESSED: &[u8] = b"010202020400\n020040\n024101\n060000\n0D004101\n0B0000\n0B0001\n";

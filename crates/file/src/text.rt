@@ -1,22 +1,26 @@
 // The lines that are written, in characters: two for each byte, capital letters, and the end of the line.
 ghost use Rattle.std.specs.Prelude.{◌≡◌, ◌+◌, ◌*◌, ◌/◌, ◌%◌, ◌^◌, ◌<◌, [], ◌∷◌, length};
 ghost use Rattle.reading.specs.Refusal.{refusal_number};
-ghost use Rattle.file.specs.Text.{character, text, fault_line, answer_line, IsInBytes};
+ghost use Rattle.file.specs.Text.{character, text, fault_line, round_line, answer_line, IsInBytes};
 
 use frames::BASE;
-use kinds::Answer;
+use kinds::{Answer, MarkCount, Rounds};
 use reading::Fault;
 use tables::Ask;
 
 // The kinds of line.
+const ROUND: u8 = 0x8A;
+
 const ANSWER: u8 = 0x8B;
 
 const FAULT: u8 = 0x8F;
 
 // The characters of each, its end among them: two for each of its bytes, the kind's own among those.
+pub(crate) const ROUND_LINE: usize = 2 * 5 + 1;
+
 pub(crate) const ANSWER_LINE: usize = 2 * 6 + 1;
 
-pub(crate) const FAULT_LINE: usize = 2 * 4 + 1;
+const FAULT_LINE: usize = 2 * 4 + 1;
 
 // The character of a digit.
 fn character(digit: u8) -> u8
@@ -59,6 +63,18 @@ pub(crate) fn fault(fault: Fault) -> [u8; FAULT_LINE]
     let [high, low] = two_bytes(fault.line as u16);
     let mut line = [0; FAULT_LINE];
     spell(&[FAULT, high, low, fault.refusal.number()], &mut line);
+    line
+}
+
+// The line of a round.
+#[tactic(auto, unfolding(crate::specs::Text::round_line))]
+pub(crate) fn round(round: Rounds, marks: MarkCount) -> [u8; ROUND_LINE]
+    ensures { result ≡ round_line round marks }
+{
+    let [high, low] = two_bytes(round);
+    let [marks_high, marks_low] = two_bytes(marks);
+    let mut line = [0; ROUND_LINE];
+    spell(&[ROUND, high, low, marks_high, marks_low], &mut line);
     line
 }
 

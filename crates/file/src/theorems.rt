@@ -1,6 +1,6 @@
 // Laws of what an input writes. The functions here have nothing to do: each clause is a law.
 ghost use Rattle.file.specs.Laws.{WritesOnce, TextFits, StartWrites, WrittenOnce, ServedOnce};
-ghost use Rattle.file.specs.Laws.{AsksAnswered, FaultTold, FaultsNear};
+ghost use Rattle.file.specs.Laws.{AsksAnswered, RoundsAreTold, NoRoundTold, FaultTold, FaultsNear};
 ghost use Rattle.file.specs.Demands.{LinesSayAsModel, LinesSayOfExpression, LinesGrow, LinesReturn, RoundsSuffice};
 
 // One text, within its room; a start of the input decides it.
@@ -15,6 +15,8 @@ pub fn text()
 // What stands on its lines.
 pub fn lines()
     ensures asks { AsksAnswered }
+    ensures rounds { RoundsAreTold }
+    ensures no_round { NoRoundTold }
     ensures fault { FaultTold }
     ensures near { FaultsNear }
 {}

@@ -9,11 +9,11 @@ use Rattle.tables.specs.declared.collection.Refusal.TheVariants.{BadCount, BadTa
 use Rattle.index.specs.declared.lent.Lent.{Lent}
 use Rattle.index.specs.declared.work.Found.{Found}
 use Rattle.index.specs.declared.work.Found.TheVariants.{Contradiction, Spent, Needed}
-use Rattle.index.specs.Works.{meant, IsFound, LeavesFirst, LeavesSecond}
+use Rattle.index.specs.Works.{meant, Passes, HasAreas, IsFound, LeavesFirst, LeavesSecond}
 use Rattle.index.specs.Preparation.{Preparation, preparation, Fits, HasSheet, RoundsNeeded, HoldsSheet}
 use Rattle.index.specs.Worked.{IsRefused, IsSettled, IsWorked, FirstLeft, SecondLeft}
 
-refused-fits : (l : Lent) (area spare : ℕ) (e : Refusal) → IsRefused l area spare e → Fits (preparation l area spare) → ⊥
+pub refused-fits : (l : Lent) (area spare : ℕ) (e : Refusal) → IsRefused l area spare e → Fits (preparation l area spare) → ⊥
 refused-fits l area spare BadCount h f = h.bad_count.0 refl f.counts
 refused-fits l area spare BadTable h f = (h.bad_table.0 refl).tables f.tables
 refused-fits l area spare BadNumber h f = (h.bad_number.0 refl).numbers f.numbers
@@ -29,8 +29,11 @@ module _ (l : Lent) (area spare x y : List ℕ) where
     pub untouched : (HasSheet p → ⊥) → x ≡ area
     pub spared : (HasSheet p → ⊥) → y ≡ spare
 
+  pub fits : Passes l.collection → HasAreas (length area) (length spare) → Fits p
+  fits s a = record { counts = s.counts; tables = record { tables = s.tables; area = a.area; spare = a.spare }; numbers = s.numbers }
+
   has : {f : Found} → IsSettled l (length area) (length spare) f → Fits p
-  has s = record { counts = s.passes.counts; tables = record { tables = s.passes.tables; area = s.areas.area; spare = s.areas.spare }; numbers = s.passes.numbers }
+  has s = fits s.passes s.areas
 
   left-found : (f : Found) → IsSettled l (length area) (length spare) f → IsFound l f → LeavesFirst l f area x → LeavesSecond f spare y → Leaves
   left-found Contradiction s b h k = record { sheet = λ w. absurd (w.sane b); cleared = λ w. absurd (w.sane b); untouched = λ w. h; spared = λ w. k }

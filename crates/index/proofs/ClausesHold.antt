@@ -4,11 +4,11 @@ use Rattle.std.proofs.Common.{subst, arith}
 use Rattle.kinds.specs.declared.Answer.{Answer}
 use Rattle.kinds.specs.declared.Answer.TheVariants.{No, Yes, Contradiction, AllowanceSpent, BadCount, BadTable, BadNumber, BadAsk}
 use Rattle.kinds.specs.Answer.{answer_number, sheet_rounds, number-listed, seven-never}
-use Rattle.meaning.specs.Lent.{Tables, Call, collection_of, CountsOk, TablesOk, NumbersOk, AskOk, Sound}
+use Rattle.meaning.specs.Lent.{Tables, Call, collection_of, CountsOk, Sound}
 use Rattle.meaning.specs.Layout.{zeros}
 use Rattle.meaning.specs.Lite.{lite}
 use Rattle.meaning.specs.SameSets.{SameSets}
-use Rattle.meaning.specs.Outcome.{Outcome, Breaks, Reached, HoldsSheet, bad-count, bad-table, bad-number, bad-ask, contradiction, spent, says-yes, says-no}
+use Rattle.meaning.specs.Outcome.{Outcome, Breaks, HoldsSheet, bad-count, bad-table, bad-number, bad-ask, contradiction, spent, says-yes, says-no}
 use Rattle.meaning.specs.Worlds.{model_world}
 use Rattle.meaning.proofs.SheetLaws.{rounds-unique}
 use Rattle.meaning.proofs.OutcomeLaws.{outcome-unique}

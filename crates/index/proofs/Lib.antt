@@ -2,7 +2,10 @@ pub mod Joined
 pub mod Replies
 pub mod Telling
 pub mod Areas
+pub mod Counted
 pub mod Outcomes
 pub mod ClausesHold
 pub mod Rows
 pub mod Unique
+pub mod ToldOnce
+pub mod Settled

@@ -60,10 +60,10 @@ module _ (p : Preparation) where
       by (says-yes s k need h lays q) = yes (record { counts = s.counts; tables = rw (← long, ← long') s.tables; numbers = s.numbers })
       by (says-no s k need h lays q) = yes (record { counts = s.counts; tables = rw (← long, ← long') s.tables; numbers = s.numbers })
 
-  well : Fits p → WellFormed (collection_in p)
+  pub well : Fits p → WellFormed (collection_in p)
   well f = record { counts = f.counts; numbers = f.numbers.declared }
 
-  dec-sheet : Dec (HasSheet p)
+  pub dec-sheet : Dec (HasSheet p)
   dec-sheet = by dec-fits
     where
       sane : Fits p → (b : Bool) → clash (collection_in p) ≡ b → Dec (HasSheet p)

@@ -1,5 +1,7 @@
 -- What is asked, and of what.
 pub mod Preparation
+pub mod Marks
+pub mod Rounds
 pub mod Asked
 -- What the rooms find.
 pub mod Works

@@ -1,9 +1,10 @@
 -- What the rooms find of a collection that passed its tests, in the words of the rules.
-use Rattle.std.specs.Prelude.{◌≡◌, ◌↔◌, List, ℕ, ◌≤◌, ◌<◌}
+use Rattle.std.specs.Prelude.{◌≡◌, ◌↔◌, List, [], ◌++◌, ℕ, ◌≤◌, ◌<◌, min}
 use Rattle.kinds.specs.Kinds.{CountsFit}
 use Rattle.meaning.specs.Collection.{Collection}
 use Rattle.meaning.specs.Lent.{collection, ShapesOk, NumbersFit}
 use Rattle.meaning.specs.Model.{Contradiction}
+use Rattle.meaning.specs.Marks.{RoundCounts}
 use Rattle.meaning.specs.Sheet.{Mark}
 use Rattle.meaning.specs.Sheet as sheet
 use Rattle.meaning.specs.Lite.{lite}
@@ -39,6 +40,10 @@ module _ (𝓒 : Collection) where
 
   abbrev pub Holds : ℕ → List ℕ → Type 0
   Holds n = Lays (Mark (lite 𝓒) n)
+
+  -- how many marks rounds 1 to n added
+  abbrev pub Counts : ℕ → List ℕ → Type 0
+  Counts = RoundCounts (lite 𝓒)
 
 -- strides lead from the first individual of an ask in the start state to its second in a final one
 abbrev pub StridesLead : Paths → Ask → Type 0
@@ -78,3 +83,17 @@ abbrev pub LeavesSecond : Found → List ℕ → List ℕ → Type 0
 LeavesSecond found.Contradiction spare y = y ≡ spare
 LeavesSecond found.Spent spare y = y ≡ zeros
 LeavesSecond (found.Needed n r) spare y = y ≡ zeros
+
+-- how many marks the rounds added that were made for it
+abbrev pub CountsOf : Lent → Found → List ℕ → Type 0
+CountsOf l found.Contradiction counts = counts ≡ []
+CountsOf l found.Spent counts = Counts (meant l.collection) l.allowance counts
+CountsOf l (found.Needed n r) counts = Counts (meant l.collection) n counts
+
+-- the counts of all rounds that are made, up to those needed or allowed, begin so
+pub record BeginsCounts (l : Lent) (counts : List ℕ) : Type 0 where
+  pub sane : Contradiction (meant l.collection) → ⊥
+  pub n : ℕ
+  pub needed : Needs (meant l.collection) n
+  pub rest : List ℕ
+  pub all : Counts (meant l.collection) (min n l.allowance) (counts ++ rest)

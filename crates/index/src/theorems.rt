@@ -2,7 +2,10 @@
 ghost use Rattle.std.specs.Prelude.{◌≡◌, ◌<◌, ℕ, List};
 ghost use Rattle.tables.specs.declared.ask.Ask.{Ask};
 ghost use Rattle.kinds.specs.declared.Answer.{Answer};
+ghost use Rattle.laws.specs.Once.{AtMostOne};
 ghost use Rattle.index.specs.Preparation.{Preparation};
+ghost use Rattle.index.specs.Marks.{MarksTold, MakesSheet, ToldAtMost};
+ghost use Rattle.index.specs.Rounds.{HasRounds, NoRounds};
 ghost use Rattle.index.specs.Asked.{IsAnswer};
 ghost use Rattle.index.specs.Row.{InTurn};
 ghost use Rattle.index.specs.Once.{Left, SameAt};
@@ -24,4 +27,19 @@ pub fn unique<A: AnyPlace, B: AnyPlace>()
     ensures one_row { (p : Preparation) (t area spare x y u v : List ℕ) (n : ℕ)
         → InTurn p t A.tells area spare n x y → InTurn p t B.tells area spare n u v
         → (x ≡ u) × (y ≡ v) × ((k : ℕ) → k < n → SameAt A.tells B.tells k) }
+{}
+
+// What a listener is told of a preparation: one row of counts, and what it comes to.
+pub fn told()
+    ensures one_telling { (p : Preparation) → AtMostOne (MarksTold p) }
+    ensures a_telling { (p : Preparation) → (counts : List ℕ) × MarksTold p counts }
+    ensures makes_sheet { (p : Preparation) → MakesSheet p }
+    ensures at_most { (p : Preparation) → ToldAtMost p }
+{}
+
+// Whether there are rounds needed that are allowed: one number, or one reason why not.
+pub fn settled()
+    ensures one_needed { (p : Preparation) → AtMostOne (HasRounds p) }
+    ensures one_reason { (p : Preparation) → AtMostOne (NoRounds p) }
+    ensures not_both { (p : Preparation) (n : ℕ) (r : Answer) → HasRounds p n → ¬ NoRounds p r }
 {}

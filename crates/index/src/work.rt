@@ -1,16 +1,19 @@
 // The rooms put together: all of a collection that does not depend on an ask.
 
+ghost use Rattle.std.specs.Prelude.{◌≡◌, IfOk, IfErr, OnErr};
+ghost use Rattle.sheet.specs.Heard.{ToldOf, FailedOf};
 ghost use Rattle.index.specs.Works.{Passes, IsFound, LeavesFirst, LeavesSecond};
+ghost use Rattle.index.specs.Works.{CountsOf, BeginsCounts};
 
 use crate::lent::Lent;
 use crate::routes::{Paths, Routes};
 use clash::Exclusions;
 use elements::Elements;
 use hops::Hops;
-use kinds::Rounds;
+use kinds::{RoundListener, Rounds};
 use orders::{ConceptOrder, RoleOrder};
 use rules::Rows;
-use sheet::{AREA, Closing, Ran, close};
+use sheet::{AREA, Closing, Ran};
 use walk::Question;
 
 // What is found of a collection that passed its tests.
@@ -21,18 +24,25 @@ pub enum Found<'r> {
     Needed(Rounds, Paths<'r>),
 }
 
-// The orders, and who has what; the contradiction test; the rounds against the allowance; and what
-// walks go by. All of it stays where it is made, and is lent.
-pub(crate) fn settle<'r>(
+// The orders, and who has what; the contradiction test; the rounds against the allowance, of which a
+// listener is told; and what walks go by. All of it stays where it is made, and is lent.
+pub(crate) fn settle<'r, L: RoundListener>(
     lent: &Lent<'r>,
     area: &mut [u8; AREA],
     spare: &mut [u8; AREA],
     routes: &'r mut Routes,
-) -> Found<'r>
+    listener: &mut L,
+) -> Result<Found<'r>, L::Error>
     requires { Passes lent.now.collection }
-    ensures found { IsFound lent.now result }
-    ensures first { LeavesFirst lent.now result area.old area.new }
-    ensures second { LeavesSecond result spare.old spare.new }
+    ensures found { IfOk result (IsFound lent.now) }
+    ensures first { IfOk result (λ found. LeavesFirst lent.now found area.old area.new) }
+    ensures second { IfOk result (λ found. LeavesSecond found spare.old spare.new) }
+    ensures told { IfOk result (λ found.
+        ToldOf L.hears (CountsOf lent.now found) listener.old listener.new) }
+    ensures failed { IfErr result (λ e.
+        FailedOf L.hears L.fails (BeginsCounts lent.now) listener.old e listener.new) }
+    ensures area_kept { OnErr result (area.new ≡ area.old) }
+    ensures spare_kept { OnErr result (spare.new ≡ spare.old) }
 {
     let of = lent.collection;
     let Routes { next, loops, ways } = routes;
@@ -43,19 +53,21 @@ pub(crate) fn settle<'r>(
     let hops = Hops::new(of.role_facts, next);
     let exclusions = Exclusions::new(of.concept_exclusions, of.role_exclusions);
     if exclusions.clash(&roles, &order, &elements, &hops) {
-        return Found::Contradiction;
+        return Ok(Found::Contradiction);
     }
     ways.fill(of.steps, &roles);
     let mut rows = Rows::NONE;
     rows.fill(of.counts, &order, ways, of.steps);
     let mut closing = Closing::new();
-    match close(&mut closing, &rows, lent.allowance, area, spare) {
-        Ran::Spent => Found::Spent,
+    let ran = closing.run(&rows, lent.allowance, listener)?;
+    closing.leave(area, spare);
+    match ran {
+        Ran::Spent => Ok(Found::Spent),
         Ran::Needed(rounds) => {
             loops.fill(&elements.individuals, &closing.sheet);
             let question = Question::new(of.counts.start, of.finals);
             let ways = &ways.by;
-            Found::Needed(
+            Ok(Found::Needed(
                 rounds,
                 Paths {
                     loops,
@@ -63,7 +75,7 @@ pub(crate) fn settle<'r>(
                     hops,
                     question,
                 },
-            )
+            ))
         }
     }
 }

@@ -5,8 +5,15 @@ ghost use Rattle.std.specs.Prelude.{◌+◌, ◌*◌, ◌%◌, ◌<◌, ◌≡�
 ghost use Rattle.kinds.specs.Kinds.{most_roles, inverse, forward, backward, wrapped, number_of, concept_of, NameDeclared, RoleDeclared, SignedDeclared, IndividualDeclared, StateDeclared, ConceptDeclared, CountsFit};
 ghost use Rattle.kinds.specs.Answer.{answer_number, answer_count};
 
+mod listener;
+
+pub use listener::{NoListener, RoundListener};
+
 // A number of rounds, and the allowance of them.
 pub type Rounds = u16;
+
+// How many marks a round made.
+pub type MarkCount = u16;
 
 #[derive(Clone, Copy, PartialEq, Eq)]
 pub struct ConceptName(pub u16);

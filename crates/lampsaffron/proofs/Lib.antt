@@ -2,3 +2,4 @@ pub mod Given
 pub mod Told
 pub mod Made
 mod Seven
+pub mod Rounds

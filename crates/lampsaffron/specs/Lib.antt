@@ -1,3 +1,4 @@
 pub mod Boundary
 pub mod Row
 pub mod Expression
+pub mod Marks

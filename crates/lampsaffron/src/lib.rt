@@ -13,6 +13,7 @@ ghost use Rattle.lampsaffron.specs.Boundary.{counted, lent, Gives, RowFits, Tell
 ghost use Rattle.expression.specs.Answer.{IsAutomatonOf};
 ghost use Rattle.lampsaffron.specs.Expression.{number_of, Makes};
 
+pub mod marks;
 pub mod theorems;
 
 use expression::{Refusal, automaton_of};

@@ -5,10 +5,11 @@ ghost use Rattle.index.specs.Preparation.{Preparation};
 ghost use Rattle.lampsaffron.specs.Boundary.{Gives};
 ghost use Rattle.lampsaffron.specs.Row.{TellsRow};
 ghost use Rattle.lampsaffron.specs.Expression.{Makes};
+ghost use Rattle.lampsaffron.specs.Marks.{Lent, TellsMarks};
 ghost use Rattle.expression.specs.Listed.{Listed};
 ghost use Rattle.expression.specs.Answer.{IsAutomatonOf};
 
-// What a call gives and leaves, and a call with a row of pairs; and of the tables of an expression the number and both tables.
+// What a call gives and leaves, a call with a row of pairs, and one for the marks of rounds; and of the tables of an expression the number and both tables.
 pub fn unique()
     ensures one_call { (c : Call) (number number' count count' : ℕ) (x y u v : List ℕ)
         → Gives c number count x y → Gives c number' count' u v
@@ -18,6 +19,9 @@ pub fn unique()
         → TellsRow p t area spare numbers counts x y
         → TellsRow p t area spare numbers' counts' u v
         → (numbers ≡ numbers') × (counts ≡ counts') × (x ≡ u) × (y ≡ v) }
+    ensures one_marking { (p : Preparation) (old new new' : Lent) (number number' : ℕ)
+        → TellsMarks p old number new → TellsMarks p old number' new'
+        → (number ≡ number') × (new ≡ new') }
     ensures one_number { (row : List ℕ) (steps finals n m : ℕ)
         → Makes row steps finals n → Makes row steps finals m → n ≡ m }
     ensures one_automaton { (row : List ℕ) (a b : Listed)

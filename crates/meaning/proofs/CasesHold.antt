@@ -1,5 +1,6 @@
 -- The cases worked on paper hold: one test that the checker computes over the whole table, and what it means.
-use Rattle.std.specs.Prelude.{◌≡◌, refl, Bool, true, List, map, ℕ, T, eqb, length, get_or}
+use Rattle.std.specs.Prelude.{◌≡◌, refl, Bool, true, false, List, [], ◌∷◌, map, ℕ, zero, suc, ◌+◌, ◌<◌, T, eqb, length, get_or, slice_index}
+use Rattle.std.proofs.Common.{arith}
 use Rattle.std.proofs.Math.Path.{sym}
 use Rattle.std.proofs.Math.Dec.{eqb→eq}
 use Rattle.kinds.specs.declared.Answer.{Answer}
@@ -27,8 +28,11 @@ use Rattle.meaning.specs.Lent.{records, collection, Sound}
 use Rattle.meaning.specs.Layout.{place, area_length, Lays, Standing}
 use Rattle.meaning.proofs.OutcomeExists.{outcome-exists, passes-all, sound-well-formed, holds-sheet}
 use Rattle.meaning.proofs.Calculate.{counts_fit, whole, shapes_ok, concepts_declared, roles_declared, concept_fact_declared, role_fact_declared, numbers_declared, numbers_ok, ask_ok, sound_answer, after_clash, after_rounds, sheet_area, area_after, spare_after}
-use Rattle.meaning.proofs.CalculateLaws.{counts-test, shapes-test, numbers-test, ask-test}
-use Rattle.meaning.specs.Cases.{Case, cases, lend, MarksStand, Says}
+use Rattle.meaning.proofs.CalculateLaws.{sheet-lays, counts-test, shapes-test, numbers-test, ask-test}
+use Rattle.meaning.specs.Marks.{Stands, Adds, RoundCounts}
+use Rattle.meaning.proofs.MarksLaws.{counted-once, stands-there, adds-there, one-more}
+use Rattle.meaning.proofs.LiteMarks.{standing-once, lite-countable, sheet-standing}
+use Rattle.meaning.specs.Cases.{Case, cases, lend, RoundsAdd, MarksStand, Says}
 
 -- where the marks of the sheet after n rounds stand, in order
 module _ (𝓒 : Collection) where
@@ -57,9 +61,29 @@ module _ (𝓒 : Collection) where
   marks_ok BadNumber m = true
   marks_ok BadAsk m = true
 
-  unfoldable answer_ok : Answer → ℕ → ℕ → ℕ → Bool
-  answer_ok r number count marks =
-      let b = marks_ok r marks in
+  -- from k rounds on to n: so many stand, and after one round more as many as it is said to add
+  unfoldable adds_ok : ℕ → List ℕ → ℕ → Bool
+  adds_ok k [] n = eqb k n
+  adds_ok k (m ∷ l) n =
+      let many = length (stands_at k) in
+      let c = adds_ok (suc k) l n in
+      let b = and (list_ok (suc k) (many + m)) c in
+      and (list_ok k many) b
+
+  abbrev none_ok : List ℕ → Bool
+  none_ok [] = true
+  none_ok (m ∷ l) = false
+
+  abbrev added_ok : Answer → List ℕ → Bool
+  added_ok (No rounds) l = adds_ok 0 l rounds
+  added_ok (Yes rounds) l = adds_ok 0 l rounds
+  added_ok (AllowanceSpent allowance) l = adds_ok 0 l allowance
+  added_ok other l = none_ok l
+
+  unfoldable answer_ok : Answer → ℕ → ℕ → ℕ → List ℕ → Bool
+  answer_ok r number count marks added =
+      let d = added_ok r added in
+      let b = and (marks_ok r marks) d in
       let a = and (eqb (answer_count r) count) b in
       and (eqb (answer_number r) number) a
 
@@ -78,11 +102,11 @@ abbrev computed : Case → Answer
 computed k = sound_answer (given k) (individual k.first) (individual k.second) k.allowance
 
 unfoldable holds : Case → Bool
-holds k = let b = answer_ok (given k) (computed k) k.number k.count k.marks in and (sound_ok k) b
+holds k = let b = answer_ok (given k) (computed k) k.number k.count k.marks k.added in and (sound_ok k) b
 
 -- every row passes
 table-computes : every cases holds ≡ true
-unfolding every cases holds sound_ok answer_ok list_ok rises_from stands_at select counts_fit whole shapes_ok concepts_declared roles_declared concept_fact_declared role_fact_declared numbers_declared numbers_ok ask_ok sound_answer after_clash after_rounds records concept_of number_of inverse any upto numbered pairs memo settle stays new via compose tab closing both signed_roles valid_concepts declared_states joins hangs_to hangs_from hangs round places table work after role_base role_le concept_base concept_le declared_individuals fact_types end_types is_typed typed_to individual_has joins_by fact_edge follows alive_by alive_at alive clash_at clash_under concept_clash clash_between clash_below role_clash clash marked stride walks reaches_in reaches
+unfolding every cases holds sound_ok answer_ok adds_ok list_ok rises_from stands_at select counts_fit whole shapes_ok concepts_declared roles_declared concept_fact_declared role_fact_declared numbers_declared numbers_ok ask_ok sound_answer after_clash after_rounds records concept_of number_of inverse any upto numbered pairs memo settle stays new via compose tab closing both signed_roles valid_concepts declared_states joins hangs_to hangs_from hangs round places table work after role_base role_le concept_base concept_le declared_individuals fact_types end_types is_typed typed_to individual_has joins_by fact_edge follows alive_by alive_at alive clash_at clash_under concept_clash clash_between clash_below role_clash clash marked stride walks reaches_in reaches
 table-computes = refl
 
 -- the list that is computed is that of the places that hold 1, in any area that holds the sheet
@@ -118,6 +142,62 @@ module _ (𝓒 : Collection) (ok : WellFormed 𝓒) (n : ℕ) (x : List ℕ) (la
       let l = stands_at 𝓒 n in
       (l, record { rising = rising l (and_left (rises_from 0 l) (eqb (length l) m) h); ones = λ p. (stands-in p, stands-out p) }, eqb→eq (length l) m (and_right (rises_from 0 l) (eqb (length l) m) h))
 
+-- what passes is what the rounds added: so many stand before a round and after it
+module _ (𝓒 : Collection) (ok : WellFormed 𝓒) where
+  stood-by : (k m : ℕ) → T (list_ok 𝓒 k m) → Stands (lite 𝓒) k m
+  stood-by k m h =
+      let lays = sheet-lays 𝓒 ok k in
+      let s = stands-there (lite 𝓒) (lite-countable 𝓒 ok) k in
+      let e = standing-once _ s.0 m (sheet-standing 𝓒 ok k _ lays s.0 s.1) (standing 𝓒 ok k _ lays m h) in
+      rw e at s.1
+
+  -- a round that takes as many to so many more adds the difference
+  adds-by : (k a m : ℕ) → Stands (lite 𝓒) k a → Stands (lite 𝓒) (suc k) (a + m) → Adds (lite 𝓒) k m
+  adds-by k a m x y =
+      let w = adds-there (lite 𝓒) (lite-countable 𝓒 ok) k in
+      let z = one-more (lite 𝓒) (lite-countable 𝓒 ok) k a w.0 x w.1 in
+      let e = counted-once (lite 𝓒) (Mark (lite 𝓒) (suc k)) (a + w.0) (a + m) z y in
+      let f : w.0 ≡ m = omega (arith, e) in
+      rw f at w.1
+
+  record Adding (k : ℕ) (l : List ℕ) (n : ℕ) : Type 0 where
+    pub long : length l + k ≡ n
+    pub each : (j : ℕ) → j < length l → Adds (lite 𝓒) (k + j) (slice_index l j)
+
+  adding : (k : ℕ) (l : List ℕ) (n : ℕ) → T (adds_ok 𝓒 k l n) → Adding k l n
+  unfolding adds_ok
+  adding k [] n h = record { long = omega (arith, eqb→eq k n h); each = λ j l. absurd (omega (arith, l)) }
+  adding k (m ∷ l) n h =
+      let many = length (stands_at 𝓒 k) in
+      let c = adds_ok 𝓒 (suc k) l n in
+      let b = and (list_ok 𝓒 (suc k) (many + m)) c in
+      let v = and_right (list_ok 𝓒 k many) b h in
+      let x = stood-by k many (and_left (list_ok 𝓒 k many) b h) in
+      let y = stood-by (suc k) (many + m) (and_left (list_ok 𝓒 (suc k) (many + m)) c v) in
+      let r = adding (suc k) l n (and_right (list_ok 𝓒 (suc k) (many + m)) c v) in
+      record { long = omega (arith, r.long); each = at_place r (adds-by k many m x y) }
+    where
+      at_place : Adding (suc k) l n → Adds (lite 𝓒) k m → (j : ℕ) → j < length (m ∷ l) → Adds (lite 𝓒) (k + j) (slice_index (m ∷ l) j)
+      at_place r a zero h = rw (let e : k + 0 ≡ k = omega arith in e) a
+      at_place r a (suc j) h = rw (let e : k + suc j ≡ suc k + j = omega arith in e) (r.each j (omega (arith, h)))
+
+  counted : (l : List ℕ) (n : ℕ) → T (adds_ok 𝓒 0 l n) → RoundCounts (lite 𝓒) n l
+  counted l n h = let w = adding 0 l n h in record { long = omega (arith, w.long); each = λ j g. let a = w.each j (omega (arith, w.long, g)) in let e : 0 + j ≡ j = omega arith in rw e at a }
+
+  none-out : (l : List ℕ) → T (none_ok 𝓒 l) → l ≡ []
+  none-out [] h = refl
+  none-out (x ∷ l) h = elim h [ ]
+
+  rounds-add : (r : Answer) (l : List ℕ) → T (added_ok 𝓒 r l) → RoundsAdd 𝓒 r l
+  rounds-add (No rounds) l h = counted l rounds h
+  rounds-add (Yes rounds) l h = counted l rounds h
+  rounds-add (AllowanceSpent allowance) l h = counted l allowance h
+  rounds-add Contradiction l h = none-out l h
+  rounds-add BadCount l h = none-out l h
+  rounds-add BadTable l h = none-out l h
+  rounds-add BadNumber l h = none-out l h
+  rounds-add BadAsk l h = none-out l h
+
 module _ (area spare : List ℕ) (long : length area ≡ area_length) (long' : length spare ≡ area_length) where
   sound : (k : Case) → T (sound_ok k) → Sound (lend area spare k)
   unfolding sound_ok
@@ -143,12 +223,14 @@ module _ (area spare : List ℕ) (long : length area ≡ area_length) (long' : l
   unfolding holds answer_ok
   says k h =
       let r = computed k in
-      let b = marks_ok (given k) r k.marks in
+      let d = added_ok (given k) r k.added in
+      let b = and (marks_ok (given k) r k.marks) d in
       let a = and (eqb (answer_count r) k.count) b in
       let o = and (eqb (answer_number r) k.number) a in
       let s = sound k (and_left (sound_ok k) o h) in
       let v = and_right (sound_ok k) o h in
       let w = and_right (eqb (answer_number r) k.number) a v in
+      let u = and_right (eqb (answer_count r) k.count) b w in
       let done = outcome-exists (lend area spare k) in
       record {
         answer = r;
@@ -157,10 +239,11 @@ module _ (area spare : List ℕ) (long : length area ≡ area_length) (long' : l
         outcome = rw (passes-all (lend area spare k) s) at done;
         number = eqb→eq (answer_number r) k.number (and_left (eqb (answer_number r) k.number) a v);
         count = eqb→eq (answer_count r) k.count (and_left (eqb (answer_count r) k.count) b w);
-        marks = marks-stand k s r (and_right (eqb (answer_count r) k.count) b w);
+        marks = marks-stand k s r (and_left (marks_ok (given k) r k.marks) d u);
+        added = rounds-add (given k) (sound-well-formed (lend area spare k) s) r k.added (and_right (marks_ok (given k) r k.marks) d u);
       }
 
   -- THEOREM: the cases worked on paper: for any two areas of the right length, whatever they hold, each row's call has the
-  -- outcome that the row says: its number, its count, and so many marks in the first area
+  -- outcome that the row says: its number, its count, and so many marks in the first area; and each round added so many
   pub cases-hold : (k : Case) → k ∈ cases → Says area spare k
   cases-hold k m = says k (every-out cases holds (rw table-computes tt) m)

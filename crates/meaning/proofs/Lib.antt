@@ -26,6 +26,8 @@ pub mod ReplyLaws
 pub mod ClashLaws
 pub mod LayoutLaws
 pub mod AreaLaws
+pub mod MarksLaws
+pub mod LiteMarks
 pub mod Calculate
 pub mod CalculateLaws
 -- What follows from both: one outcome for every input, the demands, the worked cases.

@@ -16,7 +16,7 @@ use Rattle.meaning.specs.Tests.{Tests, AreTestsOf}
 use Rattle.meaning.specs.Sheet.{Markable, Round, kept, tested, joined, hung, Mark, Unchanged, Needed}
 use Rattle.meaning.proofs.SheetLaws.{mark-markable}
 
-fit : (n c s k : ℕ) → n + k ≤ s * s * c → s * c ≤ k → n ≤ c * s * (s - 1)
+pub fit : (n c s k : ℕ) → n + k ≤ s * s * c → s * c ≤ k → n ≤ c * s * (s - 1)
 fit n c zero k h g = omega arith
 fit n c (suc s) k h g = let e : suc s - 1 ≡ s = omega arith in rw e (omega arith)
 

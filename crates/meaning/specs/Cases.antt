@@ -5,12 +5,15 @@ use Rattle.kinds.specs.declared.Answer.{Answer}
 use Rattle.kinds.specs.declared.Answer.TheVariants.{No, Yes, Contradiction, AllowanceSpent, BadCount, BadTable, BadNumber, BadAsk}
 use Rattle.kinds.specs.Kinds.{individual, state}
 use Rattle.kinds.specs.Answer.{answer_number, answer_count}
-use Rattle.meaning.specs.Lent.{Tables, Call}
+use Rattle.meaning.specs.Lent.{Tables, Call, collection}
+use Rattle.meaning.specs.Collection.{Collection}
+use Rattle.meaning.specs.Lite.{lite}
 use Rattle.meaning.specs.Layout.{Standing}
+use Rattle.meaning.specs.Marks.{RoundCounts}
 use Rattle.meaning.specs.Outcome.{Outcome}
 
 -- a row: a whole collection as it is lent, a pair and an allowance; the number and count returned,
--- and the marks that then stand
+-- the marks that then stand, and how many each round added
 pub record Case : Type 0 where
   pub counts : Counts
   pub tables : Tables
@@ -20,6 +23,7 @@ pub record Case : Type 0 where
   pub number : ℕ
   pub count : ℕ
   pub marks : ℕ
+  pub added : List ℕ
 
 abbrev pub declares : ℕ → ℕ → ℕ → ℕ → ℕ → Counts
 declares names roles individuals states start = record {
@@ -71,9 +75,9 @@ signed_to = 0 ∷ 0 ∷ 1 ∷ []
 abbrev holds_signs : List ℕ
 holds_signs = 0 ∷ 0 ∷ 2 ∷ 1 ∷ 0 ∷ 1 ∷ 0 ∷ 2 ∷ []
 
--- counts, tables; first and second individual, allowance; number, count, marks
-abbrev row : Counts → Tables → ℕ → ℕ → ℕ → ℕ → ℕ → ℕ → Case
-row counts tables first second allowance number count marks = record {
+-- counts, tables; first and second individual, allowance; number, count, marks, and each round's
+abbrev row : Counts → Tables → ℕ → ℕ → ℕ → ℕ → ℕ → ℕ → List ℕ → Case
+row counts tables first second allowance number count marks added = record {
   counts = counts;
   tables = tables;
   first = first;
@@ -82,63 +86,71 @@ row counts tables first second allowance number count marks = record {
   number = number;
   count = count;
   marks = marks;
+  added = added;
 }
 
 unfoldable pub cases : List Case
 cases =
     -- 1. B, (0, 0): yes, 2 rounds, 28 marks
     row (declares 2 2 2 4 0)
-    (holding base_rules [] [] [] owner [] base_steps (3 ∷ [])) 0 0 64 1 2 28
+    (holding base_rules [] [] [] owner [] base_steps (3 ∷ [])) 0 0 64 1 2 28 (2 ∷ 2 ∷ [])
     -- 2. B, (0, 1): no
     ∷ row (declares 2 2 2 4 0)
-    (holding base_rules [] [] [] owner [] base_steps (3 ∷ [])) 0 1 64 0 2 28
+    (holding base_rules [] [] [] owner [] base_steps (3 ∷ [])) 0 1 64 0 2 28 (2 ∷ 2 ∷ [])
     -- 3. B with allowance 1: number 3, count 1
     ∷ row (declares 2 2 2 4 0)
-    (holding base_rules [] [] [] owner [] base_steps (3 ∷ [])) 0 0 1 3 1 26
+    (holding base_rules [] [] [] owner [] base_steps (3 ∷ [])) 0 0 1 3 1 26 (2 ∷ [])
     -- 4. B plus Deed excludes ∃(signs backward): contradiction, on an unnamed deed
     ∷ row (declares 2 2 2 4 0)
-    (holding base_rules (1 ∷ 65 ∷ []) [] [] owner [] base_steps (3 ∷ [])) 0 0 64 2 0 0
+    (holding base_rules (1 ∷ 65 ∷ []) [] [] owner [] base_steps (3 ∷ [])) 0 0 64 2 0 0 []
     -- 5. case 4 without Owner(0): no
     ∷ row (declares 2 2 2 4 0)
-    (holding base_rules (1 ∷ 65 ∷ []) [] [] [] [] base_steps (3 ∷ [])) 0 0 64 0 2 28
+    (holding base_rules (1 ∷ 65 ∷ []) [] [] [] [] base_steps (3 ∷ [])) 0 0 64 0 2 28 (2 ∷ 2 ∷ [])
     -- 6. B plus signs ≤ holds and signs excludes holds: contradiction with no role fact typed
     ∷ row (declares 2 2 2 4 0)
-    (holding base_rules [] (0 ∷ 2 ∷ []) (0 ∷ 2 ∷ []) owner [] base_steps (3 ∷ [])) 0 0 64 2 0 0
+    (holding base_rules [] (0 ∷ 2 ∷ []) (0 ∷ 2 ∷ []) owner [] base_steps (3 ∷ [])) 0 0 64 2 0 0 []
     -- 7. holds(0, 1), holds(1, 0), holds excludes holds backward: contradiction
     ∷ row (declares 2 2 2 4 0)
     (holding [] [] [] (2 ∷ 3 ∷ []) [] (1 ∷ 0 ∷ 1 ∷ 1 ∷ 1 ∷ 0 ∷ []) base_steps (3 ∷ []))
-    0 0 64 2 0 0
+    0 0 64 2 0 0 []
     -- 8. start state final, no steps: (0, 0) yes, (0, 1) no, 0 rounds
-    ∷ row (declares 2 2 2 1 0) (holding [] [] [] [] [] [] [] (0 ∷ [])) 0 0 64 1 0 6
-    ∷ row (declares 2 2 2 1 0) (holding [] [] [] [] [] [] [] (0 ∷ [])) 0 1 64 0 0 6
+    ∷ row (declares 2 2 2 1 0) (holding [] [] [] [] [] [] [] (0 ∷ [])) 0 0 64 1 0 6 []
+    ∷ row (declares 2 2 2 1 0) (holding [] [] [] [] [] [] [] (0 ∷ [])) 0 1 64 0 0 6 []
     -- 9. Owner ≤ ∃signs, ∃(signs backward) ≤ ∃signs, Owner(0); signs twice, then signs backward
     -- twice: yes, 2 rounds
     ∷ row (declares 2 2 2 5 0)
     (holding (0 ∷ 64 ∷ 65 ∷ 64 ∷ []) [] [] [] owner []
     (0 ∷ 0 ∷ 0 ∷ 1 ∷ 0 ∷ 1 ∷ 0 ∷ 2 ∷ 0 ∷ 2 ∷ 1 ∷ 3 ∷ 0 ∷ 3 ∷ 1 ∷ 4 ∷ []) (4 ∷ []))
-    0 0 64 1 2 36
+    0 0 64 1 2 36 (3 ∷ 3 ∷ [])
     -- 10. Owner ≤ ∃signs, Owner ≤ ∃holds, Owner(0); signs then holds backward: no
     ∷ row (declares 2 2 2 3 0)
-    (holding (0 ∷ 64 ∷ 0 ∷ 66 ∷ []) [] [] [] owner [] signs_holds (2 ∷ [])) 0 0 64 0 0 18
+    (holding (0 ∷ 64 ∷ 0 ∷ 66 ∷ []) [] [] [] owner [] signs_holds (2 ∷ [])) 0 0 64 0 0 18 []
     -- 11. case 10 plus a third role, Owner ≤ ∃third, third ≤ signs, third ≤ holds: yes
     ∷ row (declares 2 3 2 3 0)
     (holding (0 ∷ 64 ∷ 0 ∷ 66 ∷ 0 ∷ 68 ∷ []) [] (4 ∷ 0 ∷ 4 ∷ 2 ∷ []) [] owner []
     signs_holds (2 ∷ []))
-    0 0 64 1 1 26
+    0 0 64 1 1 26 (2 ∷ [])
     -- 13. holds(0, 0), signs(0, 1); holds then signs: (0, 1) yes, along the edge from 0 to itself
     ∷ row (declares 2 2 2 3 0)
-    (holding [] [] [] [] [] (self_held ++ signed_to) holds_signs (2 ∷ [])) 0 1 64 1 0 18
+    (holding [] [] [] [] [] (self_held ++ signed_to) holds_signs (2 ∷ [])) 0 1 64 1 0 18 []
     -- 14. case 13, (0, 0): no
     ∷ row (declares 2 2 2 3 0)
-    (holding [] [] [] [] [] (self_held ++ signed_to) holds_signs (2 ∷ [])) 0 0 64 0 0 18
+    (holding [] [] [] [] [] (self_held ++ signed_to) holds_signs (2 ∷ [])) 0 0 64 0 0 18 []
     -- 15. case 13 plus holds excludes holds backward: contradiction
     ∷ row (declares 2 2 2 3 0)
     (holding [] [] [] (2 ∷ 3 ∷ []) [] (self_held ++ signed_to) holds_signs (2 ∷ []))
-    0 1 64 2 0 0
+    0 1 64 2 0 0 []
     -- 16. case 3 plus holds(0, 0): number 3, count 1
     ∷ row (declares 2 2 2 4 0)
-    (holding base_rules [] [] [] owner self_held base_steps (3 ∷ [])) 0 0 1 3 1 26
+    (holding base_rules [] [] [] owner self_held base_steps (3 ∷ [])) 0 0 1 3 1 26 (2 ∷ [])
     ∷ []
+
+-- after 0, 1 and 3 the rounds needed or allowed added so many marks each; after all else none is told
+abbrev pub RoundsAdd : Collection → Answer → List ℕ → Type 0
+RoundsAdd 𝓒 (No rounds) added = RoundCounts (lite 𝓒) rounds added
+RoundsAdd 𝓒 (Yes rounds) added = RoundCounts (lite 𝓒) rounds added
+RoundsAdd 𝓒 (AllowanceSpent allowance) added = RoundCounts (lite 𝓒) allowance added
+RoundsAdd 𝓒 other added = added ≡ []
 
 module _ (area spare : List ℕ) where
   -- the call of a row, with two areas lent
@@ -173,3 +185,4 @@ module _ (area spare : List ℕ) where
     pub number : answer_number answer ≡ k.number
     pub count : answer_count answer ≡ k.count
     pub marks : MarksStand answer area-after k.marks
+    pub added : RoundsAdd (collection k.counts k.tables) answer k.added

@@ -12,6 +12,7 @@ pub mod Sheet
 pub mod Lite
 pub mod Walk
 pub mod Layout
+pub mod Marks
 pub mod Outcome
 -- What is demanded of it.
 pub mod Demands
@@ -29,6 +30,7 @@ pub mod Tests
 pub mod LawsOfOrders
 pub mod LawsOfModel
 pub mod LawsOfSheet
+pub mod LawsOfMarks
 pub mod LawsOfGrowth
 pub mod LawsOfCalls
 pub mod LawsOfWorlds

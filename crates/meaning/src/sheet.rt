@@ -8,6 +8,13 @@ ghost use Rattle.meaning.specs.LawsOfSheet.{RoundMeets, RoundHangs, RoundAdds, M
 ghost use Rattle.meaning.specs.LawsOfSheet.{RoundsSuffice, RoundsAtMost, MostRounds};
 ghost use Rattle.meaning.specs.LawsOfSheet.{ConceptsCounted, MarkIsOne};
 ghost use Rattle.meaning.specs.LawsOfSheet.{AreaThere, AreaOnce};
+ghost use Rattle.meaning.specs.LawsOfMarks.{StandsOnce, AddsOnce, CountsOnce};
+ghost use Rattle.meaning.specs.LawsOfMarks.{StandsThere, CountsThere, CountsMakeSheet};
+ghost use Rattle.meaning.specs.LawsOfMarks.{AddsSome, AddsNone, SumAtMost, CountsAtMost};
+ghost use Rattle.meaning.specs.LawsOfMarks.{CollectionCountable, CollectionCounts};
+ghost use Rattle.meaning.specs.LawsOfMarks.{CollectionStands, AreaStands, StandingOnce};
+ghost use Rattle.meaning.specs.LawsOfMarks.{CollectionAddsSome, CollectionAddsFew};
+ghost use Rattle.meaning.specs.LawsOfMarks.{CollectionCountsAtMost};
 
 // A type that names a rules' kind: any.
 pub trait AnyKind {
@@ -61,4 +68,30 @@ pub fn area()
     ensures one { MarkIsOne }
     ensures area_there { AreaThere }
     ensures area_once { AreaOnce }
+{}
+
+// How many marks the rounds of any kind make.
+pub fn any_counts<K: AnyKind>()
+    ensures stands_once { StandsOnce K.kind }
+    ensures adds_once { AddsOnce K.kind }
+    ensures counts_once { CountsOnce K.kind }
+    ensures stands_there { StandsThere K.kind }
+    ensures counts_there { CountsThere K.kind }
+    ensures make_sheet { CountsMakeSheet K.kind }
+    ensures some { AddsSome K.kind }
+    ensures none { AddsNone K.kind }
+    ensures sum_at_most { SumAtMost K.kind }
+    ensures counts_at_most { CountsAtMost K.kind }
+{}
+
+// And those of a collection, with what then stands in the area that holds its sheet.
+pub fn counts()
+    ensures countable { CollectionCountable }
+    ensures there { CollectionCounts }
+    ensures stands { CollectionStands }
+    ensures area_stands { AreaStands }
+    ensures standing_once { StandingOnce }
+    ensures adds_some { CollectionAddsSome }
+    ensures adds_few { CollectionAddsFew }
+    ensures at_most { CollectionCountsAtMost }
 {}

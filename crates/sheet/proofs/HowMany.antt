@@ -1,11 +1,13 @@
 -- How many marks a round adds.
-use Rattle.std.specs.Prelude.{◌≡◌, refl, ◌↔◌, Bool, true, false, IsTrue, List, [], ◌∷◌, ℕ, zero, suc, ◌+◌, ◌*◌, ◌/◌, ◌%◌, ◌<◌, ◌≤◌, length, get_or, filter, nat_eq, cond, T, leb}
+use Rattle.std.specs.Prelude.{◌≡◌, refl, ◌↔◌, Bool, true, false, IsTrue, List, [], ◌∷◌, ℕ, zero, suc, ◌+◌, ◌*◌, ◌/◌, ◌%◌, ◌<◌, ◌≤◌, length, map, get_or, filter, nat_eq, cond, T, leb}
 use Rattle.std.specs.List.{range_with_len}
-use Rattle.std.proofs.Common.{sym, ◌∙◌, ⊎_elim, arith, rules}
+use Rattle.std.proofs.lemmas.List.{length-map}
+use Rattle.std.proofs.Common.{sym, ap, ◌∙◌, ⊎_elim, arith, rules}
 use Rattle.std.proofs.Math.Decide.{ℕ_discrete}
 use mathlib.Core.List.Memᴰ
 use mathlib.Core.List.{Memᴰ}
-use Rattle.laws.specs.Member.{◌∈◌}
+use Rattle.laws.specs.Member.{◌∈◌, map-in, map-out}
+use Rattle.laws.specs.Distinct.{distinct-map, rising-distinct}
 use Rattle.laws.specs.Search.{and_both}
 use Rattle.laws.specs.Select.{Rising, rising, rises_from}
 use Rattle.kinds.specs.Kinds.{most_states}
@@ -16,7 +18,8 @@ use Rattle.sets.specs.declared.concepts.ConceptSet.{ConceptSet}
 use Rattle.rules.specs.declared.rows.Rows.{Rows}
 use Rattle.rules.specs.Rows.{most_concepts, pair, At, kind_of}
 use Rattle.sheet.specs.Finds.{size, total_from, total}
-use Rattle.sheet.specs.Sheets.{Added, Holds, place, Makes}
+use Rattle.meaning.specs.Marks.{Added, Adds}
+use Rattle.sheet.specs.Sheets.{Holds, place}
 use Rattle.rules.proofs.Members.{in_from, out_from, has_is, has_of, member_in, member_out}
 use Rattle.rules.proofs.Able.{low_of}
 use Rattle.sheet.proofs.Theory.{split, known}
@@ -164,26 +167,57 @@ unfolding places_of some
 many_places rows s = all_many rows s
 
 module _ (rows : Rows) (n : ℕ) (next : List ConceptSet) (h : Holds (Added (kind_of rows) n) next) where
-  pub makes : (m : ℕ) → m ≡ total next most_states → Makes rows n m
-  makes m e = record { places = places_of next (line_length * most_states); rising = rising_places next (line_length * most_states); are = λ p. (to p, from p); many = many_places next most_states ∙ sym e }
-    where
-      to : (p : ℕ) → p ∈ places_of next (line_length * most_states) → (s t B : ℕ) × Added (kind_of rows) n s t B × (place s t B ≡ p)
-      to p i =
-          let w = out_places next (line_length * most_states) p i in
-          let l = w.0 in
-          let q : p / most_concepts ≡ pair (p / line_length) (p / most_concepts % most_states) = omega arith in
-          let a = w.1 in
-          (p / line_length, p / most_concepts % most_states, p % most_concepts, (h.at (p / line_length) (p / most_concepts % most_states) (p % most_concepts) (omega arith) (omega arith) (omega arith)).0 (rw q at a), omega arith)
+  abbrev Triple : Type 0
+  Triple = ℕ × ℕ × ℕ
 
-      from : (p : ℕ) → (s t B : ℕ) × Added (kind_of rows) n s t B × (place s t B ≡ p) → p ∈ places_of next (line_length * most_states)
-      from p (s, t, B, a, q) =
+  -- the mark at a place
+  abbrev mark_at : ℕ → Triple
+  mark_at p = (p / line_length, p / most_concepts % most_states, p % most_concepts)
+
+  marks_of : List Triple
+  marks_of = map mark_at (places_of next (line_length * most_states))
+
+  pub adds : (m : ℕ) → m ≡ total next most_states → Adds (kind_of rows) n m
+  unfolding marks_of
+  adds m e = record {
+    marks = marks_of;
+    once = distinct-map mark_at (places_of next (line_length * most_states)) (λ p q i j g. one p q g) (rising-distinct _ (rising_places next (line_length * most_states)));
+    are = λ s t B. (to s t B, from s t B);
+    many = length-map (places_of next (line_length * most_states)) mark_at ∙ (many_places next most_states ∙ sym e);
+  }
+    where
+      one : (p q : ℕ) → mark_at p ≡ mark_at q → p ≡ q
+      one p q g =
+          let a = ap (λ (x : Triple). x.0) g in
+          let b = ap (λ (x : Triple). x.1) g in
+          let d = ap (λ (x : Triple). x.2) g in
+          omega (arith, a, b, d)
+
+      to : (s t B : ℕ) → (s, t, B) ∈ marks_of → Added (kind_of rows) n s t B
+      to s t B i = let v = map-out mark_at (places_of next (line_length * most_states)) i in there s t B v.0 v.1 v.2
+        where
+          there : (s t B p : ℕ) → p ∈ places_of next (line_length * most_states) → (s, t, B) ≡ mark_at p → Added (kind_of rows) n s t B
+          there s t B p i e =
+              let w = out_places next (line_length * most_states) p i in
+              let l = w.0 in
+              let q : p / most_concepts ≡ pair (p / line_length) (p / most_concepts % most_states) = omega arith in
+              let a = w.1 in
+              let x = (h.at (p / line_length) (p / most_concepts % most_states) (p % most_concepts) (omega arith) (omega arith) (omega arith)).0 (rw q at a) in
+              rw (ap (λ (x : Triple). x.0) e, ap (λ (x : Triple). x.1) e, ap (λ (x : Triple). x.2) e) x
+
+      from : (s t B : ℕ) → Added (kind_of rows) n s t B → (s, t, B) ∈ marks_of
+      from s t B a =
           let l = low_of rows s t B (mark-markable (kind_of rows) (suc n) s t B a.then) in
           let hs = l.from in
           let ht = l.to in
           let hB = l.of in
+          let p = place s t B in
           let d : p / most_concepts ≡ pair s t = omega arith in
           let r : p % most_concepts ≡ B = omega arith in
-          in_places next (line_length * most_states) p (omega arith) (rw (d, r) ((h.at s t B hs ht hB).1 a))
+          let u : p / line_length ≡ s = omega arith in
+          let v : p / most_concepts % most_states ≡ t = omega arith in
+          let i = map-in mark_at (in_places next (line_length * most_states) p (omega arith) (rw (d, r) ((h.at s t B hs ht hB).1 a))) in
+          rw (u, v, r) at i
 
   -- nothing is added exactly when one more round leaves the sheet as it is
   module _ (sheet : List ConceptSet) (hs : Holds (Mark (kind_of rows) n) sheet) where

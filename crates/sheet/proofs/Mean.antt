@@ -1,15 +1,19 @@
 -- What the sheet of the rows means: with rows that say what a collection says, rounds, ends and areas are the collection's.
-use Rattle.std.specs.Prelude.{◌≡◌, ◌<◌, ◌≤◌, ℕ, suc}
-use Rattle.std.proofs.Common.{arith}
+use Rattle.std.specs.Prelude.{◌≡◌, refl, ◌<◌, ◌≤◌, ℕ, suc, map}
+use Rattle.std.proofs.Common.{sym, ap, ◌∙◌, arith}
+use Rattle.std.proofs.lemmas.List.{length-map}
 use Rattle.std.proofs.Math.Decide.{dec_lt}
 use Rattle.kinds.specs.declared.State.{State}
 use Rattle.kinds.specs.declared.Concept.{Concept}
 use Rattle.kinds.specs.Kinds.{state, number_of, concept_of, number-concept, concept-number, CountsFit}
+use Rattle.laws.specs.Member.{◌∈◌, map-in, map-out}
+use Rattle.laws.specs.Distinct.{distinct-map}
 use Rattle.laws.specs.Rounds.{least-same}
 use Rattle.meaning.specs.Collection.{Collection}
 use Rattle.meaning.specs.Kind.{Kind}
 use Rattle.meaning.specs.Lite.{lite}
 use Rattle.meaning.specs.Sheet.{Mark, Unchanged, Needed}
+use Rattle.meaning.specs.Marks.{Added, Adds}
 use Rattle.meaning.specs.Layout as layout
 use Rattle.meaning.proofs.Declared.{concept-out}
 use Rattle.meaning.proofs.SheetLaws.{mark-markable}
@@ -18,7 +22,7 @@ use Rattle.rules.specs.Rows.{kind_of}
 use Rattle.rules.specs.RowsOf.{RowsOf}
 use Rattle.rules.proofs.Same.{mark_to, mark_from}
 use Rattle.sheet.specs.Sheets.{place}
-use Rattle.sheet.specs.Meant.{NeededMeans, AreaMeans}
+use Rattle.sheet.specs.Meant.{NeededMeans, AreaMeans, CountsMean}
 
 module _ (𝓒 : Collection) (fit : CountsFit 𝓒.counts) (rows : Rows) (r : RowsOf 𝓒 rows) where
   abbrev K : Kind
@@ -68,3 +72,50 @@ module _ (𝓒 : Collection) (fit : CountsFit 𝓒.counts) (rows : Rows) (r : Ro
 
       from : (p : ℕ) → (s t : State) × (B : Concept) × Mark L n s t B × (layout.place s t B ≡ p) → (s t B : ℕ) × Mark K n s t B × (place s t B ≡ p)
       from p (s, t, B, m, e) = (s.0, t.0, number_of B, mark_back n s t B m, omega (arith, e))
+
+  -- a mark of the rows, as one of the collection
+  abbrev of_rows : ℕ × ℕ × ℕ → State × State × Concept
+  of_rows m = (state m.0, state m.1, concept_of m.2)
+
+  abbrev back : State × State × Concept → ℕ × ℕ × ℕ
+  back m = (m.0.0, m.1.0, number_of m.2)
+
+  same_back : (p q : ℕ × ℕ × ℕ) → of_rows p ≡ of_rows q → p ≡ q
+  same_back (s, t, B) (s₁, t₁, B₁) e =
+      let a = ap (λ (x : ℕ × ℕ × ℕ). x.2) (ap back e) in
+      let g : B ≡ B₁ = sym (number-concept B) ∙ a ∙ number-concept B₁ in
+      rw (ap (λ (x : ℕ × ℕ × ℕ). x.0) (ap back e), ap (λ (x : ℕ × ℕ × ℕ). x.1) (ap back e), g) refl
+
+  added_to : (n s t B : ℕ) → Added K n s t B → Added L n (state s) (state t) (concept_of B)
+  added_to n s t B a = record { then = mark_to 𝓒 rows r (suc n) s t B a.then; before = λ m. a.before (mark_from 𝓒 rows r n s t B m) }
+
+  added_back : (n : ℕ) (s t : State) (B : Concept) → Added L n s t B → Added K n s.0 t.0 (number_of B)
+  added_back n s t B a =
+      let c = concept-number 𝓒.counts fit.names B (concept-out 𝓒.counts B (mark-markable L (suc n) s t B a.then).of) in
+      record { then = mark_back (suc n) s t B a.then; before = λ m. let x = mark_to 𝓒 rows r n s.0 t.0 (number_of B) m in a.before (rw c at x) }
+
+  same_adds : (n m : ℕ) → Adds K n m → Adds L n m
+  same_adds n m a = record {
+    marks = map of_rows a.marks;
+    once = distinct-map of_rows a.marks (λ p q i j e. same_back p q e) a.once;
+    are = λ s t B. (to s t B, from s t B);
+    many = length-map a.marks of_rows ∙ a.many;
+  }
+    where
+      to : (s t : State) (B : Concept) → (s, t, B) ∈ map of_rows a.marks → Added L n s t B
+      to s t B i = let w = map-out of_rows a.marks i in there w.0 w.1 w.2
+        where
+          there : (p : ℕ × ℕ × ℕ) → p ∈ a.marks → (s, t, B) ≡ of_rows p → Added L n s t B
+          there (s₁, t₁, B₁) i e =
+              let x = added_to n s₁ t₁ B₁ ((a.are s₁ t₁ B₁).0 i) in
+              rw (ap (λ (x : State × State × Concept). x.0) e, ap (λ (x : State × State × Concept). x.1) e, ap (λ (x : State × State × Concept). x.2) e) x
+
+      from : (s t : State) (B : Concept) → Added L n s t B → (s, t, B) ∈ map of_rows a.marks
+      from s t B x =
+          let c = concept-number 𝓒.counts fit.names B (concept-out 𝓒.counts B (mark-markable L (suc n) s t B x.then).of) in
+          let i = map-in of_rows ((a.are s.0 t.0 (number_of B)).1 (added_back n s t B x)) in
+          rw c at i
+
+  -- THEOREM: and rounds add the same numbers of marks
+  pub same_counts : CountsMean 𝓒 rows
+  same_counts n counts c = record { long = c.long; each = λ k l. same_adds k _ (c.each k l) }

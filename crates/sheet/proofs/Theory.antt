@@ -12,7 +12,8 @@ use Rattle.rules.specs.declared.rows.Rows.{Rows}
 use Rattle.rules.specs.Rows.{most_concepts, pair, At, kind_of, Gets}
 use Rattle.rules.proofs.Able.{Low, low_of, may_of, of_may}
 use Rattle.sheet.specs.Finds.{Turns, Joins, Hangs, RowsOf, Blank, IsTurn, Settled, First, FirstTurn}
-use Rattle.sheet.specs.Sheets.{Added, Holds}
+use Rattle.meaning.specs.Marks.{Added}
+use Rattle.sheet.specs.Sheets.{Holds}
 use Rattle.sheet.specs.Meant.{Uses, first, second, child_of, IsKnown, AddsByNew}
 
 -- ---- any rules' kind

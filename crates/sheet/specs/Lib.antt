@@ -1,5 +1,6 @@
 pub mod Finds
 pub mod Sheets
 pub mod Ends
+pub mod Heard
 pub mod Areas
 pub mod Meant

@@ -15,7 +15,8 @@ use Rattle.sheet.specs.declared.allowed.Ran.{Ran}
 use Rattle.sheet.specs.declared.closing.Closing.{Closing}
 use Rattle.sheet.specs.Areas.{LaysMarks}
 use Rattle.sheet.specs.Ends.{Ended, rounds_made}
-use Rattle.sheet.specs.Sheets.{Added, IsRound}
+use Rattle.meaning.specs.Marks.{Added, RoundCounts}
+use Rattle.sheet.specs.Sheets.{IsRound}
 
 -- ---- one outcome
 
@@ -34,7 +35,7 @@ pub record SameRound (v w : Closing) : Type 0 where
   pub sheet : v.sheet ≡ w.sheet
   pub next : v.next.marks.rows ≡ w.next.marks.rows
 
--- what `close` answers, and leaves in both areas
+-- what rounds answer, and what they leave in both areas
 pub record Closes (rows : Rows) (allowance : ℕ) (r : Ran) (first second : List ℕ) : Type 0 where
   pub ended : Ended rows allowance r
   pub sheet : LaysMarks (Mark (kind_of rows) (rounds_made allowance r)) first
@@ -75,3 +76,9 @@ module _ (𝓒 : Collection) (rows : Rows) where
   AreaMeans =
       (n : ℕ) (area : List ℕ) → LaysMarks (Mark (kind_of rows) n) area
       → Lays (Mark (lite 𝓒) n) area
+
+  -- and rounds add the same numbers of marks
+  abbrev pub CountsMean : Type 0
+  CountsMean =
+      (n : ℕ) (counts : List ℕ) → RoundCounts (kind_of rows) n counts
+      → RoundCounts (lite 𝓒) n counts

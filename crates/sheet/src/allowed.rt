@@ -1,12 +1,14 @@
 // Rounds against an allowance.
 
-ghost use Rattle.meaning.specs.Sheet.{Mark};
+ghost use Rattle.std.specs.Prelude.{IfOk, IfErr};
+ghost use Rattle.meaning.specs.Marks.{RoundCounts};
 ghost use Rattle.rules.specs.Rows.{kind_of};
 ghost use Rattle.sheet.specs.Sheets.{IsRound};
 ghost use Rattle.sheet.specs.Ends.{Ended, rounds_made};
+ghost use Rattle.sheet.specs.Heard.{ToldOf, FailedGoing};
 
 use crate::closing::Closing;
-use kinds::Rounds;
+use kinds::{RoundListener, Rounds};
 use rules::Rows;
 
 /// How rounds end: a sheet that no longer changes after so many, or an allowance spent before.
@@ -17,22 +19,35 @@ pub enum Ran {
 }
 
 impl Closing {
-    /// Rounds from round 0 on, until one more would add nothing or the allowance is spent.
-    pub fn run(&mut self, rows: &Rows, allowance: Rounds) -> Ran
-        ensures ended { Ended rows.now allowance result }
-        ensures sheet { IsRound rows.now (rounds_made allowance result) self.new }
+    /// Rounds from round 0 on, until one more would add nothing or the allowance is spent. The
+    /// listener is told of each, as it is made; where it fails, no other round is made.
+    pub fn run<L: RoundListener>(
+        &mut self,
+        rows: &Rows,
+        allowance: Rounds,
+        listener: &mut L,
+    ) -> Result<Ran, L::Error>
+        ensures ended { IfOk result (Ended rows.now allowance) }
+        ensures sheet { IfOk result (λ ran.
+            IsRound rows.now (rounds_made allowance ran) self.new) }
+        ensures told { IfOk result (λ ran.
+            ToldOf L.hears (RoundCounts (kind_of rows.now) (rounds_made allowance ran))
+            listener.old listener.new) }
+        ensures failed { IfErr result (λ e.
+            FailedGoing L.hears L.fails rows.now allowance listener.old e listener.new) }
     {
         self.start(rows);
         let mut n: Rounds = 0;
         loop {
             if self.is_closed() {
-                return Ran::Needed(n);
+                return Ok(Ran::Needed(n));
             }
             if n == allowance {
-                return Ran::Spent;
+                return Ok(Ran::Spent);
             }
-            self.advance(rows);
+            let added = self.advance(rows);
             n += 1;
+            listener.round_made(n, added)?;
         }
     }
 }

@@ -1,19 +1,17 @@
 // Where a mark stands in an area: a byte to a mark. Nothing else knows it.
 
-ghost use Rattle.std.specs.Prelude.{◌≡◌, ◌+◌, ◌≤◌, length};
+ghost use Rattle.std.specs.Prelude.{ℕ, ◌≡◌, ◌+◌, ◌≤◌, length};
 ghost use Rattle.meaning.specs.Sheet.{Mark};
 ghost use Rattle.rules.specs.Rows.{kind_of, most_concepts};
+ghost use Rattle.rules.specs.declared.rows.Rows.{Rows as TheRows};
 ghost use Rattle.sets.specs.Bits.{Has};
 ghost use Rattle.sheet.specs.Sheets.{IsRound};
-ghost use Rattle.sheet.specs.Ends.{Ended, rounds_made};
 ghost use Rattle.meaning.specs.Layout.{area_length, zeros};
 ghost use Rattle.sheet.specs.Areas.{byte_bits, LaysRows, LaysMarks, Laid};
 
 use crate::Sheet;
-use crate::allowed::Ran;
 use crate::closing::Closing;
-use kinds::{Concept, Rounds, State};
-use rules::Rows;
+use kinds::{Concept, State};
 use sets::ConceptSet;
 
 /// The bytes of an area.
@@ -56,21 +54,14 @@ pub fn lay(sheet: &Sheet, area: &mut [u8; AREA])
     }
 }
 
-/// Rounds against an allowance, and both areas: the first is their sheet, the second is cleared.
-pub fn close(
-    closing: &mut Closing,
-    rows: &Rows,
-    allowance: Rounds,
-    first: &mut [u8; AREA],
-    second: &mut [u8; AREA],
-) -> Ran
-    ensures ended { Ended rows.now allowance result }
-    ensures sheet { IsRound rows.now (rounds_made allowance result) closing.new }
-    ensures first { LaysMarks (Mark (kind_of rows.now) (rounds_made allowance result)) first.new }
-    ensures second { second.new ≡ zeros }
-{
-    let ran = closing.run(rows, allowance);
-    lay(&closing.sheet, first);
-    second.fill(0);
-    ran
+impl Closing {
+    /// The first area is left the sheet, and the second is cleared.
+    pub fn leave(&self, first: &mut [u8; AREA], second: &mut [u8; AREA])
+        ensures first { (rows : TheRows) (n : ℕ) → IsRound rows n self.now
+            → LaysMarks (Mark (kind_of rows) n) first.new }
+        ensures second { second.new ≡ zeros }
+    {
+        lay(&self.sheet, first);
+        second.fill(0);
+    }
 }

@@ -9,7 +9,7 @@ use crate::Sheet;
 use crate::fresh::Fresh;
 use crate::hanging::hangs;
 use crate::joining::{joins, put};
-use kinds::State;
+use kinds::{MarkCount, State};
 use rules::Rows;
 use sets::ConceptSet;
 
@@ -33,7 +33,8 @@ impl Closing {
     ghost use Rattle.meaning.specs.Sheet.{Unchanged};
     ghost use Rattle.rules.specs.Rows.{kind_of};
     ghost use Rattle.rules.specs.declared.rows.Rows.{Rows as TheRows};
-    ghost use Rattle.sheet.specs.Sheets.{IsRound, Makes};
+    ghost use Rattle.meaning.specs.Marks.{Adds};
+    ghost use Rattle.sheet.specs.Sheets.{IsRound};
 
     /// A sheet with no mark, before any round.
     pub fn new() -> Closing {
@@ -52,10 +53,11 @@ impl Closing {
     }
 
     /// One round. How many marks it added.
-    pub fn advance(&mut self, rows: &Rows) -> u32
+    pub fn advance(&mut self, rows: &Rows) -> MarkCount
         ensures round { (n : ℕ) → IsRound rows.now n self.old
             → IsRound rows.now (n + 1) self.new }
-        ensures added { (n : ℕ) → IsRound rows.now n self.old → Makes rows.now n result }
+        ensures added { (n : ℕ) → IsRound rows.now n self.old
+            → Adds (kind_of rows.now) n result }
     {
         let added = self.next.many;
         round(&mut self.sheet, &mut self.next, &mut self.found, rows);

@@ -7,7 +7,7 @@ ghost use Rattle.sheet.specs.Finds.{Lines, LineOf, total, total_from};
 
 use crate::fresh::Marks;
 use crate::{LineSets, Sheet};
-use kinds::State;
+use kinds::{MarkCount, State};
 use sets::ConceptSet;
 
 pub(crate) fn line_of(rows: &Sheet, s: usize) -> ConceptSet
@@ -29,7 +29,7 @@ pub(crate) fn put_lines(lines: &mut LineSets, rows: &Sheet)
     }
 }
 
-fn count_line(rows: &Sheet, line: ConceptSet, s: usize) -> u32
+fn count_line(rows: &Sheet, line: ConceptSet, s: usize) -> MarkCount
     requires from { s < most_states }
     requires line { LineOf rows.now s line.0 }
     ensures count { result ≡ total_from rows.now s most_states }
@@ -40,12 +40,12 @@ fn count_line(rows: &Sheet, line: ConceptSet, s: usize) -> u32
     }
     let mut n = 0;
     for t in 0..State::NUMBERS {
-        n += rows[State::NUMBERS * s + t].len();
+        n += rows[State::NUMBERS * s + t].len() as MarkCount;
     }
     n
 }
 
-pub(crate) fn count(marks: &Marks) -> u32
+pub(crate) fn count(marks: &Marks) -> MarkCount
     requires { Lines marks.now.rows marks.now.lines }
     ensures { result ≡ total marks.now.rows most_states }
 {

@@ -7,7 +7,7 @@ ghost use Rattle.sheet.specs.Finds.{Lines, Settled, total};
 use crate::counting::{count, put_lines};
 use crate::settling::settle;
 use crate::{LineSets, Sheet};
-use kinds::State;
+use kinds::{MarkCount, State};
 use rules::Rows;
 use sets::ConceptSet;
 
@@ -27,7 +27,7 @@ pub struct Fresh {
     pub marks: Marks,
 
     /// How many they are.
-    pub many: u32,
+    pub many: MarkCount,
 
     ghost lined: { Lines marks.rows marks.lines },
     ghost counted: { many ≡ total marks.rows most_states },
@@ -59,7 +59,7 @@ impl Fresh {
 }
 
 // All of it in one call, since none of it fits the rest before the end.
-fn fill(marks: &mut Marks, many: &mut u32, sheet: &Sheet)
+fn fill(marks: &mut Marks, many: &mut MarkCount, sheet: &Sheet)
     ensures rows { marks.new.rows ≡ sheet.now }
     ensures lines { Lines marks.new.rows marks.new.lines }
     ensures many { many.new ≡ total marks.new.rows most_states }
@@ -69,7 +69,7 @@ fn fill(marks: &mut Marks, many: &mut u32, sheet: &Sheet)
     *many = count(marks);
 }
 
-fn refill(marks: &mut Marks, many: &mut u32, found: &mut Sheet, sheet: &Sheet, rows: &Rows)
+fn refill(marks: &mut Marks, many: &mut MarkCount, found: &mut Sheet, sheet: &Sheet, rows: &Rows)
     requires { Lines marks.old.rows marks.old.lines }
     ensures settled { Settled rows.now sheet.now most_states found.old found.new marks.new.rows }
     ensures lines { Lines marks.new.rows marks.new.lines }

@@ -3,6 +3,7 @@ ghost use Rattle.std.specs.Prelude.{◌≡◌, ℕ, List};
 ghost use Rattle.kinds.specs.Kinds.{CountsFit};
 ghost use Rattle.laws.specs.Once.{AtMostOne};
 ghost use Rattle.meaning.specs.Collection.{Collection};
+ghost use Rattle.meaning.specs.Marks.{Adds};
 ghost use Rattle.meaning.specs.Sheet.{Mark};
 ghost use Rattle.rules.specs.declared.rows.Rows.{Rows};
 ghost use Rattle.rules.specs.Rows.{kind_of};
@@ -12,9 +13,8 @@ ghost use Rattle.sheet.specs.declared.allowed.Ran.{Ran};
 ghost use Rattle.sheet.specs.declared.closing.Closing.{Closing};
 ghost use Rattle.sheet.specs.Areas.{LaysRows, LaysMarks};
 ghost use Rattle.sheet.specs.Ends.{Ended};
-ghost use Rattle.sheet.specs.Sheets.{Makes};
 ghost use Rattle.sheet.specs.Meant.{HasRound, SameRound, Closes};
-ghost use Rattle.sheet.specs.Meant.{IsKnown, AddsByNew, NeededMeans, AreaMeans};
+ghost use Rattle.sheet.specs.Meant.{IsKnown, AddsByNew, NeededMeans, AreaMeans, CountsMean};
 
 use meaning::sheet::AnyKind;
 
@@ -22,7 +22,7 @@ use meaning::sheet::AnyKind;
 pub fn unique()
     ensures one_round { (rows : Rows) (n : ℕ) (v w : Closing)
         → HasRound rows n v → HasRound rows n w → SameRound v w }
-    ensures one_number { (rows : Rows) (n : ℕ) → AtMostOne (Makes rows n) }
+    ensures one_number { (rows : Rows) (n : ℕ) → AtMostOne (Adds (kind_of rows) n) }
     ensures one_end { (rows : Rows) (allowance : ℕ) → AtMostOne (Ended rows allowance) }
     ensures one_area { (rows : Rows) (n : ℕ) → AtMostOne (LaysMarks (Mark (kind_of rows) n)) }
     ensures one_laying { (sheet : List ConceptSet) → AtMostOne (LaysRows sheet) }
@@ -38,4 +38,6 @@ pub fn meant<K: AnyKind>()
         → NeededMeans c rows }
     ensures area_means { (c : Collection) (rows : Rows) → CountsFit c.counts → RowsOf c rows
         → AreaMeans c rows }
+    ensures counts_mean { (c : Collection) (rows : Rows) → CountsFit c.counts → RowsOf c rows
+        → CountsMean c rows }
 {}

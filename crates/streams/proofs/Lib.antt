@@ -4,3 +4,4 @@ pub mod LinesLaws
 pub mod Held
 pub mod FirstLine
 pub mod Parts
+pub mod Placed

@@ -1,4 +1,6 @@
 pub mod Lines
 pub mod Gives
 pub mod Takes
+pub mod Pieces
+pub mod Puts
 pub mod Laws

@@ -2,7 +2,7 @@
 // pass such an error on, and cannot make one. Lines are read and bytes are written through buffers of a fixed size.
 #![tactic(auto)]
 
-ghost use Rattle.std.specs.Prelude.{◌≡◌, ◌<◌, ℕ, List, Option, IfOk, IfErr, ⊤, length};
+ghost use Rattle.std.specs.Prelude.{◌≡◌, ◌<◌, ℕ, List, [], ◌++◌, Option, OnOk, IfOk, IfErr, ⊤, length};
 ghost use Rattle.std.specs.Io.{ReadsAtMost, WritesAtMost};
 ghost use Rattle.std.specs.Io.KnownBytes.{ReadConsumes, WriteAppends};
 ghost use Rattle.std.specs.declared.io.Error.{Error};
@@ -50,6 +50,33 @@ pub trait Sink {
         ensures some { IfOk result (λ n. 0 < length bytes.now → 0 < n) }
         ensures bytes { WriteAppends (contents self.old) (contents self.new) result bytes.now }
         ensures err { IfErr result fails };
+}
+
+// What takes bytes, one piece after the other: a sink behind its buffer, or a text in memory.
+pub trait Taker {
+    // It takes some bytes, and goes from one to another.
+    ghost takes: { Self → List ℕ → Self → Type 0 };
+
+    // It fails at some bytes, with an error, and goes from one to another.
+    ghost fails: { Self → List ℕ → Error → Self → Type 0 };
+
+    fn put(&mut self, bytes: &[u8]) -> io::Result<()>
+        ensures ok { OnOk result (takes self.old bytes.now self.new) }
+        ensures err { IfErr result (λ e. fails self.old bytes.now e self.new) };
+
+    // No bytes are taken by doing nothing.
+    ghost none: { (a : Self) → takes a [] a };
+
+    // Some, and then more.
+    ghost more: { (a b c : Self) (x y : List ℕ)
+        → takes a x b → takes b y c → takes a (x ++ y) c };
+
+    // Failing at some after others, or before others, is failing at all of them.
+    ghost after: { (a b c : Self) (x y : List ℕ) (e : Error)
+        → takes a x b → fails b y e c → fails a (x ++ y) e c };
+
+    ghost before: { (a b : Self) (x y : List ℕ) (e : Error)
+        → fails a x e b → fails a (x ++ y) e b };
 }
 
 // Of std's readers and writers no more is known than that they may fail. A call that a signal cuts short has done

@@ -1,10 +1,12 @@
 // Bytes on their way to a sink, gathered in a fixed buffer so that few writes serve many small pieces.
 ghost use Rattle.std.specs.Prelude.{◌≡◌, ◌↔◌, ◌+◌, ◌≤◌, [], ◌++◌, IfErr, IsTrue, OnOk, OnErr, length};
+ghost use Rattle.std.proofs.Common.{refl, ◌∙◌};
 ghost use Rattle.std.specs.Io.KnownBytes.{Appends};
 ghost use Rattle.streams.specs.Takes.{TakesBut, TakesStart};
+ghost use Rattle.streams.specs.Pieces.{nothing_comes, more_comes, start_comes, more_would_come};
 ghost use Rattle.streams.specs.declared.TheConstants.{BUFFER};
 
-use crate::{BUFFER, Sink};
+use crate::{BUFFER, Sink, Taker};
 use std::io;
 use std::marker::Model;
 
@@ -68,7 +70,7 @@ impl Output {
     }
 
     // Some bytes put after the others. After an `Err` the sink has taken a start of them all, and the rest is let go.
-    #[tactic(auto, using(crate::proofs::Parts::takes_both, crate::proofs::Parts::starts_before, crate::proofs::Parts::starts_after))]
+    #[tactic(auto, using(crate::proofs::Parts::takes_both, crate::specs::Pieces::starts_before, crate::proofs::Parts::starts_after))]
     pub fn put<K: Sink>(&mut self, sink: &mut K, bytes: &[u8]) -> io::Result<()>
         ensures ok { OnOk result (TakesBut self.new
             (K.contents sink.old) (K.contents sink.new) (self.old ++ bytes.now)) }
@@ -101,4 +103,60 @@ impl Output {
         self.held = 0;
         write_all(sink, &self.bytes[..held])
     }
+}
+
+// A sink behind a buffer of its own.
+#[derive(Drop)]
+pub struct Gathered<'a, K: Sink> {
+    sink: &'a mut K,
+    output: Output,
+}
+
+impl<'a, K: Sink> Gathered<'a, K> {
+    pub fn new(sink: &'a mut K) -> Gathered<'a, K>
+        ensures same_reference { result.sink.ghost_name ≡ sink.entry.ghost_name }
+        ensures sink { result.sink.now ≡ sink.old }
+        ensures empty { result.output ≡ [] }
+    {
+        Gathered {
+            sink,
+            output: Output::new(),
+        }
+    }
+
+    // All that is held back, written.
+    pub fn finish(&mut self) -> io::Result<()>
+        ensures same_reference { self.new.sink.ghost_name ≡ self.old.sink.ghost_name }
+        ensures ok { OnOk result (Appends
+            (K.contents self.old.sink.now) (K.contents self.new.sink.now) self.old.output) }
+        ensures err { OnErr result (TakesStart
+            (K.contents self.old.sink.now) (K.contents self.new.sink.now) self.old.output) }
+        ensures fails { IfErr result K.fails }
+    {
+        self.output.finish(self.sink)
+    }
+}
+
+// The sink has taken all of the bytes but those that are held back, or a start of them where it failed.
+impl<K: Sink> Taker for Gathered<'_, K> {
+    ghost takes = { λ old bytes new. (new.sink.ghost_name ≡ old.sink.ghost_name)
+        × TakesBut new.output (K.contents old.sink.now) (K.contents new.sink.now)
+        (old.output ++ bytes) };
+
+    ghost fails = { λ old bytes e new. (new.sink.ghost_name ≡ old.sink.ghost_name) × K.fails e
+        × TakesStart (K.contents old.sink.now) (K.contents new.sink.now)
+        (old.output ++ bytes) };
+
+    fn put(&mut self, bytes: &[u8]) -> io::Result<()> {
+        self.output.put(self.sink, bytes)
+    }
+
+    ghost none = { λ a. (refl, nothing_comes _ _) };
+
+    ghost more = { λ a b c x y p q. (q.0 ∙ p.0, more_comes _ _ _ _ _ _ _ p.1 _ q.1) };
+
+    ghost after = { λ a b c x y e p q.
+        (q.0 ∙ p.0, q.1, start_comes _ _ _ _ _ _ _ p.1 q.2) };
+
+    ghost before = { λ a b x y e p. (p.0, p.1, more_would_come _ _ a.output x y p.2) };
 }

@@ -8,7 +8,7 @@ use super::tally::Tally;
 use super::{shown, text};
 use crate::collection::Collection;
 use crate::desk::desk;
-use crate::library::{ask, Call};
+use crate::library::{self, ask, Call};
 use crate::model::{known::Known, letter, Answer, Model, TooLarge};
 use crate::numbers::Individual;
 use std::collections::BTreeSet;
@@ -19,6 +19,10 @@ struct Said {
     answers: Vec<(u8, u16)>,
     /// The first area after the call, None where it stays untouched.
     area: Option<Vec<u8>>,
+    /// 2 for a contradiction, 3 where more rounds are needed than allowed, else 0.
+    closed: u8,
+    /// How many marks each worked round added; none after a contradiction.
+    added: Vec<u16>,
     depth: usize,
     /// The marks that search finds are those of the closed sheet.
     marks_agree: bool,
@@ -82,8 +86,14 @@ fn say(asked: &Asked, known: &Known, allowance: u16) -> Result<Said, TooLarge> {
         }
     }
     let area = (!model.is_contradiction()).then(|| sheets[worked].clone());
+    let added = if area.is_some() { letter::added(&sheets[..=worked]) } else { Vec::new() };
+    let closed = match &area {
+        None => 2,
+        Some(_) if needed > worked => 3,
+        Some(_) => 0,
+    };
     let marks_agree = marks(&model) == sheets[needed];
-    Ok(Said { answers, area, depth: model.depth, marks_agree })
+    Ok(Said { answers, area, closed, added, depth: model.depth, marks_agree })
 }
 
 /// What the model answers to every pair of a collection.
@@ -112,6 +122,15 @@ fn library_agrees(asked: &Asked, allowance: u16, said: &Said) -> Result<(), (Str
     let before = (vec![0xAA; letter::AREA], vec![0x55; letter::AREA]);
     let after = said.area.clone().map_or(before.clone(), |sheet| (sheet, vec![0; letter::AREA]));
     let call = Call::of(&asked.collection, allowance);
+    let (mut area, mut spare) = before.clone();
+    let told = library::marks(&call, allowance.into(), &mut area, &mut spare);
+    let expected = (said.closed, said.added.clone());
+    if told != expected || (area, spare) != after {
+        return Err((
+            format!("library {told:?} of rounds, or an area"),
+            format!("to the letter {expected:?}"),
+        ));
+    }
     for (pair, answer) in asked.asks.iter().zip(&said.answers) {
         let (mut area, mut spare) = before.clone();
         let found = ask(&call, [pair.0 .0.into(), pair.1 .0.into()], &mut area, &mut spare);
@@ -126,6 +145,10 @@ fn library_agrees(asked: &Asked, allowance: u16, said: &Said) -> Result<(), (Str
 fn desk_lines(asked: &Asked, input: &[u8], said: &Said) -> String {
     let written = |pair: &(Individual, Individual)| format!("0B{:02X}{:02X}", pair.0 .0, pair.1 .0);
     let mut output = String::new();
+    if !asked.asks.is_empty() {
+        let rounds = said.added.iter().enumerate();
+        output.extend(rounds.map(|(before, added)| format!("8A{:04X}{added:04X}\n", before + 1)));
+    }
     for line in String::from_utf8_lossy(input).lines().filter(|line| line.starts_with("0B")) {
         let mut answers = asked.asks.iter().zip(&said.answers);
         let (_, (number, count)) = answers.find(|(pair, _)| written(pair) == line).expect("it is asked");

@@ -182,6 +182,35 @@ pub fn many_rounds(dice: &mut Dice, down: usize, up: usize, ring: usize) -> Aske
     Asked { collection, asks, allowance, expression: None }
 }
 
+/// More than a thousand rounds are needed and allowed; the allowance may be less than those needed.
+pub fn over_a_thousand(dice: &mut Dice) -> Asked {
+    let (down, up) = dice.pick(&[(7, 9), (9, 7)]);
+    let ring = dice.pick(&[31, 29, 17]);
+    let mut asked = many_rounds(dice, down, up, ring);
+    asked.allowance = Some(dice.pick(&[1_001, 1_050, 1_500, u16::MAX]));
+    asked
+}
+
+/// Most concepts are below one name, which is tested from most states to most, so that round 1 adds thousands of marks.
+pub fn broad(dice: &mut Dice) -> Asked {
+    let (names, roles) = (dice.between(32, 64), dice.between(16, 32));
+    let mut collection = Collection::empty(counts(dice, names, roles, (2, 12), (12, 16)));
+    let amounts =
+        Amounts { facts: 6, role_facts: 12, steps: dice.below(20), finals: 2, ..Amounts::default() };
+    throw_records(dice, &mut collection, &amounts);
+    let (most_concepts, most_steps) = (dice.pick(&[80, 95, 100]), dice.pick(&[70, 95, 100]));
+    let tested = Concept(dice.below(names) as u8);
+    let counts = collection.counts;
+    let below = counts.all_concepts().filter(|_| dice.percent(most_concepts));
+    collection.concept_rules.extend(below.map(|concept| (concept, tested)));
+    let ends = counts.all_states().flat_map(|from| counts.all_states().map(move |to| (from, to)));
+    let tests = ends.filter(|(from, to)| from != to && dice.percent(most_steps));
+    collection.steps.extend(tests.map(|(from, to)| Step::Test { from, name: tested, to }));
+    let allowance = if dice.percent(50) { None } else { Some(dice.below(4) as u16) };
+    let asks = some_pairs(dice, &collection, 12);
+    Asked { collection, asks, allowance, expression: None }
+}
+
 fn counts(
     dice: &mut Dice,
     names: usize,

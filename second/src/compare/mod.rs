@@ -9,6 +9,7 @@ pub mod expressions;
 mod generate;
 mod long;
 mod marks;
+mod outputs;
 mod parts;
 pub mod protocol;
 mod rows;
@@ -51,6 +52,11 @@ const MOST_SHOWN: u64 = 5;
 /// What the desk program can answer with, in an answer or a refusal.
 pub const DESK_NUMBERS: [u8; 14] = [0, 1, 2, 3, 4, 5, 6, 8, 9, 10, 11, 12, 13, 14];
 
+/// What else a case of the desk can be: what it reads, and what it writes.
+pub fn desk_met() -> Vec<&'static str> {
+    [&[parts::SELF_DEALING], &outputs::MET[..]].concat()
+}
+
 /// What the library can answer a pair with.
 const ANSWERS: [u8; 8] = [0, 1, 2, 3, 4, 5, 6, 8];
 
@@ -63,7 +69,7 @@ pub fn compare(options: &Options) -> (u64, u64) {
         None => println!("  skipped: no --desk command was given"),
         Some(words) => {
             let work = || |dice, tally: &mut Tally| parts::desk_part(&words, dice, tally);
-            judge(&mut total, run(options, DESK, work), &DESK_NUMBERS, &[parts::SELF_DEALING]);
+            judge(&mut total, run(options, DESK, work), &DESK_NUMBERS, &desk_met());
         }
     }
     println!("b. the library through its C boundary against module library, with both areas");
@@ -81,12 +87,12 @@ pub fn compare(options: &Options) -> (u64, u64) {
 /// One case put to a library driver.
 type DriverCase = fn(&mut Driver, Dice, &mut Tally) -> Outcome;
 
-/// A part's number, and what must be hit often enough in it: numbers, and what a case can be.
+/// A part's number, and what must be hit often enough in it: numbers, and what else is to be met.
 type Part<'a> = (u64, &'a [u8], &'a [&'static str]);
 
 /// A part in which library drivers answer, each thread with one of its own.
 fn through_drivers(options: &Options, total: &mut (u64, u64), part: Part, case: DriverCase) {
-    let (part, numbers, cases) = part;
+    let (part, numbers, met) = part;
     let Some(words) = options.library.as_deref().and_then(Words::of) else {
         println!("  skipped: no --library command was given");
         return;
@@ -97,7 +103,7 @@ fn through_drivers(options: &Options, total: &mut (u64, u64), part: Part, case: 
         let start = || Driver::start(&words, &ended_badly);
         move |dice, tally: &mut Tally| with_driver(start, &mut driver, |ready| case(ready, dice, tally))
     };
-    judge(total, run(options, part, work), numbers, cases);
+    judge(total, run(options, part, work), numbers, met);
     let ended_badly = ended_badly.into_inner();
     if ended_badly > 0 {
         println!("  FAILED: {ended_badly} library drivers ended with another exit status than 0");
@@ -180,9 +186,9 @@ fn show(difference: &Difference, seed: u64, part: u64, case: u64) {
     println!("  second program:\n{}\n  other:\n{}", head(&difference.expected), head(&difference.found));
 }
 
-fn judge(total: &mut (u64, u64), tally: Tally, numbers: &[u8], cases: &[&'static str]) {
+fn judge(total: &mut (u64, u64), tally: Tally, numbers: &[u8], met: &[&'static str]) {
     tally.print();
-    let seldom = tally.too_seldom(numbers, cases);
+    let seldom = tally.too_seldom(numbers, met);
     for what in &seldom {
         println!("  FAILED: {what} was hit in fewer than {LEAST_HITS} cases");
     }

@@ -5,8 +5,9 @@ use super::child::{run_desk, Driver, Words};
 use super::damage::{damaged, Damaged};
 use super::dice::Dice;
 use super::expressions::{expressed, MOST_MARKS};
-use super::generate::{full, medium, small, Asked};
+use super::generate::{broad, full, medium, over_a_thousand, small, Asked};
 use super::long::long;
+use super::outputs;
 use super::protocol;
 use super::rows::{met, row_lent};
 use super::tally::Tally;
@@ -43,19 +44,22 @@ fn deals_with_itself(lent: &Lent) -> bool {
 fn desk_case(dice: &mut Dice, tally: &mut Tally) -> (Vec<u8>, Option<Damaged>) {
     type Make = fn(&mut Dice) -> Asked;
     let (kind, sound): (&str, Option<Make>) = match dice.below(1_000) {
-        0..=345 => ("small", Some(small)),
-        346..=415 => ("medium", Some(medium)),
-        416..=435 => ("full", Some(full)),
-        // few, since under an emulator each takes seconds
-        436..=439 => ("many rounds", Some(some_many_rounds)),
-        440..=454 => ("long", None),
+        0..=254 => ("small", Some(small)),
+        255..=304 => ("medium", Some(medium)),
+        305..=324 => ("full", Some(full)),
+        325..=328 => ("many rounds", Some(some_many_rounds)),
+        329..=374 => ("over a thousand rounds", Some(over_a_thousand)),
+        375..=419 => ("broad", Some(broad)),
+        420..=434 => ("long", None),
         _ => ("damaged", None),
     };
     tally.kind(kind);
     if let Some(make) = sound {
-        let asked = make(dice);
-        let marks = if kind == "small" { 6 } else { MOST_MARKS };
-        let asked = expressed(dice, asked, marks);
+        let mut asked = make(dice);
+        // These two are made for what their own question does.
+        if !matches!(kind, "over a thousand rounds" | "broad") {
+            asked = expressed(dice, asked, if kind == "small" { 6 } else { MOST_MARKS });
+        }
         if asked.expression.is_some() {
             tally.kind("with an expression");
         }
@@ -70,7 +74,7 @@ fn desk_case(dice: &mut Dice, tally: &mut Tally) -> (Vec<u8>, Option<Damaged>) {
 pub fn desk_part(words: &Words, mut dice: Dice, tally: &mut Tally) -> Outcome {
     let (input, made_for) = desk_case(&mut dice, tally);
     let expected = desk(&input);
-    tally_desk(&expected, tally);
+    outputs::count(&expected, tally);
     if read(&input).is_ok_and(|file| has_equal_ends(&file.collection)) {
         tally.met(SELF_DEALING);
     }
@@ -92,22 +96,6 @@ pub fn desk_part(words: &Words, mut dice: Dice, tally: &mut Tally) -> Outcome {
         Ok(output) => Err(differs(&expected, String::from_utf8_lossy(&output).into_owned())),
         Err(error) => Err(differs(&expected, error.to_string())),
     }
-}
-
-fn tally_desk(output: &[u8], tally: &mut Tally) {
-    let text = String::from_utf8_lossy(output);
-    let field = |line: &str, from, to| usize::from_str_radix(&line[from..to], 16).expect("hexadecimal");
-    let mut hit = BTreeSet::new();
-    for line in text.lines() {
-        hit.insert(field(line, 6, 8) as u8);
-    }
-    match text.lines().next() {
-        Some(line) if line.starts_with("8F") => tally.faulty_line(field(line, 2, 6)),
-        // Answers 0 and 1 of one file all have the same count.
-        Some(line) if field(line, 6, 8) < 2 => tally.rounds(field(line, 8, 12) as u16),
-        _ => {}
-    }
-    hit.into_iter().for_each(|number| tally.number(number));
 }
 
 /// Part (b): the library behind a driver against module `library`, with both areas and the bytes behind them.

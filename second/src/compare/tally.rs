@@ -47,7 +47,7 @@ impl Tally {
         *self.orders.entry((given, also)).or_default() += 1;
     }
 
-    /// Something that a collection, a row of pairs or one of marks was, once for a case.
+    /// Something that a collection, an output, a row of pairs or a row of marks was, once for a case.
     pub fn met(&mut self, met: &'static str) {
         *self.met.entry(met).or_default() += 1;
     }
@@ -82,16 +82,16 @@ impl Tally {
         print_row("faulty line", &self.faulty_lines, range);
         print_row("depth of the model", &self.depths, |depth| depth.to_string());
         print_row("order met", &self.orders, |(given, also)| format!("{given} before {also}"));
-        print_row("cases with", &self.met, |met| met.to_string());
+        print_row("met", &self.met, |met| met.to_string());
     }
 
-    /// Those of the numbers, and of what a case can be, that were hit too seldom.
-    pub fn too_seldom(&self, numbers: &[u8], cases: &[&'static str]) -> Vec<String> {
+    /// Those of the numbers, and of what else is to be met, that were hit too seldom.
+    pub fn too_seldom(&self, numbers: &[u8], met: &[&'static str]) -> Vec<String> {
         let seldom = |hits: Option<&u64>| hits.copied().unwrap_or(0) < LEAST_HITS;
         let numbers = numbers.iter().filter(|number| seldom(self.numbers.get(number)));
-        let cases = cases.iter().filter(|met| seldom(self.met.get(*met)));
+        let met = met.iter().filter(|what| seldom(self.met.get(*what)));
         let numbers = numbers.map(|number| format!("number {number}"));
-        numbers.chain(cases.map(|met| format!("a case with {met}"))).collect()
+        numbers.chain(met.map(|what| format!("\"{what}\""))).collect()
     }
 }
 

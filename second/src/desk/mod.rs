@@ -20,14 +20,21 @@ pub fn fault_line(fault: Fault) -> Vec<u8> {
     written(&[0x8F, high, low, fault.number])
 }
 
-/// 8B, first, second, answer, count (two bytes) for each ask, in the order asked.
+/// 8A, round (two bytes), marks added (two bytes).
+pub fn round_line(round: u16, added: u16) -> Vec<u8> {
+    let ([high, low], [more, less]) = (round.to_be_bytes(), added.to_be_bytes());
+    written(&[0x8A, high, low, more, less])
+}
+
+/// A line for each worked round, once; then 8B, first, second, answer, count (two bytes) for each ask, in the order asked.
 fn answers(file: &File) -> Vec<u8> {
     // Every ask reads the whole file, so the collection is prepared once; without an ask there is no need.
     if file.asks.is_empty() {
         return Vec::new();
     }
     let mut prepared = Prepared::of(&file.collection, file.allowance());
-    let mut output = Vec::new();
+    let rounds = (1..).zip(prepared.added().unwrap_or_default());
+    let mut output: Vec<u8> = rounds.flat_map(|(round, added)| round_line(round, *added)).collect();
     for &(first, second) in &file.asks {
         let (number, count) = prepared.answer(first, second);
         let [high, low] = count.to_be_bytes();

@@ -9,6 +9,7 @@ pub mod rounds;
 pub mod walk;
 
 use crate::desk::read::{read, File};
+use crate::desk::round_line;
 use crate::numbers::{Concept, Individual, State};
 use crate::prepared::Prepared;
 use chain::Chains;
@@ -50,6 +51,16 @@ pub enum Behind {
 }
 
 impl Explanation {
+    /// The line that the desk writes for a round; None without an ask, and for a round that it doesn't work.
+    pub fn round_line(&self, round: usize) -> Option<String> {
+        let worked = 1..=self.rounds.needed().min(self.file.allowance().into());
+        let written = self.clash.is_none() && !self.asks.is_empty() && worked.contains(&round);
+        written.then(|| {
+            let line = round_line(round as u16, self.rounds.added[round - 1].len() as u16);
+            String::from_utf8_lossy(&line).trim_end().to_string()
+        })
+    }
+
     pub fn of(input: &[u8], most_steps: usize) -> Result<Explanation, Faulty> {
         let file = read(input).map_err(|fault| Faulty::of(input, fault))?;
         let chains = Chains::of(&file);

@@ -80,6 +80,13 @@ fn trips(known: &Known, concept: Concept, role: Role, before: &[u8], after: &mut
     }
 }
 
+/// For each sheet after the first, how many places are marked in it and not in the one before.
+pub fn added(sheets: &[Vec<u8>]) -> Vec<u16> {
+    let new =
+        |pair: &[Vec<u8>]| pair[0].iter().zip(&pair[1]).filter(|(before, after)| before < after).count();
+    sheets.windows(2).map(|pair| new(pair) as u16).collect()
+}
+
 /// The sheets of round 0, 1, 2 … up to the first that one more round leaves unchanged.
 pub fn all_rounds(known: &Known) -> Vec<Vec<u8>> {
     let mut sheets = vec![round_zero(known)];

@@ -3,17 +3,21 @@
 use super::rounds::{marks_after, marks_of_round_0, worked};
 use crate::explain::Explanation;
 
-/// first, second, number, count, the marks of round 0, the marks that stand in the first area after the call.
+/// first, second, number, count, the marks of round 0, the marks that stand in the first area after the call, and those
+/// that each worked round added, parted by blanks, or a dash where there is none.
 /// After a contradiction nothing is written there, and both counts of marks are 0.
 pub fn figures(explained: &Explanation) -> String {
-    let (zero, standing) = match explained.clash {
-        Some(_) => (0, 0),
-        None => (marks_of_round_0(explained), marks_after(explained, worked(explained))),
+    let (zero, standing, worked) = match explained.clash {
+        Some(_) => (0, 0, 0),
+        None => (marks_of_round_0(explained), marks_after(explained, worked(explained)), worked(explained)),
     };
+    let added = explained.rounds.added.iter().take(worked).map(|added| added.len().to_string());
+    let added = if worked == 0 { "-".to_string() } else { added.collect::<Vec<String>>().join(" ") };
     let mut text = String::new();
     for asked in &explained.asks {
         let (first, second) = (asked.first.0, asked.second.0);
-        text += &format!("{first}\t{second}\t{}\t{}\t{zero}\t{standing}\n", asked.number, asked.count);
+        let answer = format!("{first}\t{second}\t{}\t{}", asked.number, asked.count);
+        text += &format!("{answer}\t{zero}\t{standing}\t{added}\n");
     }
     text
 }
@@ -33,8 +37,10 @@ mod tests {
 
     #[test]
     fn the_base_collection() {
-        assert_eq!(figures(&explained(B)), "0\t0\t1\t2\t24\t28\n0\t1\t0\t2\t24\t28\n");
-        assert_eq!(figures(&explained(&format!("{B} 030141"))), "0\t0\t2\t0\t0\t0\n0\t1\t2\t0\t0\t0\n");
+        let figures = |words: &str| figures(&explained(words));
+        assert_eq!(figures(B), "0\t0\t1\t2\t24\t28\t2 2\n0\t1\t0\t2\t24\t28\t2 2\n");
+        assert_eq!(figures(&format!("{B} 030141")), "0\t0\t2\t0\t0\t0\t-\n0\t1\t2\t0\t0\t0\t-\n");
+        assert_eq!(figures(&format!("{B} 0C0001")), "0\t0\t3\t1\t24\t26\t2\n0\t1\t3\t1\t24\t26\t2\n");
     }
 
     #[test]
@@ -45,6 +51,8 @@ mod tests {
             let area = prepared.sheet_bytes().expect("no contradiction");
             let standing = area.iter().filter(|byte| **byte == 1).count();
             assert_eq!(marks_after(&explained, worked(&explained)), standing);
+            let added = prepared.added().expect("no contradiction").iter().map(|added| usize::from(*added));
+            assert_eq!(marks_of_round_0(&explained) + added.sum::<usize>(), standing);
         }
     }
 }

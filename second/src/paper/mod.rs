@@ -85,7 +85,13 @@ mod tests {
         says("ways", B, &[ways]);
         says("sheets", B, &["After round 1: 26 marks.", "| 1 | 1 | 1 **2** | 1 | 1 **2** | 1 | 1 |"]);
         says("sheets", B, &["After round 2: 28 marks.", "| 0 | 0 **3** | 0 | 0 **3** | 0 | 0 | 0 |"]);
+        says(
+            "sheets",
+            B,
+            &["Marks added: 2. The desk writes `8A00010002`.", "The desk writes `8A00020002`."],
+        );
         says("rounds", B, &["| 2 | (0, 3, Owner) | 3 | R is signs, Owner ≤ ∃signs;", "rounds needed 2"]);
+        says("rounds", B, &["| 24 + 2 = 26 | `8A00010002` |", "| 26 + 2 = 28 | `8A00020002` |"]);
         says("walks", B, &["| 0 | 3 | yes | 0 in state 0 | the mark (0, 3, Owner) |"]);
         says("behind", B, &["| 2 | 0·signs | 2 | test Deed (line 6) |", "the walk never comes to 1."]);
         says("answers", B, &["| (0, 1) | no, 2 rounds | 0 | 2 | `8B0001000002` |"]);
@@ -96,7 +102,7 @@ mod tests {
         says("empty-records", B, &["| 3 | `024101` |  |"]);
         says("empty-numbers", B, &["| ∃signs |  |  |"]);
         says("empty-orders", B, &["| signs backward |  |  |", "| Deed |  |  |"]);
-        says("empty-sheets", B, &["| 3 |  |  |  |  |  |  |"]);
+        says("empty-sheets", B, &["| 3 |  |  |  |  |  |  |", "Marks added:"]);
         says("empty-walks", B, &["| 0 | 0 |  |  |  |"]);
         says("forms", B, &["## Step 1: the file", "## Step 8: the answers"]);
         for (block, _) in forms::FORMS {
@@ -114,6 +120,17 @@ mod tests {
         says("pairs", FACTS, &["| (1, 0) | holds | line 7 joins them by holds |"]);
         says("exclusions", FACTS, &["| 3 | Owner excludes Deed | 0 | none | none |"]);
         says("exclusions", FACTS, &["| 4 | signs backward excludes holds backward | (1, 0), (…·signs, …), (…, …·(signs backward)) |"]);
+    }
+
+    #[test]
+    fn no_line_of_a_round_that_the_desk_does_not_write() {
+        let spent = format!("{B} 0C0001");
+        for (file, written) in [(&spent[..], 1), (&spent.replace(" 0B0000 0B0001", ""), 0)] {
+            for name in ["sheets", "rounds"] {
+                assert_eq!(text(name, file).matches("`8A").count(), written, "{name} of {file}");
+            }
+            says("sheets", file, &["Marks added: 2."]);
+        }
     }
 
     #[test]

@@ -149,7 +149,8 @@ mod tests {
         let other = file.replace("0D8000410182028183", &frames.join(" "));
         let lines = |file: &str| file.split(' ').map(|line| format!("{line}\n")).collect::<String>();
         let answers = String::from_utf8(desk(lines(&file).as_bytes())).expect("text");
-        assert_eq!(answers, "8B0001010002\n8B0003010002\n8B0303010002\n8B0300000002\n");
+        let rounds = "8A00010003\n8A00020002\n";
+        assert_eq!(answers, format!("{rounds}8B0001010002\n8B0003010002\n8B0303010002\n8B0300000002\n"));
         assert_eq!(desk(lines(&other).as_bytes()), answers.into_bytes());
     }
 }

@@ -7,22 +7,37 @@ use crate::explain::rounds::{Carried, Mark, Reason};
 use crate::explain::Explanation;
 use crate::numbers::{Concept, State};
 
-const ROUNDS: [&str; 5] = ["Round", "Added", "Rule", "Because", "Marks after the round"];
+const ROUNDS: [&str; 6] = ["Round", "Added", "Rule", "Because", "Marks after the round", "The desk writes"];
 
 /// A square for each state and concept, with nothing in it.
 pub fn sheets_form(explained: &Explanation, words: &Words) -> String {
-    squares(explained, words, |_, _| String::new())
+    squares(explained, words, |_, _| String::new()) + "\nMarks added:\n"
 }
 
-/// The sheet after round 0 and after each further round; what the round added is in bold.
+/// The sheet after round 0 and after each further round; what the round added is in bold, and how many at the foot.
 pub fn sheets(explained: &Explanation, words: &Words) -> String {
     let mut text = String::new();
     for round in 0..=worked(explained) {
         let marks = counted(marks_after(explained, round), "mark");
         text += &format!("{}After round {round}: {marks}.\n\n", if round == 0 { "" } else { "\n" });
         text += &squares(explained, words, |from, concept| square(explained, round, from, concept));
+        text += &foot(explained, round);
     }
     text
+}
+
+/// How many marks the round added, and what the desk writes of it; nothing below round 0.
+fn foot(explained: &Explanation, round: usize) -> String {
+    let Some(before) = round.checked_sub(1) else { return String::new() };
+    let added = explained.rounds.added[before].len();
+    let written = explained.round_line(round).map(|line| format!(" The desk writes `{line}`."));
+    format!("\nMarks added: {added}.{}\n", written.unwrap_or_default())
+}
+
+/// `24 + 2 = 26`.
+fn sum(explained: &Explanation, round: usize) -> String {
+    let (before, after) = (marks_after(explained, round - 1), marks_after(explained, round));
+    format!("{before} + {} = {after}", after - before)
 }
 
 fn squares(explained: &Explanation, words: &Words, inside: impl Fn(State, Concept) -> String) -> String {
@@ -83,13 +98,17 @@ pub fn rounds(explained: &Explanation, words: &Words) -> String {
         counted(counts.all_concepts().count(), "concept")
     );
     let nothing = String::new;
-    table.row([0.to_string(), every, nothing(), nothing(), marks_of_round_0(explained).to_string()]);
+    let zero = marks_of_round_0(explained).to_string();
+    table.row([0.to_string(), every, nothing(), nothing(), zero, nothing()]);
     for (before, added) in explained.rounds.added.iter().enumerate().take(worked(explained)) {
+        let round = before + 1;
+        let line = explained.round_line(round).map(|line| format!("`{line}`")).unwrap_or_default();
         for (place, (mark, reason)) in added.iter().enumerate() {
             let (rule, because) = rule(*mark, reason, words);
             let last = place + 1 == added.len();
-            let after = if last { marks_after(explained, before + 1).to_string() } else { nothing() };
-            table.row([(before + 1).to_string(), words.mark(*mark), rule.to_string(), because, after]);
+            let (after, line) =
+                if last { (sum(explained, round), line.clone()) } else { (nothing(), nothing()) };
+            table.row([round.to_string(), words.mark(*mark), rule.to_string(), because, after, line]);
         }
     }
     table.text() + "\n" + &ending(explained)

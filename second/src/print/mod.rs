@@ -139,6 +139,9 @@ fn sheet(explained: &Explanation) -> String {
         for (mark, reason) in added {
             text += &format!("  {mark} {}\n", rule(mark, reason));
         }
+        if let Some(line) = explained.round_line(before + 1) {
+            text += &format!("  the desk writes {line}\n");
+        }
     }
     let given = if explained.file.allowance.is_some() { "given" } else { "as none is given" };
     text + &format!("Rounds needed: {needed}. Allowance: {allowance} ({given}).\n")

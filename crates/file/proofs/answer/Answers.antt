@@ -14,7 +14,8 @@ pub returns-clause-only : goal.returns-clause-only
 returns-clause-only c = λ out w. writes-once w (returns-clause-written c)
 
 pub returns-clause-long : goal.returns-clause-long
-returns-clause-long c = λ fs s. omega (arith, text-long (returns-clause-written c) fs s, length-take c.copy_found.result c.copy_found.new.text, c.copy_found.ensures.within)
+returns-clause-long c = λ fs q s counts t.
+    omega (arith, text-long (returns-clause-written c) fs q s counts t, length-take c.copy_found.result c.copy_found.new.text, c.copy_found.ensures.within)
 
 pub returns-clause-listed : goal.returns-clause-listed
 returns-clause-listed c = λ fs s. listed (returns-clause-written c) fs s

@@ -1,10 +1,10 @@
-use Rattle.std.proofs.Common.{Iter, ap, ◌∙◌, arith}
+use Rattle.std.proofs.Common.{Iter, inl, inr, ⊎_elim, ap, ◌∙◌, arith}
 use Rattle.std.specs.Slice.Iter.{iter_rest}
 use Rattle.kinds.specs.declared.Answer.{Answer}
 use Rattle.tables.specs.declared.ask.Ask.{Ask}
 use Rattle.tables.specs.declared.table.Records.{Records}
-use Rattle.file.proofs.Each.{all_left, ask_in_bytes, answered_next, left_next}
-use Rattle.file.proofs.Turns.{pending_none, pending_more, err_more, err_ended}
+use Rattle.file.proofs.Each.{all_left, ask_in_bytes, answered_next, left_next, none_left}
+use Rattle.file.proofs.Turns.{passed_on, none_done, more_done, all_done, all_from}
 use Rattle.file.proofs.replies.write_answers.Goals as goal
 
 pub loop-ask-init : goal.loop-ask-init
@@ -13,34 +13,44 @@ loop-ask-init g c =
     let rest = ap (λ (i : Iter Answer). iter_rest i) z.second ∙ c.iter-2.ensures.rest in
     let numbers = ap (λ (r : Records Ask). r.table.numbers.now) z.first ∙ ap (λ n. n.now) c.iter.ensures.numbers ∙ c.asks.ensures in
     let first = ap (λ (r : Records Ask). r.next) z.first ∙ c.iter.ensures.first in
-    let left = all_left _ _ _ c.work_out.new.answers c.requires numbers first rest (omega (arith, c.work_out.array_long)) c.work_out.ensures in
-    let pending = pending_none c.args.file.now c.work_out.ensures.question _ (g.K.Sink.contents c.args.sink.now) c.new-output.ensures in
-    rw (c.into_iter-ask-iterator.ensures.into_iter_gives) (record { question = c.work_out.ensures.question; is = c.work_out.ensures.is; here = left; pending = rw first pending })
+    let worked = c.in_ok-work_out.ensures.ok in
+    let left = all_left _ _ _ c.work_out.new.answers _ c.requires numbers first rest (omega (arith, c.work_out.array_long)) worked in
+    rw (c.into_iter-ask-iterator.ensures.into_iter_gives)
+    (record { question = worked.rounds.question; here = left; done = rw first (none_done _ _ worked.rounds) })
 
 pub answer-requires : goal.answer-requires
 answer-requires g c =
     let p = c.in-Some.ensures.steps in
-    ask_in_bytes _ _ _ _ _ _ _ _ c.loop-ask.invariant.here p.0.0 p.0.1 p.1 c.requires c.loop-ask.invariant.is
+    ask_in_bytes _ _ _ _ _ _ _ _ c.loop-ask.invariant.here p.0.0 p.0.1 p.1 c.requires c.loop-ask.invariant.done.is
 
 pub loop-ask-preserved : goal.loop-ask-preserved
 loop-ask-preserved g c =
     let p = c.in-Some.ensures.steps in
-    let line = answered_next _ _ _ _ _ _ _ _ c.loop-ask.invariant.here p.0.0 p.0.1 p.1 _ c.answer.ensures in
-    let pending = pending_more _ _ _ _ _ _ _ c.loop-ask.invariant.pending _ _ line c.in_ok-put.ensures.ok in
+    let v = c.loop-ask.invariant in
+    let line = answered_next _ _ _ _ _ _ _ _ v.here p.0.0 p.0.1 p.1 _ c.answer.ensures in
+    let done = more_done c.args.file.now v.question _ (λ out. g.T.Taker.takes c.args.to.now out c.put.new.self) _ _ line (λ x t. g.met.T.Taker.more _ _ _ x _ t c.in_ok-put.ensures.ok) v.done in
     record {
-      question = c.loop-ask.invariant.question;
-      is = c.loop-ask.invariant.is;
-      here = left_next _ _ _ _ _ _ _ _ c.loop-ask.invariant.here p.0.0 p.0.1 p.1;
-      pending = rw p.0.0.after pending;
+      question = v.question;
+      here = left_next _ _ _ _ _ _ _ _ v.here p.0.0 p.0.1 p.1;
+      done = rw p.0.0.after done;
     }
+
+pub returns-in_err-work_out-clause-err : goal.returns-in_err-work_out-clause-err
+returns-in_err-work_out-clause-err g c =
+    passed_on c.from_residual.result _ _ c.from_residual.ensures.1
+    (all_from c.args.file.now _ _ (λ x y t. g.met.T.Taker.before _ _ x y _ t) 0 (omega arith) (none_done _ _ c.in_err-work_out.ensures.err))
 
 pub returns-in_err-put-clause-err : goal.returns-in_err-put-clause-err
 returns-in_err-put-clause-err g c =
     let p = c.in-Some.ensures.steps in
-    let line = answered_next _ _ _ _ _ _ _ _ c.loop-ask.invariant.here p.0.0 p.0.1 p.1 _ c.answer.ensures in
-    let next = left_next _ _ _ _ _ _ _ _ c.loop-ask.invariant.here p.0.0 p.0.1 p.1 in
-    err_more _ _ _ _ _ _ _ c.loop-ask.invariant.pending c.loop-ask.invariant.is _ _ (omega (arith, p.0.0.after, next.within)) line c.in_err-put.ensures.err
+    let v = c.loop-ask.invariant in
+    let line = answered_next _ _ _ _ _ _ _ _ v.here p.0.0 p.0.1 p.1 _ c.answer.ensures in
+    let next = left_next _ _ _ _ _ _ _ _ v.here p.0.0 p.0.1 p.1 in
+    passed_on c.from_residual-in_err-put.result _ _ c.from_residual-in_err-put.ensures.1
+    (all_from c.args.file.now v.question _ (λ x y t. g.met.T.Taker.before _ _ x y _ t) _ (omega (arith, p.0.0.after, next.within))
+    (more_done c.args.file.now v.question _ _ _ _ line (λ x t. g.met.T.Taker.after _ _ _ x _ _ t c.in_err-put.ensures.err) v.done))
 
-pub returns-clause-err : goal.returns-clause-err
-returns-clause-err g c =
-    err_ended _ _ _ _ _ _ _ c.loop-ask.invariant.pending c.loop-ask.invariant.is _ c.loop-ask.invariant.here.within c.finish.ensures.err
+pub returns-clause-ok : goal.returns-clause-ok
+returns-clause-ok g c =
+    let v = c.loop-ask.invariant in
+    all_done c.args.file.now v.question _ _ (none_left _ _ _ _ v.here (⊎_elim (λ n. inl n.1.0.0) (λ n. inr n.1.0) c.in-None.ensures.steps)) v.done

@@ -2,6 +2,7 @@
 use Rattle.expression.proofs.Clauses.{automaton-once}
 use Rattle.lampsaffron.proofs.Given.{gives-once, row-once}
 use Rattle.lampsaffron.proofs.Made.{made-once}
+use Rattle.lampsaffron.proofs.Rounds.{marks-once}
 use Rattle.lampsaffron.proofs.theorems.unique.Goals as goal
 
 pub returns-clause-one_call : goal.returns-clause-one_call
@@ -9,6 +10,9 @@ returns-clause-one_call c = gives-once
 
 pub returns-clause-one_row : goal.returns-clause-one_row
 returns-clause-one_row c = row-once
+
+pub returns-clause-one_marking : goal.returns-clause-one_marking
+returns-clause-one_marking c = λ p old new new' number number'. marks-once p old number number' new new'
 
 pub returns-clause-one_number : goal.returns-clause-one_number
 returns-clause-one_number c = made-once

@@ -10,7 +10,7 @@ pub loop-t-init : goal.loop-t-init
 loop-t-init c = record { is = counted_none _ _; small = omega arith }
 
 pub overflow_add-n : goal.overflow_add-n
-overflow_add-n c = omega (arith, c.len-n.ensures.few, c.loop-t.invariant.small, c.loop-t-test.true)
+overflow_add-n c = omega (arith, c.len.ensures.few, c.loop-t.invariant.small, c.loop-t-test.true)
 
 pub loop-t-preserved : goal.loop-t-preserved
-loop-t-preserved c = record { is = counted_more _ _ _ _ _ c.loop-t.invariant.is c.len-n.ensures.count; small = omega (arith, c.len-n.ensures.few, c.loop-t.invariant.small) }
+loop-t-preserved c = record { is = counted_more _ _ _ _ _ c.loop-t.invariant.is c.len.ensures.count; small = omega (arith, c.len.ensures.few, c.loop-t.invariant.small) }

@@ -1,14 +1,16 @@
 -- Each contract leaves one value.
+use Rattle.meaning.specs.Marks.{Added}
 use Rattle.meaning.specs.Sheet.{Mark}
+use Rattle.meaning.proofs.MarksLaws.{counted-once}
 use Rattle.rules.specs.Rows.{kind_of}
-use Rattle.sheet.proofs.Once.{round_once, makes_once, ended_once, lays_once, rows_lay_once, runs_once}
+use Rattle.sheet.proofs.Once.{round_once, ended_once, lays_once, rows_lay_once, runs_once}
 use Rattle.sheet.proofs.theorems.unique.Goals as goal
 
 pub returns-clause-one_round : goal.returns-clause-one_round
 returns-clause-one_round c = round_once
 
 pub returns-clause-one_number : goal.returns-clause-one_number
-returns-clause-one_number c = makes_once
+returns-clause-one_number c rows n = counted-once (kind_of rows) (Added (kind_of rows) n)
 
 pub returns-clause-one_end : goal.returns-clause-one_end
 returns-clause-one_end c rows allowance r q = ended_once rows allowance

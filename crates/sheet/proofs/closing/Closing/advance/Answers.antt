@@ -1,7 +1,7 @@
 -- One more round, by what the round before added.
 use Rattle.std.proofs.Common.{add-one, arith}
 use Rattle.sheet.proofs.Theory.{turn_sheet, turn_next}
-use Rattle.sheet.proofs.HowMany.{makes}
+use Rattle.sheet.proofs.HowMany.{adds}
 use Rattle.sheet.proofs.closing.Closing.advance.Goals as goal
 
 pub returns-clause-round : goal.returns-clause-round
@@ -10,4 +10,4 @@ returns-clause-round c = λ n r.
     rw (add-one n) (record { sheet = turn_sheet c.args.rows.now n _ _ r.sheet r.next _ _ t; next = turn_next c.args.rows.now n _ _ r.sheet r.next _ _ t })
 
 pub returns-clause-added : goal.returns-clause-added
-returns-clause-added c = λ n r. makes c.args.rows.now n _ r.next _ (omega (arith, c.args.self.now.next.counted))
+returns-clause-added c = λ n r. adds c.args.rows.now n _ r.next _ (omega (arith, c.args.self.now.next.counted))

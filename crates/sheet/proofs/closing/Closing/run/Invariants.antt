@@ -1,16 +1,20 @@
--- At the head of a turn the rounds are those of n, and each round before changed the sheet.
-use Rattle.std.specs.Prelude.{ℕ, ◌≤◌, ◌<◌, ◌-◌}
-use Rattle.meaning.specs.Sheet.{Unchanged}
+-- At the head of a turn the rounds are those of n, each round before changed the sheet, and the listener was told of each.
+use Rattle.std.specs.Prelude.{ℕ, List, ◌-◌}
+use Rattle.kinds.specs.Told.{Told}
+use Rattle.meaning.specs.Marks.{RoundCounts}
 use Rattle.rules.specs.Rows.{kind_of}
 use Rattle.sheet.specs.Sheets.{IsRound}
+use Rattle.sheet.specs.Ends.{Going}
 use Rattle.sheet.proofs.closing.Closing.run.Given as goal
 
 abbrev pub invariant-loop-allowance : goal.invariant-loop-allowance
-invariant-loop-allowance l = record {
-  within : l.n ≤ l.allowance;
+invariant-loop-allowance g l = record {
+  going : Going l.rows l.allowance l.n;
   round : IsRound l.rows l.n l.self;
-  changing : (m : ℕ) → m < l.n → Unchanged (kind_of l.rows) m → ⊥;
+  counts : List ℕ;
+  are : RoundCounts (kind_of l.rows) l.n counts;
+  told : Told g.L.RoundListener.hears l.fn.listener counts l.listener;
 }
 
 abbrev pub decreases-loop-allowance : goal.decreases-loop-allowance
-decreases-loop-allowance l = l.allowance - l.n
+decreases-loop-allowance g l = l.allowance - l.n

@@ -1,0 +1,103 @@
+-- The lines of rounds: how long they are, each at its place; and the counts that are told are one row, of no more rounds than there may be.
+use Rattle.std.specs.Prelude.{ℕ, zero, suc, ◌+◌, ◌*◌, ◌-◌, ◌<◌, ◌≤◌, ◌≡◌, ◌⊎◌, refl, List, [], ◌∷◌, ◌++◌, length, take, drop, min, slice_index}
+use Rattle.std.proofs.Common.{sym, ap, ◌∙◌, subst, append_assoc, append-nil, length-append, ⊎_elim, arith}
+use Rattle.std.proofs.Math.Nat.{min-le_left, mul-le-mul}
+use Rattle.std.proofs.lemmas.List.{take_at, drop_at, drop-drop}
+use Rattle.laws.specs.Rounds.{least-once}
+use Rattle.meaning.specs.Collection.{Collection, WellFormed}
+use Rattle.meaning.specs.Model.{Contradiction}
+use Rattle.meaning.specs.Sheet.{Needed, Unchanged}
+use Rattle.meaning.specs.Lite.{lite}
+use Rattle.meaning.specs.Marks.{RoundCounts}
+use Rattle.meaning.proofs.MarksLaws.{round-counts-once}
+use Rattle.meaning.proofs.LiteMarks.{lite-most}
+use Rattle.file.specs.Text.{text, round_line}
+use Rattle.file.specs.Rounds.{round_lines, RoundsTold, no-ask, contradiction, rounds}
+use Rattle.file.specs.Told.{round_length}
+
+pub round-length : (round marks : ℕ) → length (round_line round marks) ≡ round_length
+unfolding round_line text
+round-length round marks = refl
+
+pub rounds-length : (before : ℕ) (counts : List ℕ) → length (round_lines before counts) ≡ round_length * length counts
+unfolding round_lines
+rounds-length before [] = refl
+rounds-length before (m ∷ counts) =
+    omega (arith, length-append (round_line (suc before) m) (round_lines (suc before) counts), round-length (suc before) m, rounds-length (suc before) counts)
+
+-- the lines of some rounds, and then those of more
+pub rounds-append : (before : ℕ) (x y : List ℕ) → round_lines before (x ++ y) ≡ round_lines before x ++ round_lines (before + length x) y
+unfolding round_lines
+rounds-append before [] y = ap (λ n. round_lines n y) (omega arith)
+rounds-append before (m ∷ x) y =
+    let later : suc before + length x ≡ before + suc (length x) = omega arith in
+    ap (λ (l : List ℕ). round_line (suc before) m ++ l) (rounds-append (suc before) x y ∙ ap (λ n. round_lines (suc before) x ++ round_lines n y) later)
+    ∙ sym (append_assoc (round_line (suc before) m) (round_lines (suc before) x) _)
+
+pub rounds-last : (counts : List ℕ) (m : ℕ) → round_lines 0 (counts ++ m ∷ []) ≡ round_lines 0 counts ++ round_line (suc (length counts)) m
+unfolding round_lines
+rounds-last counts m =
+    rounds-append 0 counts (m ∷ []) ∙ ap (λ (l : List ℕ). round_lines 0 counts ++ l) (append-nil (round_line (suc (0 + length counts)) m) ∙ ap (λ n. round_line (suc n) m) (omega arith))
+
+-- line k is that of its round
+pub round-is : (before : ℕ) (counts : List ℕ) (k : ℕ) → k < length counts
+    → take round_length (drop (round_length * k) (round_lines before counts)) ≡ round_line (before + k + 1) (slice_index counts k)
+unfolding round_lines
+round-is before [] k h = absurd (omega arith)
+round-is before (m ∷ counts) zero h =
+    let n : before + 0 + 1 ≡ suc before = omega arith in
+    take_at (round_line (suc before) m) (round_lines (suc before) counts) round_length (round-length (suc before) m) ∙ ap (λ r. round_line r m) (sym n)
+round-is before (m ∷ counts) (suc k) h =
+    let line = round_line (suc before) m in
+    let rest = round_lines (suc before) counts in
+    let n : suc before + k + 1 ≡ before + suc k + 1 = omega arith in
+    let far : round_length * suc k ≡ round_length + round_length * k = omega arith in
+    let past : drop (round_length * suc k) (line ++ rest) ≡ drop (round_length * k) rest =
+    ap (λ i. drop i (line ++ rest)) far ∙ sym (drop-drop (round_length * k) round_length (line ++ rest))
+    ∙ ap (drop (round_length * k)) (drop_at line rest round_length (round-length (suc before) m)) in
+    ap (take round_length) past ∙ round-is (suc before) counts k (omega arith) ∙ ap (λ r. round_line r (slice_index counts k)) n
+
+module _ {𝓒 : Collection} {allowance asks : ℕ} where
+  -- THEOREM: one row of counts is told
+  pub told-once : {x y : List ℕ} → RoundsTold 𝓒 allowance asks x → RoundsTold 𝓒 allowance asks y → x ≡ y
+  told-once (no-ask e) (no-ask d) = refl
+  told-once (no-ask e) (contradiction h) = refl
+  told-once (no-ask e) (rounds p sane need c) = absurd (omega (arith, e, p))
+  told-once (contradiction h) (no-ask e) = refl
+  told-once (contradiction h) (contradiction i) = refl
+  told-once (contradiction h) (rounds p sane need c) = absurd (sane h)
+  told-once (rounds p sane need c) (no-ask e) = absurd (omega (arith, e, p))
+  told-once (rounds p sane need c) (contradiction h) = absurd (sane h)
+  told-once (rounds {n = n} {counts = x} p sane need c) (rounds {n = m} {counts = y} q sane' need' d) =
+      let e = least-once (Unchanged (lite 𝓒)) m n need' need in
+      round-counts-once (lite 𝓒) (min n allowance) x y c (subst (λ k. RoundCounts (lite 𝓒) (min k allowance) y) e d)
+
+  module _ {counts : List ℕ} (t : RoundsTold 𝓒 allowance asks counts) where
+    -- THEOREM: none where nothing is asked, and in a contradiction
+    pub none-told : (asks ≡ 0) ⊎ Contradiction 𝓒 → counts ≡ []
+    none-told = ⊎_elim (λ e. told-once t (no-ask e)) (λ h. told-once t (contradiction h))
+
+    -- THEOREM: else those of rounds 1 to the lesser of the rounds needed and the allowance
+    pub rounds-told : 0 < asks → (Contradiction 𝓒 → ⊥) → (n : ℕ) → Needed (lite 𝓒) n → RoundCounts (lite 𝓒) (min n allowance) counts
+    rounds-told some sane n need = by t
+      where
+        by : {x : List ℕ} → RoundsTold 𝓒 allowance asks x → RoundCounts (lite 𝓒) (min n allowance) x
+        by (no-ask e) = absurd (omega (arith, e, some))
+        by (contradiction h) = absurd (sane h)
+        by (rounds {n = m} {counts = x} p sane' need' c) =
+            subst (λ k. RoundCounts (lite 𝓒) (min k allowance) x) (least-once (Unchanged (lite 𝓒)) m n need' need) c
+
+    -- THEOREM: and of no more than 128 × 16 × 15
+    pub few-told : (0 < asks → WellFormed 𝓒) → length counts ≤ 30720
+    few-told fine = by t
+      where
+        by : {x : List ℕ} → RoundsTold 𝓒 allowance asks x → length x ≤ 30720
+        by (no-ask e) = omega arith
+        by (contradiction h) = omega arith
+        by (rounds {n = n} {counts = x} p sane need c) =
+            let ok = fine p in
+            let most = lite-most 𝓒 ok n need (min n allowance) (min-le_left n allowance) x c in
+            let concepts : 𝓒.counts.names + 2 * 𝓒.counts.roles ≤ 128 = omega (arith, ok.counts.names, ok.counts.roles) in
+            let states : 𝓒.counts.states - 1 ≤ 15 = omega (arith, ok.counts.states) in
+            let bound = mul-le-mul (mul-le-mul concepts ok.counts.states) states in
+            omega (arith, most, bound)

@@ -1,0 +1,21 @@
+-- What is told of a file's rounds, before its answers (docs/RULES.md, section 8).
+use Rattle.std.specs.Prelude.{ℕ, suc, ◌<◌, ◌≡◌, List, [], ◌∷◌, ◌++◌, min}
+use Rattle.meaning.specs.Collection.{Collection}
+use Rattle.meaning.specs.Model.{Contradiction}
+use Rattle.meaning.specs.Sheet.{Needed}
+use Rattle.meaning.specs.Lite.{lite}
+use Rattle.meaning.specs.Marks.{RoundCounts}
+use Rattle.file.specs.Text.{round_line}
+
+-- the lines of rounds that added so many marks each, the first of them after so many rounds before
+unfoldable pub round_lines : ℕ → List ℕ → List ℕ
+round_lines before [] = []
+round_lines before (m ∷ counts) = round_line (suc before) m ++ round_lines (suc before) counts
+
+-- how many marks each round added, of the rounds that are told: of a file without an ask and of a
+-- contradiction none, else rounds 1 to the lesser of the rounds needed and the allowance
+pub data RoundsTold (𝓒 : Collection) (allowance asks : ℕ) : List ℕ → Type 0 where
+  no-ask : asks ≡ 0 → RoundsTold 𝓒 allowance asks []
+  contradiction : Contradiction 𝓒 → RoundsTold 𝓒 allowance asks []
+  rounds : {n : ℕ} {counts : List ℕ} → 0 < asks → (Contradiction 𝓒 → ⊥)
+      → Needed (lite 𝓒) n → RoundCounts (lite 𝓒) (min n allowance) counts → RoundsTold 𝓒 allowance asks counts

@@ -1,0 +1,161 @@
+-- The number of the call that tells how many marks each round made, and the row that it leaves.
+use Rattle.std.specs.Prelude.{◌≡◌, ◌≢◌, refl, List, [], ◌∷◌, ◌++◌, ℕ, suc, ◌≤◌, ◌<◌, length, drop, slice_index, slice_set, min}
+use Rattle.std.proofs.Math.Decide.{ℕ_discrete}
+use Rattle.std.proofs.Common.{⊎_elim, sym, ap, ◌∙◌, inl, inr, arith, length-append}
+use Rattle.std.proofs.Math.Seq.{drop-cons, set-append_seam, take-append_seam, drop-append_seam}
+use Rattle.std.proofs.lemmas.List.{length-drop, append_assoc, take-append-drop}
+use Rattle.kinds.specs.declared.Answer.{Answer}
+use Rattle.kinds.specs.Answer.{answer_number}
+use Rattle.kinds.specs.Kinds.{CountsFit}
+use Rattle.kinds.specs.Told.{Told, Failed, none, next}
+use Rattle.laws.specs.First.{fails, holds, first-once}
+use Rattle.meaning.specs.Lite.{lite}
+use Rattle.meaning.specs.Sheet.{Mark}
+use Rattle.meaning.proofs.Demands.{rounds-suffice}
+use Rattle.meaning.proofs.LayoutLaws.{lays-once}
+use Rattle.meaning.proofs.SheetLaws.{rounds-unique}
+use Rattle.index.specs.Preparation.{Preparation, collection_in, HasSheet}
+use Rattle.index.specs.Rounds.{HasRounds, NoRounds}
+use Rattle.index.proofs.ToldOnce.{told-once}
+use Rattle.index.proofs.Unique.{well}
+use Rattle.lampsaffron.specs.Marks.{MarksNumber, WorksRounds, IsFront, Puts, Lent, TellsMarks}
+
+module _ (p : Preparation) (room : ℕ) where
+  -- the number by why there are no rounds, or by what they are
+  pub number-none : CountsFit p.counts → p.allowance ≤ room → {r : Answer} → NoRounds p r → MarksNumber p room (answer_number r)
+  number-none c le (fails n) = absurd (n c)
+  number-none c le (holds a (fails t)) = holds c (holds le (fails t))
+  number-none c le (holds a (holds t (fails n))) = holds c (holds le (holds t (fails n)))
+  number-none c le (holds a (holds t (holds n (fails k)))) = holds c (holds le (holds t (holds n (fails k))))
+  number-none c le (holds a (holds t (holds n (holds k w)))) =
+      rw w.0 (holds c (holds le (holds t (holds n (holds k (fails (λ v. let g = rounds-unique (lite (collection_in p)) v.0 w.1.0 v.1 w.1.1 in omega (arith, g, v.2, w.1.2))))))))
+
+  pub number-has : p.allowance ≤ room → (n : ℕ) → HasRounds p n → MarksNumber p room 0
+  number-has le n h = let f = h.sheet.fits in holds f.counts (holds le (holds f.tables (holds f.numbers (holds h.sheet.sane (holds (n, h.needed, h.allowed) refl)))))
+
+  idles : (number : ℕ) → (number ≡ 0 → ⊥) → (number ≡ 3 → ⊥) → {A : Type 0} → WorksRounds number → A
+  idles number n m (inl e) = absurd (n e)
+  idles number n m (inr e) = absurd (m e)
+
+  -- after 0 and 3 there is a sheet
+  pub worked : {number : ℕ} → MarksNumber p room number → WorksRounds number → HasSheet p
+  worked (fails n) w = idles 4 (λ e. omega arith) (λ e. omega arith) w
+  worked (holds c (fails n)) w = idles 5 (λ e. omega arith) (λ e. omega arith) w
+  worked (holds c (holds le (fails n))) w = idles 5 (λ e. omega arith) (λ e. omega arith) w
+  worked (holds c (holds le (holds t (fails n)))) w = idles 6 (λ e. omega arith) (λ e. omega arith) w
+  worked (holds c (holds le (holds t (holds n (fails k))))) w = idles 2 (λ e. omega arith) (λ e. omega arith) w
+  worked (holds c (holds le (holds t (holds n (holds k r))))) w = record { fits = record { counts = c; tables = t; numbers = n }; sane = k }
+
+  -- and after all else none, where the row has room
+  pub idle : {number : ℕ} → MarksNumber p room number → (WorksRounds number → ⊥) → p.allowance ≤ room → HasSheet p → ⊥
+  idle (fails n) w le s = n s.fits.counts
+  idle (holds c (fails n)) w le s = n le
+  idle (holds c (holds le (fails n))) w l s = n s.fits.tables
+  idle (holds c (holds le (holds t (fails n)))) w l s = n s.fits.numbers
+  idle (holds c (holds le (holds t (holds n (fails k))))) w l s = k s.sane
+  idle (holds c (holds le (holds t (holds n (holds k (fails f)))))) w l s = w (inr refl)
+  idle (holds c (holds le (holds t (holds n (holds k (holds f q)))))) w l s = w (inl q)
+
+  -- 7 is never given
+  pub never-seven : {number : ℕ} → MarksNumber p room number → number ≢ 7
+  never-seven (fails n) e = omega arith
+  never-seven (holds c (fails n)) e = omega arith
+  never-seven (holds c (holds le (fails n))) e = omega arith
+  never-seven (holds c (holds le (holds t (fails n)))) e = omega arith
+  never-seven (holds c (holds le (holds t (holds n (fails k))))) e = omega arith
+  never-seven (holds c (holds le (holds t (holds n (holds k (fails f)))))) e = omega arith
+  never-seven (holds c (holds le (holds t (holds n (holds k (holds f q)))))) e = omega (arith, q)
+
+  -- THEOREM: one number is given
+  pub number-once : (n m : ℕ) → MarksNumber p room n → MarksNumber p room m → n ≡ m
+  number-once = first-once (first-once (first-once (first-once (first-once (first-once (λ n m h k. h ∙ sym k))))))
+
+-- what is put one after the other stands at the front
+module _ {S N : Type 0} (row : S → List ℕ) (told : S → ℕ) (name : S → N) (hears : S → ℕ → ℕ → S → Type 0)
+    (puts : (x : S) (r m : ℕ) (y : S) → hears x r m y → (name y ≡ name x) × Puts m (row x) (told x) (row y) (told y)) where
+  pub record Held (from to : S) (counts : List ℕ) : Type 0 where
+    pub same : name to ≡ name from
+    pub many : told to ≡ length counts
+    pub few : length counts ≤ length (row from)
+    pub is : row to ≡ counts ++ drop (length counts) (row from)
+
+  pub held : {from to : S} {counts : List ℕ} → told from ≡ 0 → Told hears from counts to → Held from to counts
+  held z none = record { same = refl; many = z; few = omega arith; is = refl }
+  held {from = from} z (next {counts = counts} {at = at} {to = to} {m = m} t h) =
+      let v = held z t in
+      let q = puts at (suc (length counts)) m to h in
+      let long = ap length v.is ∙ length-append counts (drop (length counts) (row from)) in
+      let l = length-drop (length counts) (row from) in
+      let r = q.1.room in
+      let few : length counts < length (row from) = omega (arith, v.few, v.many, long, l, r) in
+      let more = length-append counts (m ∷ []) in
+      let rest = ap (λ (x : List ℕ). slice_set (counts ++ x) (length counts) m) (drop-cons (row from) (length counts) 0 few) in
+      let seam = set-append_seam counts (slice_index (row from) (length counts)) (drop (suc (length counts)) (row from)) m in
+      let e : length (counts ++ m ∷ []) ≡ suc (length counts) = omega (arith, more) in
+      record {
+        same = q.0 ∙ v.same;
+        many = omega (arith, q.1.more, v.many, more);
+        few = omega (arith, few, more);
+        is = rw e (q.1.put ∙ (rw (v.is, v.many) refl ∙ (rest ∙ (seam ∙ sym (append_assoc counts (m ∷ []) (drop (suc (length counts)) (row from)))))));
+      }
+
+  pub front : {from to : S} {counts : List ℕ} → Held from to counts → IsFront counts (told to) (row from) (row to)
+  front {from} {to} {counts} h = record {
+    many = h.many;
+    front = rw (h.many, h.is) (take-append_seam counts (drop (length counts) (row from)));
+    rest = rw (h.many, h.is) (drop-append_seam counts (drop (length counts) (row from)));
+  }
+
+  -- where there is a place for each count, the listener does not fail
+  pub no-place : {E : Type 0} {fails : S → ℕ → ℕ → E → S → Type 0} {from to : S} {counts : List ℕ} {e : E}
+      → ((x : S) (r m : ℕ) (e : E) (y : S) → fails x r m e y → length (row x) ≤ told x) → told from ≡ 0 → Failed hears fails from counts e to → length counts ≤ length (row from) → ⊥
+  no-place {from = from} full z f l =
+      let h = held z f.told in
+      let g = full f.at _ _ _ _ f.failed in
+      let long = ap length h.is ∙ length-append f.before (drop (length f.before) (row from)) in
+      let d = length-drop (length f.before) (row from) in
+      let c = ap length f.all ∙ length-append f.before (f.last ∷ []) in
+      omega (arith, g, long, d, h.few, h.many, l, c)
+
+-- no count leaves a row as it was
+pub none-put : (rounds : ℕ) (old new : List ℕ) → IsFront [] rounds old new → new ≡ old
+none-put rounds old new f = let r = f.rest in rw f.many at r
+
+abbrev left : List ℕ → List ℕ → List ℕ → ℕ → Lent
+left a s m r = record { area = a; spare = s; marks = m; rounds = r }
+
+-- THEOREM: all that the call gives and leaves is fixed
+module _ (p : Preparation) (old : Lent) where
+  pub marks-once : (number number' : ℕ) (new new' : Lent) → TellsMarks p old number new → TellsMarks p old number' new' → (number ≡ number') × (new ≡ new')
+  marks-once number number' new new' a b = (e, by (ℕ_discrete number 0) (ℕ_discrete number 3))
+    where
+      e : number ≡ number'
+      e = number-once p (length old.marks) number number' a.number_is b.number_is
+
+      works : WorksRounds number → new ≡ new'
+      works w =
+          let v = rw e at w in
+          let s = worked p (length old.marks) a.number_is w in
+          let n = rounds-suffice (collection_in p) (well p s.fits) in
+          let area = lays-once (Mark (lite (collection_in p)) (min n.0 p.allowance)) new.area new'.area (a.sheet w n.0 n.2) (b.sheet v n.0 n.2) in
+          let spare = a.cleared w ∙ sym (b.cleared v) in
+          let x = a.told w in
+          let y = b.told v in
+          let c = told-once p x.0 y.0 x.1 y.1 in
+          let r = x.2.many ∙ (ap length c ∙ sym y.2.many) in
+          let f = sym (take-append-drop new.rounds new.marks) in
+          let g = take-append-drop new'.rounds new'.marks in
+          let m = rw (x.2.front, x.2.rest, c, r) at f in
+          let m' = rw (y.2.front, y.2.rest) at g in
+          same area spare (m ∙ m') r
+        where
+          same : new.area ≡ new'.area → new.spare ≡ new'.spare → new.marks ≡ new'.marks → new.rounds ≡ new'.rounds → left new.area new.spare new.marks new.rounds ≡ left new'.area new'.spare new'.marks new'.rounds
+          same i j k l = rw (i, j, k, l) refl
+
+      by : Dec (number ≡ 0) → Dec (number ≡ 3) → new ≡ new'
+      by (yes h) d = works (inl h)
+      by (no n) (yes h) = works (inr h)
+      by (no n) (no m) =
+          let idle : WorksRounds number → ⊥ = ⊎_elim n m in
+          let g = rw e at idle in
+          a.kept idle ∙ sym (b.kept g)

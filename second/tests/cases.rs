@@ -1,0 +1,52 @@
+//! The stored run cases (cases/README.md): the second desk writes each output, and their lines of rounds are counted to the letter.
+
+use second::desk::{desk, read::read};
+use second::model::known::Known;
+use second::model::letter;
+use std::path::{Path, PathBuf};
+
+/// Each stored input with its output.
+fn cases() -> Vec<(PathBuf, Vec<u8>, String)> {
+    let folder = Path::new(env!("CARGO_MANIFEST_DIR")).join("../cases");
+    let files =
+        std::fs::read_dir(folder).expect("the stored cases").map(|entry| entry.expect("a file").path());
+    let inputs = files.filter(|path| path.extension().is_some_and(|kind| kind == "in"));
+    let case = |path: PathBuf| {
+        let input = std::fs::read(&path).expect("an input");
+        let output = std::fs::read_to_string(path.with_extension("out")).expect("its output");
+        (path, input, output)
+    };
+    inputs.map(case).collect()
+}
+
+#[test]
+fn every_stored_output_is_written() {
+    for (path, input, output) in cases() {
+        assert_eq!(String::from_utf8(desk(&input)).expect("text"), output, "{}", path.display());
+    }
+}
+
+#[test]
+fn every_line_of_a_round_is_counted_to_the_letter() {
+    let mut lines = 0;
+    for (path, input, output) in cases() {
+        let written: Vec<&str> = output.lines().filter(|line| line.starts_with("8A")).collect();
+        assert!(output.starts_with(&written.join("\n")), "{}", path.display());
+        let Ok(file) = read(&input) else {
+            assert!(written.is_empty(), "{}", path.display());
+            continue;
+        };
+        let contradiction = output.lines().any(|line| &line[6..8] == "02" && line.starts_with("8B"));
+        let added = if file.asks.is_empty() || contradiction {
+            Vec::new()
+        } else {
+            letter::added(&letter::all_rounds(&Known::of(&file.collection)))
+        };
+        let worked = added.iter().take(file.allowance().into()).enumerate();
+        let expected: Vec<String> =
+            worked.map(|(before, added)| format!("8A{:04X}{added:04X}", before + 1)).collect();
+        assert_eq!(written, expected, "{}", path.display());
+        lines += written.len();
+    }
+    assert!(lines > 80, "{lines} lines");
+}
