@@ -1,4 +1,4 @@
-/* The library's calls for C: one pair of individuals asked of a collection, or a row of pairs; how many marks each round of its loop sheet makes; and the tables of a question from an expression. docs/LINKING.md says how to link it. */
+/* The library's calls for C: one pair of individuals asked of a collection, one individual, or a row of pairs; how many marks each round of its loop sheet makes; and the tables of a question from an expression. docs/LINKING.md says how to link it. */
 #ifndef LAMPSAFFRON_H
 #define LAMPSAFFRON_H
 
@@ -46,6 +46,23 @@ uint8_t lampsaffron_ask(
     const uint16_t *steps, size_t steps_len,
     const uint16_t *finals, size_t finals_len,
     uint16_t first, uint16_t second, uint16_t allowance,
+    uint8_t *area, size_t area_len,
+    uint8_t *spare, size_t spare_len,
+    uint16_t *count);
+
+/* The question with one named end: does a path of the question lead from this individual to any element at all, named or not? All else is as
+   for lampsaffron_ask. */
+uint8_t lampsaffron_ask_from(
+    uint16_t names, uint16_t roles, uint16_t individuals, uint16_t states, uint16_t start,
+    const uint16_t *concept_rules, size_t concept_rules_len,
+    const uint16_t *concept_exclusions, size_t concept_exclusions_len,
+    const uint16_t *role_rules, size_t role_rules_len,
+    const uint16_t *role_exclusions, size_t role_exclusions_len,
+    const uint16_t *concept_facts, size_t concept_facts_len,
+    const uint16_t *role_facts, size_t role_facts_len,
+    const uint16_t *steps, size_t steps_len,
+    const uint16_t *finals, size_t finals_len,
+    uint16_t first, uint16_t allowance,
     uint8_t *area, size_t area_len,
     uint8_t *spare, size_t spare_len,
     uint16_t *count);

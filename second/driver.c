@@ -1,5 +1,5 @@
-/* The library driver of PROTOCOL.md: reads a call per line, asks lampsaffron_ask, lampsaffron_ask_all or lampsaffron_expression, writes what
-   they gave and hashes.
+/* The library driver of PROTOCOL.md: reads a call per line, asks lampsaffron_ask, lampsaffron_ask_from, lampsaffron_ask_all or
+   lampsaffron_expression, writes what they gave and hashes.
    No stdio and no heap: only read and write, declared by hand, and static buffers. */
 #include "lampsaffron.h"
 
@@ -23,10 +23,10 @@ static uint8_t marks[MOST_NUMBERS];
 static size_t marks_length;
 static uint16_t made[2][MOST_MADE + GUARD / 2];
 
-/* The letters that a request of another kind than a pair begins with; neither is a digit. */
-enum { ROW = 'R', EXPRESSION = 'M' };
+/* The letters that a request of another kind than a pair begins with; none is a digit. */
+enum { ROW = 'R', ONE = 'L', EXPRESSION = 'M' };
 
-/* What a request says beside the tables and marks. */
+/* What a request says beside the tables and marks; one individual stands first in the pair. */
 struct request {
     int kind;
     uint16_t counts[5], pair[2], allowance;
@@ -132,7 +132,7 @@ static void send_line(void) {
     }
 }
 
-/* What lampsaffron_ask and lampsaffron_ask_all have in common: the counts and the tables. */
+/* What the calls that ask have in common: the counts and the tables. */
 #define LENT(asked) \
     (asked)->counts[0], (asked)->counts[1], (asked)->counts[2], (asked)->counts[3], (asked)->counts[4], \
     tables[0], lengths[0], tables[1], lengths[1], tables[2], lengths[2], tables[3], lengths[3], \
@@ -142,6 +142,15 @@ static void answer_pair(const struct request *asked) {
     uint16_t count = 0xFFFF;
     uint8_t given = lampsaffron_ask(
         LENT(asked), asked->pair[0], asked->pair[1], asked->allowance,
+        areas[0], asked->sizes[0], areas[1], asked->sizes[1], &count);
+    put(given, 2);
+    put(count, 4);
+}
+
+static void answer_one(const struct request *asked) {
+    uint16_t count = 0xFFFF;
+    uint8_t given = lampsaffron_ask_from(
+        LENT(asked), asked->pair[0], asked->allowance,
         areas[0], asked->sizes[0], areas[1], asked->sizes[1], &count);
     put(given, 2);
     put(count, 4);
@@ -174,6 +183,7 @@ static void answer_expression(const struct request *asked) {
 static void answer_with_areas(const struct request *asked) {
     for (int i = 0; i < 2; i++) fill_lent(areas[i], asked->sizes[i], asked->fills[i]);
     if (asked->kind == ROW) answer_row(asked);
+    else if (asked->kind == ONE) answer_one(asked);
     else answer_pair(asked);
     for (int i = 0; i < 2; i++) put(hash(areas[i], asked->sizes[i]), 16);
     for (int i = 0; i < 2; i++) put(hash(areas[i] + asked->sizes[i], GUARD), 16);
@@ -206,12 +216,12 @@ static void read_entries(struct request *asked, size_t most) {
     asked->fill = (uint8_t)number(2);
 }
 
-static void read_pair_or_row(struct request *asked) {
+static void read_ask(struct request *asked) {
     for (int i = 0; i < 5; i++) asked->counts[i] = (uint16_t)number(4);
     for (int i = 0; i < TABLES; i++) read_table(i);
     if (asked->kind == ROW) read_table(PAIRS);
     else
-        for (int i = 0; i < 2; i++) asked->pair[i] = (uint16_t)number(4);
+        for (int i = 0; i < (asked->kind == ONE ? 1 : 2); i++) asked->pair[i] = (uint16_t)number(4);
     asked->allowance = (uint16_t)number(4);
     for (int i = 0; i < 2; i++) asked->sizes[i] = length_within(8, MOST_AREA);
     for (int i = 0; i < 2; i++) asked->fills[i] = (uint8_t)number(2);
@@ -224,8 +234,8 @@ static struct request read_request(void) {
         read_marks();
         read_entries(&asked, MOST_MADE);
     } else {
-        if (asked.kind != ROW) step_back();
-        read_pair_or_row(&asked);
+        if (asked.kind != ROW && asked.kind != ONE) step_back();
+        read_ask(&asked);
     }
     end_of_line();
     return asked;

@@ -1,5 +1,7 @@
 //! The second program: the rules (docs/RULES.md) worked once more, to be compared with the first.
 
+pub mod ask;
+pub mod below;
 pub mod clash;
 pub mod collection;
 pub mod compare;

@@ -1,6 +1,7 @@
 //! The library's calls: over lent tables, with both areas (docs/RULES.md, sections 3 and 7); what each round adds (section 6);
 //! from marks to tables (section 8).
 
+use crate::ask::Ask;
 use crate::collection::{Collection, Counts, Step};
 use crate::expression::automaton::Automaton;
 use crate::expression::read::{expression, too_deep};
@@ -16,7 +17,7 @@ pub const SHAPES: [(usize, usize); 8] =
 /// The most pairs of one row.
 pub const PAIRS: usize = 256;
 
-/// What is lent for any pair. Every value is possible in every place.
+/// What is lent for any ask. Every value is possible in every place.
 #[derive(Clone, Debug, PartialEq, Eq)]
 pub struct Call {
     /// Names, roles, individuals, states, start.
@@ -64,7 +65,18 @@ fn final_numbers(finals: &[State]) -> Vec<u16> {
 
 /// The number and its count; the areas are written after 0, 1 and 3 only.
 pub fn ask(call: &Call, pair: [u16; 2], area: &mut [u8], spare: &mut [u8]) -> (u8, u16) {
-    ask_each(call, &[pair], area, spare)[0]
+    ask_each(call, &[Asked::Pair(pair)], area, spare)[0]
+}
+
+/// Likewise for one individual.
+pub fn ask_from(call: &Call, first: u16, area: &mut [u8], spare: &mut [u8]) -> (u8, u16) {
+    ask_each(call, &[Asked::From(first)], area, spare)[0]
+}
+
+/// An ask that need not be declared.
+enum Asked {
+    Pair([u16; 2]),
+    From(u16),
 }
 
 /// The answers to a row of pairs, first and second after each other. The two lengths are those of the entries lent for
@@ -78,7 +90,7 @@ pub fn ask_all(
 ) -> Option<Vec<(u8, u16)>> {
     let whole = pairs.chunks_exact(2);
     let broken = !whole.remainder().is_empty();
-    let row: Vec<[u16; 2]> = whole.map(|pair| [pair[0], pair[1]]).collect();
+    let row: Vec<Asked> = whole.map(|pair| Asked::Pair([pair[0], pair[1]])).collect();
     let fits = !broken && row.len() <= PAIRS && entries == [row.len(); 2];
     fits.then(|| ask_each(call, &row, area, spare))
 }
@@ -102,30 +114,33 @@ pub fn marks(call: &Call, room: usize, area: &mut [u8], spare: &mut [u8]) -> (u8
     (if prepared.spent() { ALLOWANCE_SPENT } else { 0 }, added.to_vec())
 }
 
-/// One pair after the other, each with the areas as the one before left them.
-fn ask_each(call: &Call, pairs: &[[u16; 2]], area: &mut [u8], spare: &mut [u8]) -> Vec<(u8, u16)> {
+/// One ask after the other, each with the areas as the one before left them.
+fn ask_each(call: &Call, asks: &[Asked], area: &mut [u8], spare: &mut [u8]) -> Vec<(u8, u16)> {
     let collection = match checked(call, area.len(), spare.len()) {
         Ok(sound) => sound,
-        Err(number) => return vec![(number, 0); pairs.len()],
+        Err(number) => return vec![(number, 0); asks.len()],
     };
     let mut prepared = None;
-    let answer = |&[first, second]: &[u16; 2]| {
-        let Some((first, second)) = declared(&collection.counts, first, second) else { return (8, 0) };
+    let answer = |asked: &Asked| {
+        let Some(ask) = declared(&collection.counts, asked) else { return (8, 0) };
         let prepared = prepared.get_or_insert_with(|| Prepared::of(&collection, call.allowance));
         if let Some(bytes) = prepared.sheet_bytes() {
             area.copy_from_slice(&bytes);
             spare.fill(0);
         }
-        prepared.answer(first, second)
+        prepared.answer(ask)
     };
-    pairs.iter().map(answer).collect()
+    asks.iter().map(answer).collect()
 }
 
-fn declared(counts: &Counts, first: u16, second: u16) -> Option<(Individual, Individual)> {
-    Some((counts.individual(first)?, counts.individual(second)?))
+fn declared(counts: &Counts, asked: &Asked) -> Option<Ask> {
+    Some(match *asked {
+        Asked::Pair([first, second]) => Ask::Pair(counts.individual(first)?, counts.individual(second)?),
+        Asked::From(first) => Ask::From(counts.individual(first)?),
+    })
 }
 
-/// The refusals before the pair's own 8, in the library's order: 4, 5, 6.
+/// The refusals before the ask's own 8, in the library's order: 4, 5, 6.
 fn checked(call: &Call, area: usize, spare: usize) -> Result<Collection, u8> {
     let [names, roles, individuals, states, start] = call.counts;
     let counts = Counts::new(names, roles, individuals, states, start).ok_or(4)?;

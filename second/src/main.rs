@@ -11,7 +11,7 @@ const USAGE: &str = "second desk                  the desk: standard input to st
 second explain FILE          what stands behind the desk's answers to a file, as readable text
 second paper BLOCK FILE [WORDS]
                              a block about a file, for a page: records, marks, places, automaton, numbers, orders, people, model,
-                             ends, pairs, exclusions, ways, sheets, rounds, walks, behind or answers; empty-records and so on for
+                             ends, pairs, exclusions, ways, sheets, rounds, walks, below, behind or answers; empty-records and so on for
                              the empty form; forms for all the empty forms; or figures, for a script
 second changes FILE OTHER [WORDS]
                              the lines in which a file differs from another, in words

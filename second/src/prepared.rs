@@ -1,8 +1,9 @@
-//! A sound collection prepared once, so that many pairs can be asked of it.
+//! A sound collection prepared once, so that many asks can be put to it.
 
+use crate::ask::Ask;
+use crate::below::below;
 use crate::clash::contradiction;
 use crate::collection::Collection;
-use crate::numbers::Individual;
 use crate::order::Orders;
 use crate::people::People;
 use crate::sheet::{Closing, Relation, Rules};
@@ -39,20 +40,27 @@ impl<'a> Prepared<'a> {
         Prepared { collection, people, rules, closing, staying, walks }
     }
 
-    /// The number and its count for one declared pair, in the order 2, 3, then 1 or 0.
-    pub fn answer(&mut self, first: Individual, second: Individual) -> (u8, u16) {
-        let rounds = match &self.closing {
+    /// The number and its count for one declared ask, in the order 2, 3, then 1 or 0.
+    pub fn answer(&mut self, ask: Ask) -> (u8, u16) {
+        let done = match &self.closing {
             None => return (CONTRADICTION, 0),
             Some(done) if done.spent => return (ALLOWANCE_SPENT, done.rounds()),
-            Some(done) => done.rounds(),
+            Some(done) => done,
         };
         let (collection, people) = (self.collection, &self.people);
         let (rules, staying) = (&self.rules, &self.staying);
+        let first = ask.first();
         let walk =
             self.walks[first.at()].get_or_insert_with(|| reached(collection, people, rules, staying, first));
-        let there = walk[second.at()];
+        let there = match ask {
+            Ask::Pair(_, second) => walk[second.at()],
+            Ask::From(_) => {
+                let unnamed = below(people, rules, &done.sheet, walk);
+                walk.iter().chain(&unnamed).fold(0, |all, states| all | states)
+            }
+        };
         let arrived = collection.finals.iter().any(|last| there >> last.0 & 1 == 1);
-        (if arrived { YES } else { NO }, rounds)
+        (if arrived { YES } else { NO }, done.rounds())
     }
 
     /// How many marks each worked round added, round 1 first; None after a contradiction: then no round is worked.

@@ -80,6 +80,11 @@ impl Rules {
         }
     }
 
+    /// The signed roles by which whoever has this concept has children.
+    pub fn children(&self, concept: Concept) -> &[Role] {
+        &self.children[concept.at()]
+    }
+
     /// Round 0: (s, s, B) for every state and concept.
     pub fn round_zero(&self) -> Sheet {
         let mut loops = vec![NOTHING; 128];

@@ -36,7 +36,12 @@ fn every_line_of_a_round_is_counted_to_the_letter() {
             assert!(written.is_empty(), "{}", path.display());
             continue;
         };
-        let contradiction = output.lines().any(|line| &line[6..8] == "02" && line.starts_with("8B"));
+        let is_2 = |line: &str| match &line[..2] {
+            "8B" => &line[6..8] == "02",
+            "8E" => &line[4..6] == "02",
+            _ => false,
+        };
+        let contradiction = output.lines().any(is_2);
         let added = if file.asks.is_empty() || contradiction {
             Vec::new()
         } else {

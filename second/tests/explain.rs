@@ -33,6 +33,25 @@ fn case_1_with_its_path() {
 }
 
 #[test]
+fn one_individual_with_its_path() {
+    // The path ends at the deed, and there is no way on from there.
+    let deed = B.replace("0A03", "0A02");
+    let text = explained(&format!("{deed} 0E00 0E01"));
+    says(
+        &text,
+        &["i0 to any element: 8E00010002, yes, 2 rounds", "(i0·r0, q1)  down by q0 –r0→ q1 (line 5)"],
+    );
+    says(
+        &text,
+        &["(i0·r0, q2)  by the test A1? (line 6)\nLine 10: i1 to any element: 8E01000002, no, 2 rounds"],
+    );
+    says(&text, &["from (i1, q0) paths come to i1 in q0\n  and below the individuals nowhere"]);
+    // A state that nothing leads to is final.
+    let text = explained(&format!("{} 0E00", B.replace("08020103 ", "")));
+    says(&text, &["paths come to i0 in q0\n  and below the individuals to rows that end in r0 in q1, q2"]);
+}
+
+#[test]
 fn case_4_with_its_clash() {
     let text = explained(&format!("{B} 030141 0B0000"));
     says(&text, &["i0·r0 has A1 and ∃r0⁻, which line 9 excludes.", "∃r0⁻ ≤ A1 (line 3)"]);
@@ -87,6 +106,9 @@ fn a_long_path_is_cut() {
 fn faults_in_words() {
     says(&explained("010202020400 07000202"), &["8F000206", "Line 2, number 6: not declared: individual 2"]);
     says(&explained("010202020400 0B0002"), &["Line 2, number 8: not declared: individual 2"]);
+    says(&explained("010202020400 0E02"), &["Line 2, number 8: not declared: individual 2"]);
+    let short = "number 10: an ask of one individual has 1 bytes after its kind; here there are 2";
+    says(&explained("010202020400 0E0000"), &[short]);
     says(&explained("410202020400"), &["number 10: no frame has the kind 41"]);
     says(&explained("010202020400 0A"), &["number 10: a final has 1 bytes after its kind; here there are 0"]);
     says(&explained("014102020400"), &["number 4: 65 names are declared; 64 is the most"]);

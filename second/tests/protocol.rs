@@ -1,18 +1,19 @@
-//! PROTOCOL.md's three examples, read and answered as it is written there.
+//! PROTOCOL.md's four examples, read and answered as it is written there.
 
 use second::compare::protocol::{answer, hash, read_request, reply, request};
 
-/// The lines of the document's code blocks, for a pair, a row and marks: the request, broken over several, and the reply.
-fn examples() -> [(String, String); 3] {
+/// The lines of the document's code blocks, for a pair, a row, marks and one individual: the request, broken over several, and the reply.
+fn examples() -> [(String, String); 4] {
     let document = include_str!("../PROTOCOL.md");
     let blocks: Vec<&str> = document.split("```").collect();
-    [1, 5, 9].map(|at| (blocks[at].replace('\n', ""), blocks[at + 2].replace('\n', "")))
+    [1, 5, 9, 13].map(|at| (blocks[at].replace('\n', ""), blocks[at + 2].replace('\n', "")))
 }
 
 #[test]
 fn the_examples_are_answered_as_written() {
-    let answers = [vec![(1, 2)], vec![(1, 2), (0, 2), (8, 0)]];
-    for ((line, reply), answers) in examples().into_iter().zip(answers) {
+    let [pair, row, _, one] = examples();
+    let answers = [vec![(1, 2)], vec![(1, 2), (0, 2), (8, 0)], vec![(1, 2)]];
+    for ((line, reply), answers) in [pair, row, one].into_iter().zip(answers) {
         let lent = read_request(&line).expect("a request");
         assert_eq!(request(&lent), line);
         assert_eq!(answer(&lent), (Some(answers), reply));
@@ -68,7 +69,7 @@ fn a_row_that_does_not_fit_leaves_all_as_it_was() {
 
 #[test]
 fn what_is_no_request() {
-    let [(line, _), (row, _), (marks, _)] = examples();
+    let [(line, _), (row, _), (marks, _), (one, _)] = examples();
     assert!(read_request("").is_none());
     assert!(read_request("R").is_none());
     let cut = &marks[..marks.len() - 1];
@@ -80,6 +81,10 @@ fn what_is_no_request() {
         [("08000010", "10010010"), ("08000010", "08001001"), ("M0003", "M0004"), ("M0003", "M0002")]
     {
         assert_eq!(reply(&marks.replacen(from, to, 1)), "!");
+    }
+    // A pair where one individual is asked, or one where a pair is.
+    for other in [format!("L{line}"), one[1..].to_string(), one.replacen('L', "R", 1), one.to_lowercase()] {
+        assert!(read_request(&other).is_none());
     }
     assert!(read_request(&line.replacen("0002", "R", 1)).is_none());
     assert!(read_request(&format!("R{line}")).is_none());

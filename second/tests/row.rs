@@ -1,5 +1,6 @@
 //! A row of pairs is what asking each does, one after the other with the same two areas.
 
+use second::ask::Ask;
 use second::compare::sample::sample;
 use second::desk::read::read;
 use second::library::{ask, ask_all, Call, PAIRS};
@@ -11,7 +12,11 @@ fn rows() -> impl Iterator<Item = (Call, Vec<[u16; 2]>)> {
     let files = (0..120).flat_map(|seed| ["small", "medium"].map(|kind| sample(kind, seed).expect("a kind")));
     files.map(|input| {
         let file = read(&input).expect("a sound file");
-        let mut row: Vec<[u16; 2]> = file.asks.iter().map(|(a, b)| [a.0.into(), b.0.into()]).collect();
+        let pair = |ask: &Ask| match *ask {
+            Ask::Pair(a, b) => Some([a.0.into(), b.0.into()]),
+            Ask::From(_) => None,
+        };
+        let mut row: Vec<[u16; 2]> = file.asks.iter().filter_map(pair).collect();
         let individuals = u16::from(file.collection.counts.individuals);
         row.insert(row.len() / 2, [individuals, 0]);
         row.insert(0, [0, u16::MAX]);

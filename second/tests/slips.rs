@@ -121,7 +121,16 @@ fn order_4_to_8_on_one_line() {
     assert_eq!(out(&full), "");
     assert_eq!(out(&(full + " 0AFF")), "8F001205\n");
     let asks = "010000010100".to_string() + &" 0B0000".repeat(256);
-    assert_eq!(out(&(asks + " 0B0001")), "8F010205\n");
+    assert_eq!(out(&(asks.clone() + " 0B0001")), "8F010205\n");
+    // Both kinds of ask share their room.
+    assert_eq!(out(&(asks + " 0E01")), "8F010205\n");
+    let mixed = "010000010100".to_string() + &" 0B0000 0E00".repeat(128);
+    assert_eq!(out(&(mixed.clone() + " 0E00")), "8F010205\n");
+    assert_eq!(out(&(mixed + " 0B0000")), "8F010205\n");
+    assert_eq!(out("010000010100 0E01"), "8F000208\n");
+    assert_eq!(out("010000010100 0E"), "8F00020A\n");
+    assert_eq!(out("010000010100 0E0000"), "8F00020A\n");
+    assert_eq!(out("0E00"), "8F00010B\n");
     assert_eq!(out("010001010100 07010000"), "8F000206\n");
     assert_eq!(out("010001010100 07000101"), "8F000206\n");
     assert_eq!(out("010001010100 07000000"), "");

@@ -1,7 +1,8 @@
-//! Cases 1 to 16 and the collection with facts (docs/PAPER.md and cases/README.md), asked of the desk, the library and the built-out model.
+//! Cases 1 to 21 and the collection with facts (docs/PAPER.md and cases/README.md), asked of the desk, the library and the built-out model.
 
+use second::ask::Ask;
 use second::desk::{desk, read::read};
-use second::library::{ask, marks, Call};
+use second::library::{ask, ask_from, marks, Call};
 use second::model::{self, known::Known, letter, Answer, Model};
 use second::numbers::Individual;
 
@@ -60,10 +61,34 @@ fn agree(words: &str, (first, second): (u8, u8), (number, count): (u8, u16), add
         assert!(spare.iter().all(|byte| *byte == 0));
         assert_eq!(number == 3, sheets.len() - 1 > usize::from(count));
     }
-    let answer = model::ask(&file.collection, Individual(first), Individual(second)).expect("a small model");
+    let answer = model::ask(&file.collection, Ask::Pair(Individual(first), Individual(second)))
+        .expect("a small model");
     let expected = [Answer::No, Answer::Yes, Answer::Contradiction];
     assert!(number == 3 || answer == expected[usize::from(number)]);
     area
+}
+
+/// The same outcome of one individual from all three.
+fn agree_from(words: &str, first: u8, number: u8, count: u16) {
+    let asked = format!("{words} 0E{first:02X}");
+    let output = String::from_utf8(desk(&lines(&asked))).expect("text");
+    let rounds = output.lines().take_while(|line| line.starts_with("8A")).count();
+    assert_eq!(rounds, usize::from(count));
+    assert!(output.ends_with(&format!("8E{first:02X}{number:02X}{count:04X}\n")));
+    assert_eq!(output.lines().count(), rounds + 1);
+
+    let file = read(&lines(&asked)).expect("a sound file");
+    let call = Call::of(&file.collection, file.allowance());
+    let [(mut area, mut spare), (mut other, mut other_spare)] =
+        [0; 2].map(|_| (vec![0x5A; AREA], vec![0xA5; AREA]));
+    assert_eq!(ask_from(&call, first.into(), &mut area, &mut spare), (number, count));
+    // What the same answer to a pair would leave.
+    ask(&call, [first.into(); 2], &mut other, &mut other_spare);
+    assert!(area == other && spare == other_spare);
+
+    let answer = model::ask(&file.collection, Ask::From(Individual(first))).expect("a small model");
+    let expected = [Answer::No, Answer::Yes, Answer::Contradiction];
+    assert!(number == 3 || answer == expected[usize::from(number)]);
 }
 
 fn fault(words: &str) -> String {
@@ -153,6 +178,58 @@ fn case_10_two_promises_are_two_neighbours() {
 #[test]
 fn case_11_one_neighbour_by_a_third_role() {
     agree(ELEVEN, (0, 0), (1, 1), &[2]);
+}
+
+/// Case 17 without its asks.
+const SEVENTEEN: &str = "010202020400 020040 024142 024340 060000 08000001 08010202 08020003 0A03";
+
+#[test]
+fn case_17_to_21_of_one_individual() {
+    agree_from(SEVENTEEN, 0, 1, 0);
+    agree(SEVENTEEN, (0, 0), (0, 0), &[]);
+    agree_from(SEVENTEEN, 1, 0, 0);
+    let eighteen = B.replace("0A03", "0A02");
+    agree_from(&eighteen, 0, 1, 2);
+    agree_from(&format!("{SEVENTEEN} 034340"), 1, 2, 0);
+    agree_from(&format!("{eighteen} 0C0001"), 0, 3, 1);
+    agree_from("010202020100 0A00", 1, 1, 0);
+}
+
+#[test]
+fn one_individual_where_a_pair_is_asked() {
+    // The path of case 1 ends at 0; no path leaves 1 in a final state.
+    agree_from(B, 0, 1, 2);
+    agree_from(B, 1, 0, 2);
+    agree_from(&format!("{B} 0C0001"), 0, 3, 1);
+    agree_from(&format!("{B} 030141"), 1, 2, 0);
+    agree_from(FACTS, 0, 1, 3);
+    agree_from("010202020100 0A00", 1, 1, 0);
+}
+
+#[test]
+fn a_path_that_ends_at_an_unnamed_element() {
+    // With state 2 final the path of B ends at the deed, and (0, 0) is no.
+    let deed = B.replace("0A03", "0A02");
+    agree_from(&deed, 0, 1, 2);
+    agree(&deed, (0, 0), (0, 2), &[2, 2]);
+    agree_from(&deed, 1, 0, 2);
+    // Down seven elements of a row without end, and no further than there is a rule for.
+    let down = |rules: &str| {
+        let steps: Vec<String> = (0..7).map(|state| format!("08{state:02X}00{:02X}", state + 1)).collect();
+        format!("010101010800 060000 {rules} {} 0A07", steps.join(" "))
+    };
+    agree_from(&down("020040 024140"), 0, 1, 0);
+    agree_from(&down("020040"), 0, 0, 0);
+    // A ring of rules without end, and a step that no element has.
+    agree_from("010102010300 060000 020040 024140 08000000 08000201 0A01", 0, 0, 0);
+}
+
+#[test]
+fn a_loop_on_the_way_down() {
+    // Down by signs, down and up by holds, then down by signs again: the deed has both children.
+    let words = "010102010500 060000 020040 024142 024140 08000001 08010202 08020303 08030004 0A04";
+    agree_from(words, 0, 1, 1);
+    agree_from(&words.replace(" 024142", ""), 0, 0, 1);
 }
 
 #[test]

@@ -2,8 +2,9 @@
 
 use crate::bits::Places;
 use crate::clash::{individuals, Excluded};
+use crate::leave::leaving;
 use crate::order::Orders;
-use crate::read::{read, Fault, File};
+use crate::read::{read, Fault, File, ANY};
 use crate::sheet::{along, close};
 use crate::walk::{Map, Walk};
 
@@ -18,7 +19,14 @@ const ALLOWANCE: u16 = 64;
 /// The answer is the same for all asks, or is to be looked up in the walk.
 enum Outcome {
     Same(u8, u16),
-    Walked(Box<Map>, u16),
+    Walked(Box<Walked>),
+}
+
+/// Who is joined to whom, in which states a path leaves each individual (where that is asked), and the rounds needed.
+struct Walked {
+    map: Map,
+    leaving: [u16; 256],
+    rounds: u16,
 }
 
 pub fn desk(input: Vec<u8>) -> Vec<u8> {
@@ -37,10 +45,15 @@ pub fn desk(input: Vec<u8>) -> Vec<u8> {
                 answer(&mut output, ask, number, count);
             }
         }
-        Outcome::Walked(map, rounds) => {
+        Outcome::Walked(walked) => {
+            let Walked { map, leaving, rounds } = *walked;
             let mut walk = Walk::new(&map);
             for &ask in &file.asks {
-                let arrived = walk.from(ask.0, file.start)[usize::from(ask.1)] & file.finals != 0;
+                let reached = walk.from(ask.0, file.start);
+                let arrived = match ask.1 {
+                    ANY => reached.iter().zip(&leaving).fold(0, |all, (to, from)| all | to & from) != 0,
+                    second => reached[usize::from(second)] & file.finals != 0,
+                };
                 answer(&mut output, ask, if arrived { YES } else { NO }, rounds);
             }
         }
@@ -68,13 +81,18 @@ fn outcome(file: &File, output: &mut Vec<u8>) -> Outcome {
         return Outcome::Same(SPENT, sheet.rounds);
     }
     map.put_staying(file, &orders, &sheet);
-    Outcome::Walked(Box::new(map), sheet.rounds)
+    let asks_of_one = file.asks.iter().any(|ask| ask.1 == ANY);
+    let leaving = if asks_of_one { leaving(file, &orders, &along, &sheet) } else { [0; 256] };
+    Outcome::Walked(Box::new(Walked { map, leaving, rounds: sheet.rounds }))
 }
 
 #[inline(always)]
 fn answer(output: &mut Vec<u8>, (first, second): (u8, u8), number: u8, count: u16) {
     let [high, low] = count.to_be_bytes();
-    output.extend_from_slice(&line::<6, 13>([0x8B, first, second, number, high, low]));
+    match second {
+        ANY => output.extend_from_slice(&line::<5, 11>([0x8E, first, number, high, low])),
+        _ => output.extend_from_slice(&line::<6, 13>([0x8B, first, second, number, high, low])),
+    }
 }
 
 /// Bytes as capital hexadecimal and the end of the line.

@@ -3,6 +3,7 @@
 pub mod bits;
 pub mod clash;
 pub mod desk;
+pub mod leave;
 pub mod make;
 pub mod order;
 pub mod plot;

@@ -11,6 +11,9 @@ pub struct Fault {
     pub number: u8,
 }
 
+/// No individual has this number: the second of an ask of one individual, for any element at all.
+pub const ANY: u8 = 255;
+
 /// A role fact; the role as a signed one.
 #[derive(Clone, Copy)]
 pub struct Fact {
@@ -44,6 +47,7 @@ pub struct File {
     pub role_steps: [Relation; 64],
     pub test_steps: [Relation; 64],
     pub finals: u16,
+    /// Two individuals, or one and `ANY`.
     pub asks: Vec<(u8, u8)>,
     pub allowance: Option<u16>,
     /// Whether there is any exclusion of roles.
@@ -119,6 +123,7 @@ const LENGTHS: [u8; 256] = {
         };
         kind += 1;
     }
+    lengths[14] = 4;
     lengths
 };
 
@@ -177,7 +182,7 @@ fn broken_line(from_here: &[u8]) -> u8 {
         [b'0', b'1'] => 12,
         [b'0', b'0'] => 0,
         [b'0', low @ b'2'..=b'9'] => LENGTHS[usize::from(low - b'0')],
-        [b'0', low @ b'A'..=b'C'] => LENGTHS[usize::from(low - b'A' + 10)],
+        [b'0', low @ b'A'..=b'E'] => LENGTHS[usize::from(low - b'A' + 10)],
         _ => 0,
     };
     if line.len() == usize::from(wanted) {
@@ -263,14 +268,14 @@ fn other_lines(input: &[u8], end: usize, file: &mut File, line: &mut u16) -> Res
                 put(&mut finals, 16, x < states)?;
                 file.finals |= 1 << (x & 15);
             }
-            11 => {
+            11 | 14 => {
                 if file.asks.len() == 256 {
                     return Err(5);
                 }
-                if x >= individuals || y >= individuals {
+                if x >= individuals || kind == 11 && y >= individuals {
                     return Err(8);
                 }
-                file.asks.push((x, y));
+                file.asks.push((x, if kind == 11 { y } else { ANY }));
             }
             _ => {
                 if file.allowance.is_some() {

@@ -24,6 +24,13 @@ fn asked(words: &str, (first, second): (u8, u8), (number, count): (u8, u16), add
     assert_eq!(output(&format!("{words} 0B{first:02X}{second:02X}")), line);
 }
 
+/// Likewise of one individual.
+fn from(words: &str, first: u8, number: u8, count: u16) {
+    let line = format!("8E{first:02X}{number:02X}{count:04X}\n");
+    let output = output(&format!("{words} 0E{first:02X}"));
+    assert!(output.ends_with(&line), "{output}");
+}
+
 #[test]
 fn the_whole_worked_input() {
     assert_eq!(output(&format!("{B} 0B0000 0B0001")), "8A00010002\n8A00020002\n8B0000010002\n8B0001000002\n");
@@ -92,6 +99,30 @@ fn case_10_two_promises_are_two_neighbours() {
 fn case_11_one_neighbour_by_a_third_role() {
     let eleven = TEN.replace("010102020300", "010103020300") + " 020044 040400 040402";
     asked(&eleven, (0, 0), (1, 1), &[2]);
+}
+
+#[test]
+fn asks_of_one_individual() {
+    // B with the deed's state final: the path ends there.
+    let deed = B.replace("0A03", "0A02");
+    from(&deed, 0, 1, 2);
+    from(&deed, 1, 0, 2);
+    asked(&deed, (0, 0), (0, 2), &[2, 2]);
+    from(B, 0, 1, 2);
+    from(&format!("{B} 0C0001"), 0, 3, 1);
+    from(&format!("{B} 030141"), 1, 2, 0);
+    // Seven deep; below another individual; a loop on the way down.
+    let steps: Vec<String> = (0..7).map(|state| format!("08{state:02X}00{:02X}", state + 1)).collect();
+    let down = format!("010101010800 020040 024140 060000 {} 0A07", steps.join(" "));
+    from(&down, 0, 1, 0);
+    from(&down.replace(" 024140", ""), 0, 0, 0);
+    from("010102020300 020040 060001 07010001 08000201 08010002 0A02", 0, 1, 0);
+    from("010102010500 020040 024142 024140 060000 08000001 08010202 08020303 08030004 0A04", 0, 1, 1);
+    assert_eq!(output("010202020400 0E02"), "8F000208\n");
+    assert_eq!(output("010202020400 0E0000"), "8F00020A\n");
+    let full = "010000010100".to_string() + &" 0B0000 0E00".repeat(128);
+    assert_eq!(output(&(full.clone() + " 0EFF")), "8F010205\n");
+    assert_eq!(output(&(full + " 0B0000")), "8F010205\n");
 }
 
 #[test]

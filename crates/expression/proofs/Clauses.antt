@@ -1,4 +1,5 @@
 -- What follows from the answer to a row: its clauses, and that a row has one answer.
+use Rattle.kinds.specs.declared.Ask.TheVariants.{Pair, From}
 use Rattle.std.specs.Prelude.{◌≡◌, refl, ◌↔◌, List, map, flat_map, ℕ, ◌+◌, Result, Ok, Err, IsOk, IfOk}
 use Rattle.std.proofs.Common.{sym, ap, ◌∙◌, arith}
 use Rattle.laws.specs.Member.{◌∈◌}
@@ -37,9 +38,12 @@ module _ {row : List ℕ} where
       same-words 𝓒 e b (expression-numbered i.reads) asks.start
 
   pub it-asks : (a : Listed) → IsAutomatonOf row a → AsksForIt row a
-  it-asks a x e m i 𝓒 asks first second =
+  it-asks a x e m i 𝓒 asks (Pair first second) =
       let w = its-words a x e m i 𝓒 asks in
       (λ s. (s.0, (w s.0).0 s.1, s.2), λ s. (s.0, (w s.0).1 s.1, s.2))
+  it-asks a x e m i 𝓒 asks (From first) =
+      let w = its-words a x e m i 𝓒 asks in
+      (λ s. (s.0, (w s.0).0 s.1, s.2, s.3), λ s. (s.0, (w s.0).1 s.1, s.2, s.3))
 
   -- the clauses
   pub says-ok : {r : Result Listed Refusal} → Answered row r → IsOk r ↔ HasAutomaton row

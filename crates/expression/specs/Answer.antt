@@ -1,10 +1,12 @@
 -- What a row of marks is answered: too deep, no expression, too many marks, or its automaton.
 use Rattle.std.specs.Prelude.{◌≡◌, ◌↔◌, List, [], ℕ, ◌+◌, ◌<◌, ◌≤◌}
-use Rattle.kinds.specs.declared.Individual.{Individual}
+use Rattle.kinds.specs.declared.Ask.{Ask}
+use Rattle.kinds.specs.declared.Ask.TheVariants.{Pair, From}
 use Rattle.kinds.specs.Kinds.{most_states}
 use Rattle.meaning.specs.Collection.{Collection, Letter}
-use Rattle.meaning.specs.Model.{canonical}
-use Rattle.meaning.specs.Question.{Spells, SpellsWord}
+use Rattle.meaning.specs.Model.{Element, canonical}
+use Rattle.meaning.specs.Question.{Spells}
+use Rattle.meaning.specs.Asks.{IsSpelled}
 use Rattle.meaning.specs.Tree.{root}
 use Rattle.expression.specs.Tree.{Tree, WordOf}
 use Rattle.expression.specs.Grammar.{Expression, IsExpression}
@@ -51,13 +53,15 @@ pub record IsAutomatonOf (row : List ℕ) (a : Listed) : Type 0 where
 abbrev pub ReadsItsWords : List ℕ → Listed → Type 0
 ReadsItsWords row a = (e : Tree) (m : ℕ) → IsExpression row e m → ReadsExactly e a
 
--- a path in the model from the first individual to the second spells a word of the expression
-abbrev pub SpellsExpression : Collection → Tree → Individual → Individual → Type 0
-SpellsExpression 𝓒 e a b =
+-- a path in the model, as it is asked for, spells a word of the expression
+abbrev pub SpellsExpression : Collection → Tree → Ask → Type 0
+SpellsExpression 𝓒 e (Pair a b) =
     (w : List Letter) × WordOf e w × Spells (canonical 𝓒) (root a) w (root b)
+SpellsExpression 𝓒 e (From a) =
+    (w : List Letter) × WordOf e w × (x : Element 𝓒) × Spells (canonical 𝓒) (root a) w x
 
 -- so that such a question asks for a path that spells a word of the expression
 abbrev pub AsksForIt : List ℕ → Listed → Type 0
 AsksForIt row l =
     (e : Tree) (m : ℕ) → IsExpression row e m → (𝓒 : Collection) → AsksBy 𝓒 l
-    → (a b : Individual) → SpellsWord 𝓒 a b ↔ SpellsExpression 𝓒 e a b
+    → (ask : Ask) → IsSpelled 𝓒 ask ↔ SpellsExpression 𝓒 e ask

@@ -1,6 +1,10 @@
 -- The asks of a file that was read: there is an answer's room for each, and its individuals go into a byte each.
 use Rattle.std.specs.Prelude.{ℕ, ◌<◌, ◌≤◌, ◌≡◌, ◌/◌, List, length}
 use Rattle.std.proofs.Common.{ap, ◌∙◌, sym, subst, arith}
+use Rattle.kinds.specs.declared.Ask.{Ask}
+use Rattle.kinds.specs.declared.Ask.TheVariants.{Pair, From}
+use Rattle.kinds.specs.declared.Counts.{Counts}
+use Rattle.kinds.specs.Asks.{AskDeclared}
 use Rattle.frames.specs.declared.Frame.{Frame}
 use Rattle.meaning.specs.Lent.{Sound}
 use Rattle.tables.specs.Asks.{ask_width}
@@ -14,6 +18,10 @@ use Rattle.reading.proofs.Bounds.{few}
 use Rattle.reading.proofs.Accepted.{accepted}
 use Rattle.file.specs.Text.{IsInBytes}
 use Rattle.file.specs.Replying.{ask_count}
+
+pub small : (c : Counts) → c.individuals ≤ 255 → (ask : Ask) → AskDeclared c ask → IsInBytes ask
+small c few (Pair a b) d = (omega (arith, d.0), omega (arith, d.1))
+small c few (From a) d = omega (arith, d)
 
 pub ask_entries : (fs : List Frame) → length (table asks fs) / ask_width ≡ entries asks fs
 ask_entries fs = omega (arith, table-length asks fs)
@@ -32,4 +40,4 @@ module _ (file : File) (read : IsRead file) where
       subst (λ (f : File). Sound (held_call f q k)) (sym read.kept) s
 
   pub in_bytes : (q : Listed) → IsQuestion file q → (k : ℕ) → k < ask_count file → IsInBytes (held_ask file k)
-  in_bytes q is k h = let s = call_sound q is k h in (omega (arith, s.counts.individuals, s.ask.0), omega (arith, s.counts.individuals, s.ask.1))
+  in_bytes q is k h = let s = call_sound q is k h in small file.counts s.counts.individuals (held_ask file k) s.ask

@@ -1,14 +1,15 @@
 -- What is demanded, of the lines that are written: it holds of the library's outcomes, and each line shows one.
 use Rattle.std.specs.Prelude.{ℕ, ◌≡◌, ◌↔◌, List, Some}
+use Rattle.std.proofs.Math.Path.{ap₂}
 use Rattle.std.proofs.Common.{refl, sym, ap, ◌∙◌, subst, arith}
 use Rattle.kinds.specs.Kinds.{individual}
-use Rattle.kinds.specs.declared.Individual.{Individual}
+use Rattle.kinds.specs.declared.Ask.{Ask}
 use Rattle.meaning.specs.Lent.{Call, collection_of}
 use Rattle.meaning.specs.Outcome.{Outcome}
 use Rattle.meaning.specs.Demands.{Spelled}
 use Rattle.meaning.proofs.Demands.{most-enough, says-what-the-model-says, grows, returns}
 use Rattle.meaning.proofs.OutcomeLaws.{outcome-unique}
-use Rattle.tables.specs.declared.ask.Ask.TheVariants.{Pair}
+use Rattle.kinds.specs.declared.Ask.TheVariants.{Pair, From}
 use Rattle.expression.specs.Tree.{Tree}
 use Rattle.expression.specs.Grammar.{IsExpression}
 use Rattle.expression.specs.Listed.{Listed, AsksBy}
@@ -22,8 +23,9 @@ use Rattle.reading.proofs.Accepted.{whole-accepted, reading-taken}
 use Rattle.reading.proofs.Questions.{row-taken}
 use Rattle.file.specs.Text.{answer_line}
 use Rattle.file.specs.Writes.{IsAsking}
-use Rattle.file.specs.Demands.{LinesSayAsModel, LinesSayOfExpression, SpellsWordOf, LinesGrow, LinesReturn, RoundsSuffice}
-use Rattle.file.proofs.Told.{line-answers, number-of, first-of, second-of}
+use Rattle.file.specs.Demands.{LinesSayAsModel, LinesSayOfExpression, SameAsk, SpellsWordOf, LinesGrow, LinesReturn, RoundsSuffice}
+use Rattle.file.proofs.Told.{line-answers, number-of, names-of}
+use Rattle.file.specs.Told.{Names}
 
 -- THEOREM: with enough rounds each line is as the canonical model says
 pub lines-say-as-model : LinesSayAsModel
@@ -44,7 +46,7 @@ module _ (input : List ℕ) (fs : List Frame) (q : Listed) (s : IsAsking input f
       record { start = r.shaped.3; steps = refl; finals = refl }
 
   spells-it : (e : Tree) (m : ℕ) → IsExpression row e m → (k : ℕ) → Spelled (asked fs q k) ↔ SpellsWordOf e (asked fs q k)
-  spells-it e m x k = it-asks q automaton-is e m x (collection_of (asked fs q k)) (asks-by k) (asked fs q k).first (asked fs q k).second
+  spells-it e m x k = it-asks q automaton-is e m x (collection_of (asked fs q k)) (asks-by k) (asked fs q k).ask
 
 -- THEOREM: and yes exactly when a path in it spells a word of the expression that is typed
 pub lines-say-of-expression : LinesSayOfExpression
@@ -57,16 +59,22 @@ lines-say-of-expression input text w fs q s row e m given x k h enough =
       no = λ sane. let y = a.no sane in (λ n p. y.0 n (o.1 p), λ n. y.1 (λ p. n (o.0 p)));
     }
 
--- THEOREM: growth, of each pair that two inputs ask
+same-ask : (line other : List ℕ) (ask ask' : Ask) → Names ask line → Names ask' other → SameAsk line other → ask ≡ ask'
+same-ask line other (Pair a b) (Pair x y) n m s =
+    ap₂ (λ (i j : ℕ). Pair (individual i) (individual j)) (sym n.1 ∙ s.first ∙ m.1) (sym n.2 ∙ s.second n.0 ∙ m.2)
+same-ask line other (From a) (From x) n m s = ap (λ (i : ℕ). From (individual i)) (sym n.1 ∙ s.first ∙ m.1)
+same-ask line other (Pair a b) (From x) n m s = absurd (omega (arith, n.0, m.0, s.kind))
+same-ask line other (From a) (Pair x y) n m s = absurd (omega (arith, n.0, m.0, s.kind))
+
+-- THEOREM: growth, of whatever two inputs ask
 pub lines-grow : LinesGrow
 lines-grow input other text out w v fs gs q r s t j k h i g p =
     let a = line-answers w fs q s j h in
     let b = line-answers v gs r t k i in
     let sound = whole-accepted input fs s.sound q s.question j h in
     let sound' = whole-accepted other gs t.sound r t.question k i in
-    let first : (asked fs q j).first ≡ (asked gs r k).first = ap individual (sym (first-of a sound) ∙ p.first ∙ first-of b sound') in
-    let second : (asked fs q j).second ≡ (asked gs r k).second = ap individual (sym (second-of a sound) ∙ p.second ∙ second-of b sound') in
-    let z = grows (asked fs q j) (asked gs r k) g.larger first second sound sound' g.enough g.enough' a.outcome.2 b.outcome.2 in
+    let same = same-ask _ _ _ _ (names-of a sound) (names-of b sound') p in
+    let z = grows (asked fs q j) (asked gs r k) g.larger same sound sound' g.enough g.enough' a.outcome.2 b.outcome.2 in
     let n = number-of a in
     let m = number-of b in
     record { yes-kept = rw (n, m) z.yes-kept; contradiction-kept = rw (n, m) z.contradiction-kept; no-before = rw (n, m) z.no-before }
@@ -79,11 +87,8 @@ lines-return input other text out w v fs gs q r s t j k h i m n =
     let o = returns (asked fs q j) (asked gs r k).allowance m.more a.outcome.2 (omega (arith, n, number-of a)) in
     let o' = subst (λ (c : Call). Outcome c a.answer (a.outcome.0) (a.outcome.1)) m.same o in
     let u = (outcome-unique (asked gs r k) b.outcome.2 o').0 in
-    let first : (asked gs r k).first ≡ (asked fs q j).first = ap (λ (c : Call). c.first) (sym m.same) in
-    let second : (asked gs r k).second ≡ (asked fs q j).second = ap (λ (c : Call). c.second) (sym m.same) in
-    b.written ∙ ap (answer_line (Pair (asked gs r k).first (asked gs r k).second)) u
-    ∙ ap (λ (x : Individual). answer_line (Pair x (asked gs r k).second) a.answer) first ∙ ap (λ (x : Individual). answer_line (Pair (asked fs q j).first x) a.answer) second
-    ∙ sym a.written
+    let same : (asked gs r k).ask ≡ (asked fs q j).ask = ap (λ (c : Call). c.ask) (sym m.same) in
+    b.written ∙ ap (answer_line (asked gs r k).ask) u ∙ ap (λ (ask : Ask). answer_line ask a.answer) same ∙ sym a.written
 
 -- THEOREM: concepts × states × (states − 1) rounds always suffice
 pub rounds-enough : RoundsSuffice

@@ -2,7 +2,7 @@
 use Rattle.std.specs.Prelude.{ℕ, suc, ◌+◌, ◌/◌, ◌≤◌, ◌<◌, ◌≡◌, ◌⊎◌, List, ◌∷◌, Some, IfSome, length, slice_get}
 use Rattle.std.proofs.Common.{⊎_elim, ap, ◌∙◌, subst, arith}
 use Rattle.kinds.specs.declared.Answer.{Answer}
-use Rattle.tables.specs.declared.ask.Ask.{Ask}
+use Rattle.kinds.specs.declared.Ask.{Ask}
 use Rattle.tables.specs.declared.table.Records.{Records}
 use Rattle.tables.specs.Asks.{ask_width, read_ask}
 use Rattle.tables.specs.Every.{GivesNext}

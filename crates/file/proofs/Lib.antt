@@ -1,6 +1,7 @@
 -- Theorems: an input writes one text, what stands on its lines, and what is demanded of them.
 pub mod WritesLaws
 pub mod Listed
+pub mod Lined
 pub mod Told
 pub mod Demanded
 -- Laws that the functions' proofs cite.

@@ -1,8 +1,7 @@
--- The lines of rounds: how long they are, each at its place; and the counts that are told are one row, of no more rounds than there may be.
-use Rattle.std.specs.Prelude.{ℕ, zero, suc, ◌+◌, ◌*◌, ◌-◌, ◌<◌, ◌≤◌, ◌≡◌, ◌⊎◌, refl, List, [], ◌∷◌, ◌++◌, length, take, drop, min, slice_index}
+-- The lines of rounds: how long they are; and the counts that are told are one row, of no more rounds than there may be.
+use Rattle.std.specs.Prelude.{ℕ, suc, ◌+◌, ◌*◌, ◌-◌, ◌<◌, ◌≤◌, ◌≡◌, ◌⊎◌, refl, List, [], ◌∷◌, ◌++◌, length, min}
 use Rattle.std.proofs.Common.{sym, ap, ◌∙◌, subst, append_assoc, append-nil, length-append, ⊎_elim, arith}
 use Rattle.std.proofs.Math.Nat.{min-le_left, mul-le-mul}
-use Rattle.std.proofs.lemmas.List.{take_at, drop_at, drop-drop}
 use Rattle.laws.specs.Rounds.{least-once}
 use Rattle.meaning.specs.Collection.{Collection, WellFormed}
 use Rattle.meaning.specs.Model.{Contradiction}
@@ -13,13 +12,13 @@ use Rattle.meaning.proofs.MarksLaws.{round-counts-once}
 use Rattle.meaning.proofs.LiteMarks.{lite-most}
 use Rattle.file.specs.Text.{text, round_line}
 use Rattle.file.specs.Rounds.{round_lines, RoundsTold, no-ask, contradiction, rounds}
-use Rattle.file.specs.Told.{round_length}
+use Rattle.file.specs.declared.text.TheConstants.{ROUND_LINE}
 
-pub round-length : (round marks : ℕ) → length (round_line round marks) ≡ round_length
+round-length : (round marks : ℕ) → length (round_line round marks) ≡ ROUND_LINE
 unfolding round_line text
 round-length round marks = refl
 
-pub rounds-length : (before : ℕ) (counts : List ℕ) → length (round_lines before counts) ≡ round_length * length counts
+pub rounds-length : (before : ℕ) (counts : List ℕ) → length (round_lines before counts) ≡ ROUND_LINE * length counts
 unfolding round_lines
 rounds-length before [] = refl
 rounds-length before (m ∷ counts) =
@@ -38,24 +37,6 @@ pub rounds-last : (counts : List ℕ) (m : ℕ) → round_lines 0 (counts ++ m �
 unfolding round_lines
 rounds-last counts m =
     rounds-append 0 counts (m ∷ []) ∙ ap (λ (l : List ℕ). round_lines 0 counts ++ l) (append-nil (round_line (suc (0 + length counts)) m) ∙ ap (λ n. round_line (suc n) m) (omega arith))
-
--- line k is that of its round
-pub round-is : (before : ℕ) (counts : List ℕ) (k : ℕ) → k < length counts
-    → take round_length (drop (round_length * k) (round_lines before counts)) ≡ round_line (before + k + 1) (slice_index counts k)
-unfolding round_lines
-round-is before [] k h = absurd (omega arith)
-round-is before (m ∷ counts) zero h =
-    let n : before + 0 + 1 ≡ suc before = omega arith in
-    take_at (round_line (suc before) m) (round_lines (suc before) counts) round_length (round-length (suc before) m) ∙ ap (λ r. round_line r m) (sym n)
-round-is before (m ∷ counts) (suc k) h =
-    let line = round_line (suc before) m in
-    let rest = round_lines (suc before) counts in
-    let n : suc before + k + 1 ≡ before + suc k + 1 = omega arith in
-    let far : round_length * suc k ≡ round_length + round_length * k = omega arith in
-    let past : drop (round_length * suc k) (line ++ rest) ≡ drop (round_length * k) rest =
-    ap (λ i. drop i (line ++ rest)) far ∙ sym (drop-drop (round_length * k) round_length (line ++ rest))
-    ∙ ap (drop (round_length * k)) (drop_at line rest round_length (round-length (suc before) m)) in
-    ap (take round_length) past ∙ round-is (suc before) counts k (omega arith) ∙ ap (λ r. round_line r (slice_index counts k)) n
 
 module _ {𝓒 : Collection} {allowance asks : ℕ} where
   -- THEOREM: one row of counts is told

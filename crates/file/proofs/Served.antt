@@ -21,7 +21,7 @@ use Rattle.file.specs.Writes.{IsAsking, Answered, collection_read, FileRounds, W
 use Rattle.file.specs.Serves.{Serves}
 use Rattle.file.specs.Replying.{ask_count, HeldRounds, Tells}
 use Rattle.file.proofs.Asks.{ask_entries, few_asks, call_sound}
-use Rattle.file.proofs.Turns.{answered-length}
+use Rattle.file.proofs.Turns.{answered-length, answers-room}
 use Rattle.file.proofs.Rounds.{rounds-length, few-told}
 use Rattle.file.proofs.WritesLaws.{writes-once}
 
@@ -59,6 +59,7 @@ has-room file read (Ok u) room held e z t =
       rounds-length 0 t.counts,
       few-told t.told fine,
       answered-length (held_call file q) (ask_count file) t.text t.answered,
+      answers-room (λ j. (held_call file q j).ask) (ask_count file),
       few_asks file read,
     )
 has-room file read (Err wrong) room held e z t = omega (arith, t)

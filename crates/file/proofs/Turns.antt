@@ -1,14 +1,18 @@
 -- Asks answered one after the other: what was put after some of them.
 use Rattle.std.specs.Prelude.{ℕ, zero, suc, ◌+◌, ◌*◌, ◌-◌, ◌≤◌, ◌≡◌, refl, List, [], ◌++◌, Result, Ok, Err, OnOk, IfErr, IsErrAnd, length}
-use Rattle.std.proofs.Common.{sym, subst, append_assoc, append-nil, length-append, add-zero, add-suc, add-one, arith}
+use Rattle.std.proofs.Common.{sym, ap, ◌∙◌, subst, append_assoc, append-nil, length-append, add-zero, add-suc, add-one, arith}
+use Rattle.kinds.specs.declared.Ask.{Ask}
+use Rattle.kinds.specs.declared.Ask.TheVariants.{Pair, From}
+use Rattle.kinds.specs.declared.Answer.{Answer}
 use Rattle.meaning.specs.Lent.{Call}
 use Rattle.meaning.proofs.OutcomeExists.{outcome-exists}
 use Rattle.expression.specs.Listed.{Listed}
 use Rattle.reading.specs.declared.File.{File}
 use Rattle.reading.specs.File.{held_ask, held_call, IsQuestion}
 use Rattle.file.specs.Text.{text, answer_line}
-use Rattle.file.specs.Told.{answer_length}
+use Rattle.file.specs.declared.text.TheConstants.{ANSWER_LINE}
 use Rattle.file.specs.Rounds.{round_lines}
+use Rattle.file.specs.Told.{answer_length, answers_length}
 use Rattle.file.specs.Writes.{Answers, Answered}
 use Rattle.file.specs.Replying.{ask_count, HeldRounds, RoundsAll, AnswersAll}
 
@@ -21,18 +25,28 @@ passed_on (Err d) e Q h q = rw h q
 pub moved : {A E S : Type 0} (r : Result A E) (P : S → Type 0) (a b : S) → OnOk r (P a) → a ≡ b → OnOk r (P b)
 moved {S = S} r P a b h e = subst (λ (s : S). OnOk r (P s)) e h
 
--- an answer's line has as many bytes as it is said to have
-pub answer-length : {call : Call} {line : List ℕ} → Answers call line → length line ≡ answer_length
+-- an answer's line has as many bytes as it is said to have, and no more than there is room for
+line-length : (ask : Ask) (r : Answer) → length (answer_line ask r) ≡ answer_length ask
 unfolding answer_line text
-answer-length w = rw w.written refl
+line-length (Pair a b) r = refl
+line-length (From a) r = refl
 
-pub answered-length : (call : ℕ → Call) (k : ℕ) (out : List ℕ) → Answered call k out → length out ≡ answer_length * k
-unfolding Answered
+line-room : (ask : Ask) → answer_length ask ≤ ANSWER_LINE
+line-room (Pair a b) = omega arith
+line-room (From a) = omega arith
+
+pub answered-length : (call : ℕ → Call) (k : ℕ) (out : List ℕ) → Answered call k out → length out ≡ answers_length (λ j. (call j).ask) k
+unfolding Answered answers_length
 answered-length call zero out e = rw e refl
 answered-length call (suc k) out (x, y, a, b, e) =
     let l = answered-length call k x a in
-    let m = answer-length b in
-    rw e (omega (arith, length-append x y))
+    let m : length y ≡ answer_length (call k).ask = ap (λ (l : List ℕ). length l) b.written ∙ line-length (call k).ask b.answer in
+    rw e (omega (arith, length-append x y, l, m))
+
+pub answers-room : (ask : ℕ → Ask) (k : ℕ) → answers_length ask k ≤ ANSWER_LINE * k
+unfolding answers_length
+answers-room ask zero = omega arith
+answers-room ask (suc k) = omega (arith, answers-room ask k, line-room (ask k))
 
 module _ (file : File) (q : Listed) where
   answered_none : Answered (held_call file q) 0 []

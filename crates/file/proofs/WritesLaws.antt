@@ -6,7 +6,6 @@ use Rattle.std.specs.Io.KnownBytes.{Appends}
 use Rattle.meaning.specs.Collection.{WellFormed}
 use Rattle.meaning.specs.Lent.{Call}
 use Rattle.meaning.proofs.OutcomeExists.{sound-well-formed}
-use Rattle.tables.specs.declared.ask.Ask.TheVariants.{Pair}
 use Rattle.meaning.proofs.OutcomeLaws.{outcome-unique}
 use Rattle.expression.specs.Listed.{Listed}
 use Rattle.frames.specs.declared.Frame.{Frame}
@@ -27,13 +26,13 @@ use Rattle.file.specs.Text.{text, fault_line, answer_line}
 use Rattle.file.specs.Rounds.{round_lines}
 use Rattle.file.specs.Writes.{Answers, Answered, collection_read, FileRounds, Writes, fault, answers}
 use Rattle.file.specs.Serves.{Serves}
-use Rattle.file.proofs.Turns.{answered-length}
+use Rattle.file.proofs.Turns.{answered-length, answers-room}
 use Rattle.file.proofs.Rounds.{rounds-length, told-once, few-told}
 
 answers-once : (call : Call) (x y : List ℕ) → Answers call x → Answers call y → x ≡ y
 answers-once call x y a b =
     let e = (outcome-unique call a.outcome.2 b.outcome.2).0 in
-    a.written ∙ ap (answer_line (Pair call.first call.second)) e ∙ sym b.written
+    a.written ∙ ap (answer_line call.ask) e ∙ sym b.written
 
 answered-once : (call : ℕ → Call) (k : ℕ) (x y : List ℕ) → Answered call k x → Answered call k y → x ≡ y
 unfolding Answered
@@ -120,6 +119,7 @@ writes-length {input} (answers fs q counts out k t a) =
       rounds-length 0 counts,
       few-told t fine,
       answered-length (asked fs q) (entries asks fs) out a,
+      answers-room (λ k. (asked fs q k).ask) (entries asks fs),
       few asks fs (reading-taken k.sound read.none),
     )
 

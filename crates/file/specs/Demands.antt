@@ -21,17 +21,17 @@ pub record IsAsModelSays (call : Call) (Path : Type 0) (line : List ℕ) : Type 
   pub yes : (¬ Breaks call) → (number_on line ≡ 1) ↔ Path
   pub no : (¬ Breaks call) → (number_on line ≡ 0) ↔ (¬ Path)
 
--- with enough rounds each line is as the canonical model says: yes exactly when a path in it from
--- the first to the second spells a word of the question
+-- with enough rounds each line is as the canonical model says: yes exactly when a path in it, as it
+-- is asked for, spells a word of the question
 abbrev pub LinesSayAsModel : Type 0
 LinesSayAsModel = (input text : List ℕ) → Writes input text
     → (fs : List Frame) (q : Listed) → IsAsking input fs q
     → (k : ℕ) → k < entries asks fs → Enough (asked fs q k)
     → IsAsModelSays (asked fs q k) (Spelled (asked fs q k)) (line_at (entries asks fs) text k)
 
--- a path in the canonical model from the first to the second spells a word of the expression
+-- a path in the canonical model, as it is asked for, spells a word of the expression
 abbrev pub SpellsWordOf : Tree → Call → Type 0
-SpellsWordOf e call = SpellsExpression (collection_of call) e call.first call.second
+SpellsWordOf e call = SpellsExpression (collection_of call) e call.ask
 
 -- and where the question is typed as an expression: yes exactly when such a path spells a word of
 -- that expression
@@ -43,10 +43,11 @@ LinesSayOfExpression = (input text : List ℕ) → Writes input text
     → IsAsModelSays (asked fs q k) (SpellsWordOf e (asked fs q k))
     (line_at (entries asks fs) text k)
 
--- two lines are of one pair: bytes 1 and 2
-pub record SamePair (line other : List ℕ) : Type 0 where
+-- two lines are of one ask: byte 1, and of a pair byte 2
+pub record SameAsk (line other : List ℕ) : Type 0 where
+  pub kind : byte_of line 0 ≡ byte_of other 0
   pub first : byte_of line 1 ≡ byte_of other 1
-  pub second : byte_of line 2 ≡ byte_of other 2
+  pub second : byte_of line 0 ≡ 0x8B → byte_of line 2 ≡ byte_of other 2
 
 -- a yes is kept or turned into contradiction, a contradiction is kept, and a no was a no before
 pub record IsGrownLine (line other : List ℕ) : Type 0 where
@@ -61,13 +62,13 @@ pub record GrowsInto (call other : Call) : Type 0 where
   pub enough : Enough call
   pub enough' : Enough other
 
--- growth, of each pair that both ask
+-- growth, of whatever both ask
 abbrev pub LinesGrow : Type 0
 LinesGrow = (input other text out : List ℕ) → Writes input text → Writes other out
     → (fs gs : List Frame) (q r : Listed) → IsAsking input fs q → IsAsking other gs r
     → (j k : ℕ) → j < entries asks fs → k < entries asks gs
     → GrowsInto (asked fs q j) (asked gs r k)
-    → SamePair (line_at (entries asks fs) text j) (line_at (entries asks gs) out k)
+    → SameAsk (line_at (entries asks fs) text j) (line_at (entries asks gs) out k)
     → IsGrownLine (line_at (entries asks fs) text j) (line_at (entries asks gs) out k)
 
 -- a second file's call is the same, but allows no fewer rounds

@@ -1,5 +1,5 @@
 -- Laws of what an input writes.
-use Rattle.std.specs.Prelude.{ℕ, ◌+◌, ◌*◌, ◌<◌, ◌≤◌, ◌≡◌, ◌↔◌, ◌⊎◌, List, [], Some, length, take, drop, min, sum, slice_index}
+use Rattle.std.specs.Prelude.{ℕ, ◌+◌, ◌<◌, ◌≤◌, ◌≡◌, ◌↔◌, ◌⊎◌, List, Some, length, take, drop, min, sum, slice_index}
 use Rattle.std.specs.Io.KnownBytes.{Appends}
 use Rattle.meaning.specs.Collection.{Collection}
 use Rattle.meaning.specs.Model.{Contradiction}
@@ -15,7 +15,8 @@ use Rattle.reading.specs.Tables.{asks, entries, table, rounds_allowed}
 use Rattle.file.specs.declared.TheConstants.{MOST_TEXT}
 use Rattle.file.specs.Writes.{IsSound, IsAsking, IsFaulty, collection_read, Writes}
 use Rattle.file.specs.Serves.{Serves}
-use Rattle.file.specs.Told.{round_length, answer_length, answers_of, rounds_of, line_at, round_at, IsAnswerLine, IsRoundLine, IsFaultLine}
+use Rattle.streams.specs.Lines.{lines}
+use Rattle.file.specs.Told.{line_in, rounds_in, line_at, IsAnswerLine, IsRoundLine, IsFaultLine}
 
 -- an input writes one text
 abbrev pub WritesOnce : Type 0
@@ -30,9 +31,9 @@ abbrev pub StartWrites : Type 0
 StartWrites = (input : List ℕ) (n : ℕ) → 467155 ≤ n → (text : List ℕ)
     → Writes (take n input) text ↔ Writes input text
 
--- a text has 13 characters for each ask at its end, and line k of those is an answer to ask k
+-- a text has a line for each ask at its end, and line k of those is an answer to ask k
 pub record AnswersEachAsk (fs : List Frame) (text : List ℕ) : Type 0 where
-  pub long : length (answers_of (entries asks fs) text) ≡ answer_length * entries asks fs
+  pub enough : entries asks fs ≤ length (lines text)
   pub each : (k : ℕ) → k < entries asks fs
       → IsAnswerLine (read_ask (table asks fs) k) (line_at (entries asks fs) text k)
 
@@ -41,15 +42,15 @@ abbrev pub AsksAnswered : Type 0
 AsksAnswered = (input text : List ℕ) → Writes input text
     → (fs : List Frame) → IsSound input fs → AnswersEachAsk fs text
 
--- before the answers stand 11 characters for each of n rounds, and line k of those tells of round
+-- before the answers stands a line for each of n rounds, and line k of those tells of round
 -- k + 1 the marks that it added, which with states × concepts make those that stand after n rounds
 pub record TellsRounds
     (fs : List Frame) (𝓒 : Collection) (n : ℕ) (text : List ℕ) : Type 0 where
-  pub long : length (rounds_of (entries asks fs) text) ≡ round_length * n
+  pub many : rounds_in (entries asks fs) text ≡ n
   pub counts : List ℕ
   pub added : RoundCounts (lite 𝓒) n counts
   pub each : (k : ℕ) → k < n
-      → IsRoundLine (k + 1) (slice_index counts k) (round_at (entries asks fs) text k)
+      → IsRoundLine (k + 1) (slice_index counts k) (line_in text k)
   pub stand : (m : ℕ) → Stands (lite 𝓒) n m → m ≡ sum counts + first_marks 𝓒.counts
 
 -- an input that is read whole, asks something and is no contradiction tells so of rounds 1 to the
@@ -66,7 +67,7 @@ abbrev pub NoRoundTold : Type 0
 NoRoundTold = (input text : List ℕ) → Writes input text
     → (fs : List Frame) (q : Listed) → IsAsking input fs q
     → (entries asks fs ≡ 0) ⊎ Contradiction (collection_read fs q)
-    → rounds_of (entries asks fs) text ≡ []
+    → rounds_in (entries asks fs) text ≡ 0
 
 -- a faulty one writes a line of its first faulty line's number, from 1
 abbrev pub FaultTold : Type 0

@@ -4,8 +4,8 @@ use Rattle.std.specs.Prelude.{ℕ, ◌+◌, ◌/◌, ◌%◌, ◌^◌, ◌<◌, 
 use Rattle.std.specs.List.{flat_map}
 use Rattle.kinds.specs.declared.Answer.{Answer}
 use Rattle.kinds.specs.Answer.{answer_number, answer_count}
-use Rattle.tables.specs.declared.ask.Ask.{Ask}
-use Rattle.tables.specs.declared.ask.Ask.TheVariants.{Pair}
+use Rattle.kinds.specs.declared.Ask.{Ask}
+use Rattle.kinds.specs.declared.Ask.TheVariants.{Pair, From}
 
 -- the character of a digit: 0–9, then A–F
 abbrev pub character : ℕ → ℕ
@@ -31,11 +31,13 @@ fault_line line number = text (0x8F ∷ two_bytes line ++ number ∷ [])
 unfoldable pub round_line : ℕ → ℕ → List ℕ
 round_line round marks = text (0x8A ∷ two_bytes round ++ two_bytes marks)
 
--- 8B, first, second, answer, count (two bytes)
+-- 8B, first, second, answer, count (two bytes); and of one named end 8E, individual, answer, count
 unfoldable pub answer_line : Ask → Answer → List ℕ
 answer_line (Pair a b) r =
     text (0x8B ∷ a.0 ∷ b.0 ∷ answer_number r ∷ two_bytes (answer_count r))
+answer_line (From a) r = text (0x8E ∷ a.0 ∷ answer_number r ∷ two_bytes (answer_count r))
 
 -- an ask's individuals go into a byte each
 abbrev pub IsInBytes : Ask → Type 0
 IsInBytes (Pair a b) = (a.0 < 2 ^ 8) × (b.0 < 2 ^ 8)
+IsInBytes (From a) = a.0 < 2 ^ 8

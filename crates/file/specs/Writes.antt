@@ -5,7 +5,6 @@ use Rattle.kinds.specs.declared.Answer.{Answer}
 use Rattle.meaning.specs.Collection.{Collection}
 use Rattle.meaning.specs.Lent.{Call, collection}
 use Rattle.meaning.specs.Outcome.{Outcome}
-use Rattle.tables.specs.declared.ask.Ask.TheVariants.{Pair}
 use Rattle.expression.specs.Listed.{Listed}
 use Rattle.frames.specs.declared.Frame.{Frame}
 use Rattle.streams.specs.Lines.{lines}
@@ -17,11 +16,11 @@ use Rattle.reading.specs.Reading.{Reading, faulty, sound}
 use Rattle.file.specs.Text.{fault_line, answer_line}
 use Rattle.file.specs.Rounds.{round_lines, RoundsTold}
 
--- the line for a call of the library: its outcome, and the pair that it asks
+-- the line for a call of the library: its outcome, and what it asks
 pub record Answers (call : Call) (line : List ℕ) : Type 0 where
   pub answer : Answer
   pub outcome : (area spare : List ℕ) × Outcome call answer area spare
-  pub written : line ≡ answer_line (Pair call.first call.second) answer
+  pub written : line ≡ answer_line call.ask answer
 
 -- the lines for the first k calls, in their order
 unfoldable pub Answered : (ℕ → Call) → ℕ → List ℕ → Type 0

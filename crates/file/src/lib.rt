@@ -8,13 +8,14 @@ ghost use Rattle.std.specs.declared.io.Error.{Error};
 ghost use Rattle.streams.specs.Takes.{TakesStart};
 ghost use Rattle.file.specs.Writes.{IsSound, IsAsking, IsFaulty, FileRounds, Writes};
 ghost use Rattle.file.specs.Serves.{Serves, message_of};
-ghost use Rattle.file.specs.Told.{round_length, answer_length, line_at};
+ghost use Rattle.streams.specs.Lines.{lines};
+ghost use Rattle.file.specs.Told.{round_length, answers_length, line_at, number_on};
+ghost use Rattle.tables.specs.Asks.{read_ask};
 ghost use Rattle.expression.specs.Listed.{Listed};
-ghost use Rattle.frames.specs.Digits.{byte_of};
 ghost use Rattle.frames.specs.declared.Frame.{Frame};
 ghost use Rattle.reading.specs.declared.Refusal.{Refusal};
 ghost use Rattle.reading.specs.Laws.{IsListed};
-ghost use Rattle.reading.specs.Tables.{asks, entries};
+ghost use Rattle.reading.specs.Tables.{asks, entries, table};
 
 use kinds::{ConceptName, SignedRole, State};
 use reading::{ASKS, File, read};
@@ -43,16 +44,20 @@ pub fn answer(input: &[u8], text: &mut [u8; MOST_TEXT]) -> usize
     ensures written { Writes input.now (take result text.new) }
     ensures rest { drop result text.new ≡ drop result text.old }
 
-    // The input writes no other text. Byte 3 of a line is its number: of an answer 0, 1, 2 or 3, of a fault one of 4 to 14, but never 7.
+    // The input writes no other text. A line has its number: of an answer 0, 1, 2 or 3, of a fault one of 4 to 14, but never 7.
     ensures only { (out : List ℕ) → Writes input.now out → out ≡ take result text.new }
     ensures long { (fs : List Frame) (q : Listed) → IsAsking input.now fs q
         → (counts : List ℕ) → FileRounds fs q counts
-        → result ≡ round_length * length counts + answer_length * entries asks fs }
+        → result ≡ round_length * length counts
+        + answers_length (read_ask (table asks fs)) (entries asks fs) }
+    ensures many { (fs : List Frame) (q : Listed) → IsAsking input.now fs q
+        → (counts : List ℕ) → FileRounds fs q counts
+        → length (lines (take result text.new)) ≡ length counts + entries asks fs }
     ensures listed { (fs : List Frame) → IsSound input.now fs
         → (k : ℕ) → k < entries asks fs
-        → byte_of (line_at (entries asks fs) (take result text.new) k) 3 ≤ 3 }
+        → number_on (line_at (entries asks fs) (take result text.new) k) ≤ 3 }
     ensures fault { (before : List Frame) (r : Refusal) → IsFaulty input.now before r
-        → IsListed (byte_of (take result text.new) 3) }
+        → IsListed (number_on (take result text.new)) }
 {
     let mut file = File::new();
     match read(Bytes::new(input), &mut file) {

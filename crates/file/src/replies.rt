@@ -3,14 +3,16 @@
 ghost use Rattle.std.specs.Prelude.{◌≡◌, ◌+◌, ◌^◌, ◌<◌, ◌≤◌, [], OnOk, OnErr, IfErr, length, drop, take};
 ghost use Rattle.std.specs.Io.KnownBytes.{Appends};
 ghost use Rattle.reading.specs.Reads.{IsRead};
+ghost use Rattle.reading.specs.File.{IsQuestion, question_by};
 ghost use Rattle.streams.specs.Takes.{TakesStart};
 ghost use Rattle.streams.specs.Puts.{Puts};
-ghost use Rattle.file.specs.Text.{round_line};
-ghost use Rattle.file.specs.Replying.{RoundsAll, AnswersEach, AnswersAll, Tells};
+ghost use Rattle.file.specs.Text.{round_line, answer_line, IsInBytes};
+ghost use Rattle.file.specs.Replying.{ask_count, RoundsAll, AnswersEach, AnswersAll, Tells};
 
 use crate::{MOST_TEXT, text};
+use expression::Automaton;
 use index::{Lent, Routes};
-use kinds::{Answer, MarkCount, RoundListener, Rounds};
+use kinds::{Answer, Ask, MarkCount, RoundListener, Rounds};
 use reading::{ASKS, Fault, File};
 use std::io;
 use streams::memory::Page;
@@ -47,8 +49,37 @@ impl<T: Taker> RoundListener for RoundLines<'_, T> {
     }
 }
 
-// The rounds of a file told, and the answers to its asks, in their order. Where there is none no more is worked out
-// than the automaton of an expression.
+// The rounds of a file that asks something told, and the answers to its asks, in their order.
+fn tell_asked<'a, 'b, T: Taker>(
+    file: &File,
+    automaton: &Option<Automaton>,
+    answers: &mut [Answer; ASKS],
+    lines: &'b mut RoundLines<'a, T>,
+) -> io::Result<()>
+    requires read { IsRead file.now }
+    requires question { IsQuestion file.now (question_by file.now automaton.now) }
+    requires some { 0 < ask_count file.now }
+    ensures same_reference { lines.new.to.ghost_name ≡ lines.old.to.ghost_name }
+    ensures ok { OnOk result (AnswersEach file.now answers.new
+        (λ out. T.takes lines.old.to.now out lines.new.to.now)) }
+    ensures err { IfErr result (λ e. RoundsAll file.now
+        (λ out. T.fails lines.old.to.now out e lines.new.to.now)) }
+{
+    let lent = Lent {
+        collection: file.collection(automaton),
+        allowance: file.allowance(),
+    };
+    let mut area = [0; AREA];
+    let mut spare = [0; AREA];
+    let mut routes = Routes::new();
+    let prepared = lent.prepare_telling(&mut area, &mut spare, &mut routes, lines)?;
+    let asks = file.asks();
+    prepared.reply_all(&asks, answers);
+    Ok(())
+}
+
+// The same of any file. Where it asks nothing no more is worked out than the automaton of an expression: the areas are
+// made in a call of their own, and cost nothing there.
 fn tell_rounds<'a, 'b, T: Taker>(
     file: &File,
     answers: &mut [Answer; ASKS],
@@ -61,21 +92,11 @@ fn tell_rounds<'a, 'b, T: Taker>(
     ensures err { IfErr result (λ e. RoundsAll file.now
         (λ out. T.fails lines.old.to.now out e lines.new.to.now)) }
 {
-    let asks = file.asks();
     let automaton = file.automaton();
-    if asks.is_empty() {
+    if file.asks().is_empty() {
         return Ok(());
     }
-    let lent = Lent {
-        collection: file.collection(&automaton),
-        allowance: file.allowance(),
-    };
-    let mut area = [0; AREA];
-    let mut spare = [0; AREA];
-    let mut routes = Routes::new();
-    let prepared = lent.prepare_telling(&mut area, &mut spare, &mut routes, lines)?;
-    prepared.reply_all(&asks, answers);
-    Ok(())
+    tell_asked(file, &automaton, answers, lines)
 }
 
 // The same, to what takes lines.
@@ -89,6 +110,18 @@ fn work_out<T: Taker>(file: &File, answers: &mut [Answer; ASKS], to: &mut T) -> 
     tell_rounds(file, answers, &mut lines)
 }
 
+// The line of an answer, to what takes lines.
+fn put_answer<T: Taker>(to: &mut T, ask: Ask, answer: Answer) -> io::Result<()>
+    requires { IsInBytes ask }
+    ensures ok { OnOk result (T.takes to.old (answer_line ask answer) to.new) }
+    ensures err { IfErr result (λ e. T.fails to.old (answer_line ask answer) e to.new) }
+{
+    match ask {
+        Ask::Pair(first, second) => to.put(&text::of_pair(first, second, answer)),
+        Ask::From(first) => to.put(&text::of_one(first, answer)),
+    }
+}
+
 // The rounds of a file told, and then every ask answered, in order.
 fn write_answers<T: Taker>(file: &File, to: &mut T) -> io::Result<()>
     requires { IsRead file.now }
@@ -98,7 +131,7 @@ fn write_answers<T: Taker>(file: &File, to: &mut T) -> io::Result<()>
     let mut answers = [Answer::BadAsk; ASKS];
     work_out(file, &mut answers, to)?;
     for (ask, answer) in file.asks().iter().zip(answers.iter()) {
-        to.put(&text::answer(ask, *answer))?;
+        put_answer(to, ask, *answer)?;
     }
     Ok(())
 }

@@ -4,14 +4,15 @@ ghost use Rattle.reading.specs.Refusal.{refusal_number};
 ghost use Rattle.file.specs.Text.{character, text, fault_line, round_line, answer_line, IsInBytes};
 
 use frames::BASE;
-use kinds::{Answer, MarkCount, Rounds};
+use kinds::{Answer, Ask, Individual, MarkCount, Rounds};
 use reading::Fault;
-use tables::Ask;
 
 // The kinds of line.
 const ROUND: u8 = 0x8A;
 
 const ANSWER: u8 = 0x8B;
+
+const ANSWER_ONE: u8 = 0x8E;
 
 const FAULT: u8 = 0x8F;
 
@@ -19,6 +20,8 @@ const FAULT: u8 = 0x8F;
 pub(crate) const ROUND_LINE: usize = 2 * 5 + 1;
 
 pub(crate) const ANSWER_LINE: usize = 2 * 6 + 1;
+
+pub(crate) const ONE_LINE: usize = 2 * 5 + 1;
 
 const FAULT_LINE: usize = 2 * 4 + 1;
 
@@ -78,13 +81,12 @@ pub(crate) fn round(round: Rounds, marks: MarkCount) -> [u8; ROUND_LINE]
     line
 }
 
-// The line of an answer.
+// The line of an answer about a pair.
 #[tactic(auto, unfolding(crate::specs::Text::answer_line))]
-pub(crate) fn answer(ask: Ask, answer: Answer) -> [u8; ANSWER_LINE]
-    requires { IsInBytes ask }
-    ensures { result ≡ answer_line ask answer }
+pub(crate) fn of_pair(first: Individual, second: Individual, answer: Answer) -> [u8; ANSWER_LINE]
+    requires { IsInBytes (Ask.Pair first second) }
+    ensures { result ≡ answer_line (Ask.Pair first second) answer }
 {
-    let Ask::Pair(first, second) = ask;
     let [high, low] = two_bytes(answer.count());
     let mut line = [0; ANSWER_LINE];
     let bytes = [
@@ -95,6 +97,19 @@ pub(crate) fn answer(ask: Ask, answer: Answer) -> [u8; ANSWER_LINE]
         high,
         low,
     ];
+    spell(&bytes, &mut line);
+    line
+}
+
+// The line of an answer about one named end.
+#[tactic(auto, unfolding(crate::specs::Text::answer_line))]
+pub(crate) fn of_one(first: Individual, answer: Answer) -> [u8; ONE_LINE]
+    requires { IsInBytes (Ask.From first) }
+    ensures { result ≡ answer_line (Ask.From first) answer }
+{
+    let [high, low] = two_bytes(answer.count());
+    let mut line = [0; ONE_LINE];
+    let bytes = [ANSWER_ONE, first.0 as u8, answer.number(), high, low];
     spell(&bytes, &mut line);
     line
 }

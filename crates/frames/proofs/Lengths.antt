@@ -1,10 +1,10 @@
--- A kind past the twelve of a fixed length has none; a sound line has a byte; its marks one by one.
-use Rattle.std.specs.Prelude.{ℕ, zero, suc, ◌+◌, ◌/◌, ◌≤◌, ◌≡◌, List, [], ◌∷◌, ◌++◌, length}
+-- A kind past the last has no length; a sound line has a byte; its marks one by one.
+use Rattle.std.specs.Prelude.{ℕ, zero, suc, ◌+◌, ◌/◌, ◌<◌, ◌≤◌, ◌≡◌, List, [], ◌∷◌, ◌++◌, length}
 use Rattle.std.proofs.Common.{refl, add-one, length-append, arith}
 use Rattle.frames.specs.Digits.{LineOk}
 use Rattle.frames.specs.Frames.{frame_length, marks_of}
 
-pub no_length : (kind : ℕ) → 13 ≤ kind → frame_length kind ≡ 0
+pub no_length : (kind : ℕ) → 15 ≤ kind → frame_length kind ≡ 0
 unfolding frame_length
 no_length kind past = grind arith
 

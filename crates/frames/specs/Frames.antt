@@ -5,14 +5,14 @@ use Rattle.kinds.specs.Kinds.{concept_name, role_name, individual, state, signed
 use Rattle.laws.specs.First.{First}
 use Rattle.frames.specs.Digits.{bytes, byte_of, LineOk}
 use Rattle.frames.specs.declared.Frame.{Frame}
-use Rattle.frames.specs.declared.Frame.TheVariants.{Declared, ConceptRule, ConceptExclusion, RoleRule, RoleExclusion, ConceptFact, RoleFact, RoleStep, TestStep, Final, Ask, Allowance, Expression}
+use Rattle.frames.specs.declared.Frame.TheVariants.{Declared, ConceptRule, ConceptExclusion, RoleRule, RoleExclusion, ConceptFact, RoleFact, RoleStep, TestStep, Final, Ask, AskFrom, Allowance, Expression}
 use Rattle.frames.specs.declared.Misread.{Misread}
 use Rattle.frames.specs.declared.Misread.TheVariants.{BadLine, BadFrame}
 
 -- the bytes of a frame of each kind, from 00 on, its kind among them; 0 where there is no such kind
 unfoldable pub frame_length : ℕ → ℕ
 frame_length kind =
-    unwrap_or (slice_get (0 ∷ 6 ∷ 3 ∷ 3 ∷ 3 ∷ 3 ∷ 3 ∷ 4 ∷ 4 ∷ 4 ∷ 2 ∷ 3 ∷ 3 ∷ []) kind) 0
+    unwrap_or (slice_get (0 ∷ 6 ∷ 3 ∷ 3 ∷ 3 ∷ 3 ∷ 3 ∷ 4 ∷ 4 ∷ 4 ∷ 2 ∷ 3 ∷ 3 ∷ 0 ∷ 2 ∷ []) kind) 0
 
 -- the first n bytes after the kind
 unfoldable pub marks_of : (ℕ → ℕ) → ℕ → List ℕ
@@ -46,7 +46,8 @@ module _ (byte : ℕ → ℕ) (bytes : ℕ) where
       ∷ Ok (Final (state (byte 1)))
       ∷ Ok (Ask (individual (byte 1)) (individual (byte 2)))
       ∷ Ok (Allowance (2 ^ 8 * byte 1 + byte 2))
-      ∷ Ok (Expression (marks_of byte (bytes - 1))) ∷ []
+      ∷ Ok (Expression (marks_of byte (bytes - 1)))
+      ∷ Ok (AskFrom (individual (byte 1))) ∷ []
 
 -- the frame of a kind by its bytes, of which there are so many
 unfoldable pub frame_by : ℕ → (ℕ → ℕ) → ℕ → Result Frame Misread

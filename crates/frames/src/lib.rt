@@ -29,6 +29,7 @@ pub enum Frame {
     TestStep(State, ConceptName, State),
     Final(State),
     Ask(Individual, Individual),
+    AskFrom(Individual),
     Allowance(Rounds),
     Expression(Marks),
 }
@@ -47,7 +48,7 @@ pub const BASE: u8 = 16;
 const BYTE: u16 = 256;
 
 // The bytes of a frame of each kind, the kind's own byte among them; 0 where there is no such kind.
-const LENGTHS: [usize; 13] = [0, 6, 3, 3, 3, 3, 3, 4, 4, 4, 2, 3, 3];
+const LENGTHS: [usize; 15] = [0, 6, 3, 3, 3, 3, 3, 4, 4, 4, 2, 3, 3, 0, 2];
 
 // The kind whose frame may have any length.
 const EXPRESSION: u16 = 13;
@@ -206,6 +207,7 @@ fn frame_of(kind: u16, reader: &mut Reader) -> Result<Frame, Misread>
         11 => Frame::Ask(reader.field(), reader.field()),
         12 => Frame::Allowance(BYTE * reader.byte() + reader.byte()),
         EXPRESSION => Frame::Expression(marks_in(reader.line)),
+        14 => Frame::AskFrom(reader.field()),
         _ => return Err(Misread::BadFrame),
     };
     Ok(frame)

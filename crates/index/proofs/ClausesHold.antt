@@ -17,7 +17,8 @@ use Rattle.meaning.specs.Demands.{Enough, AsModelSays, GrowsTo, Grown, allowed, 
 use Rattle.meaning.proofs.Demands.{says-what-the-model-says, most-enough, rounds-suffice}
 use Rattle.meaning.proofs.Demands as theorem
 use Rattle.meaning.proofs.Repeated.{repeats-mean-nothing}
-use Rattle.meaning.proofs.Forced.{yes-in, yes-out, model-keeps, model-respects, no-world}
+use Rattle.meaning.proofs.AskLaws.{ask-in, ask-out}
+use Rattle.meaning.proofs.Forced.{model-keeps, model-respects, no-world}
 use Rattle.index.specs.Clauses.{FailsTables, FailsNumbers, FailsAsk, IsContradicted, Settles, RunsOut, IsYesAfter, IsNoAfter, SameOutcome}
 use Rattle.index.specs.Worlds.{world_of, IsWorldOf, HasPath, IsForced, HasNoWorld}
 
@@ -165,11 +166,11 @@ module _ (c : Call) where
         let w = rounds-suffice (collection_of c) (sound-well-formed c s.sound) in
         let e = rounds-unique (lite (collection_of c)) n w.0 s.needed w.2 in
         omega (arith, e, w.1);
-    forced = λ n e w is. yes-in (collection_of c) (world_of w) is.keeps c.first c.second (says-as (says o) e).2;
+    forced = λ n e w is. ask-in (collection_of c) (world_of w) is.keeps c.ask (says-as (says o) e).2;
     no_world = λ e w is. let s = says-as (says o) e in no-world (collection_of c) (world_of w) s.1 is;
     a_world = world-of o;
-    not_forced = λ n e p. let s = says-as (says o) e in s.2 (yes-out (collection_of c) c.first c.second p);
+    not_forced = λ n e p. let s = says-as (says o) e in s.2 (ask-out (collection_of c) c.ask p);
     same_sets = λ t q u v s p. repeats-mean-nothing c t s o p;
-    grows = λ d q u v g p s e s' e'. theorem.grows c d g.larger g.first g.second s s' e e' o p;
+    grows = λ d q u v g p s e s' e'. theorem.grows c d g.larger g.ask s s' e e' o p;
     returns = λ n h k. theorem.returns c n h o k;
   }

@@ -1,11 +1,12 @@
 -- The rooms' tables, read in the words of the rules: what the sheet's rounds find, and what walks tell.
-use Rattle.std.specs.Prelude.{◌≡◌, ◌↔◌, IsTrue, List, ℕ, ◌<◌, ◌≤◌}
-use Rattle.std.proofs.Common.{rules}
+use Rattle.std.specs.Prelude.{◌≡◌, ◌↔◌, IsTrue, List, ℕ, ◌+◌, ◌<◌, ◌≤◌}
+use Rattle.std.proofs.Common.{rules, arith}
 use Rattle.kinds.specs.declared.Concept.{Concept}
-use Rattle.kinds.specs.Kinds.{most_states, most_individuals, individual, number_of, ConceptDeclared}
+use Rattle.kinds.specs.Kinds.{most_states, most_individuals, base, individual, number_of, role-concept, ConceptDeclared}
 use Rattle.meaning.specs.Collection.{Collection, NumbersDeclared, WellFormed}
 use Rattle.meaning.specs.Lent.{Tables}
 use Rattle.meaning.specs.Model.{IndividualHas, Contradiction}
+use Rattle.meaning.specs.Asks.{IsYes}
 use Rattle.meaning.specs.Sheet.{Mark}
 use Rattle.meaning.proofs.Clash.{typed-declared}
 use Rattle.meaning.proofs.Demands.{rounds-suffice}
@@ -13,10 +14,9 @@ use Rattle.sets.specs.Bits.{Has, has, concept_width}
 use Rattle.sets.specs.Rows.{concept_marks, role_marks}
 use Rattle.sets.specs.declared.concepts.ConceptSet.{ConceptSet}
 use Rattle.sets.specs.declared.states.StateSet.{StateSet}
-use Rattle.tables.specs.declared.ask.Ask.{Ask}
-use Rattle.tables.specs.declared.ask.Ask.TheVariants.{Pair}
+use Rattle.kinds.specs.declared.Ask.{Ask}
 use Rattle.tables.specs.declared.collection.Collection as code
-use Rattle.tables.specs.Asks.{IsAskDeclared}
+use Rattle.kinds.specs.Asks.{AskDeclared}
 use Rattle.tables.specs.Lists.{lists}
 use Rattle.orders.specs.declared.roles.RoleOrder.{RoleOrder}
 use Rattle.orders.specs.declared.concepts.ConceptOrder.{ConceptOrder}
@@ -46,12 +46,14 @@ use Rattle.sheet.specs.Ends as ends
 use Rattle.sheet.specs.Ends.{Ended}
 use Rattle.sheet.specs.Sheets as sheet
 use Rattle.sheet.proofs.Mean.{same_needed, needs_more, same_lays}
+use Rattle.walk.specs.declared.onward.Tree.{Tree}
+use Rattle.walk.specs.Exits.{AreExits}
 use Rattle.walk.specs.Finals.{AreFinals}
 use Rattle.walk.specs.Loops.{AreLoops}
 use Rattle.walk.specs.Sets.{concepts_at}
-use Rattle.walk.specs.Meant.{ConceptsOf, SheetOf, TablesOf}
-use Rattle.walk.proofs.Mean.{tables-mean, pair-mean, question-mean}
-use Rattle.index.specs.Asked.{IsYes}
+use Rattle.walk.specs.Meant.{ConceptsOf, SheetOf, WaysOf, BelowOf, ExitsOf, TablesOf}
+use Rattle.walk.proofs.Mean.{tables-mean, asked-mean, question-mean}
+use Rattle.walk.proofs.ExitMean.{exits-mean}
 use Rattle.index.specs.declared.routes.Paths.{Paths}
 use Rattle.index.specs.Works.{meant, Passes, Needs, Holds, StridesLead, AreRight}
 
@@ -129,19 +131,36 @@ module _ (c : code.Collection) (p : Passes c) where
     rows-right ways rows w s n tests to edges =
         rows_of 𝓒 p.counts ok roles.above order.below orders ways w rows (record { states = s; concepts = n; tests = tests; edges_to = to; edges = edges })
 
-    -- THEOREM: by the loops of the closed sheet, the ways and the hops, walks tell of each declared ask whether it is yes
+    below_of : BelowOf 𝓒 order.below
+    below_of R B hr hB =
+        let e = role-concept R in
+        let w = orders.concepts (base + R) B (omega arith) hB in
+        rw e at w
+
+    -- THEOREM: by the loops and the exits of the closed sheet, the ways and the hops, walks tell of each declared ask whether it is yes
     pub paths-right : (rows : Rows) → RowsOf 𝓒 rows → (n : ℕ) → Needs 𝓒 n → (rows' concepts : List ConceptSet) → sheet.Holds (Mark (kind_of rows) n) rows'
         → Concepts t.concept-facts t.role-facts (concept_marks order.above) (concept_marks concepts) → (r : Paths) → AreLoops concepts rows' r.loops.now.rows
-        → IsWays 𝓒.steps roles.above r.ways.now → r.hops.facts.numbers.now ≡ t.role-facts → r.question.start ≡ c.counts.start → AreFinals t.finals r.question.finals.0 → AreRight c r
-    paths-right rows w n need rows' concepts m k r loops ways facts start finals = record { each = each }
+        → IsWays 𝓒.steps roles.above r.ways.now → r.hops.facts.numbers.now ≡ t.role-facts → (tree : Tree) → tree.below.now ≡ order.below → tree.ways.now ≡ r.ways.now
+        → tree.sheet.now ≡ rows' → AreFinals t.finals tree.finals.0 → r.question.start ≡ c.counts.start → r.question.finals ≡ tree.finals
+        → AreExits concepts tree r.question.exits.now.rows → AreRight c r
+    paths-right rows w n need rows' concepts m k r loops ways facts tree below by sheet finals start ends exits = record { each = each }
       where
-        tables : TablesOf 𝓒 n r.loops.now.rows r.ways.now
-        tables =
-            tables-mean c.counts t p.counts ok n concepts rows' (concepts_of order.above concepts q k) (sheet_of rows w n rows' m) r.loops.now.rows r.ways.now loops
-            (ways_mean 𝓒 p.counts ok roles.above order.below orders r.ways.now ways)
+        have : ConceptsOf 𝓒 concepts
+        have = concepts_of order.above concepts q k
 
-        each : (ask : Ask) → IsAskDeclared c.counts ask → StridesLead r ask ↔ IsYes 𝓒 ask
-        each (Pair a b) d =
+        led : WaysOf 𝓒 r.ways.now
+        led = ways_mean 𝓒 p.counts ok roles.above order.below orders r.ways.now ways
+
+        tables : TablesOf 𝓒 n r.loops.now.rows r.ways.now
+        tables = tables-mean c.counts t p.counts ok n concepts rows' have (sheet_of rows w n rows' m) r.loops.now.rows r.ways.now loops led
+
+        out : ExitsOf 𝓒 r.question.exits.now.rows
+        out =
+            exits-mean c.counts t p.counts ok n need concepts have tree (rw below below_of) (rw by led) (rw sheet (sheet_of rows w n rows' m)) finals
+            r.question.exits.now.rows exits
+
+        each : (ask : Ask) → AskDeclared c.counts ask → StridesLead r ask ↔ IsYes 𝓒 ask
+        each ask d =
             rw facts
-            (pair-mean c.counts t p.counts ok p.tables.role-facts.few n need r.loops.now.rows r.ways.now tables r.question
-            (question-mean c.counts t p.counts ok r.question start finals) well a b d.0)
+            (asked-mean c.counts t p.counts ok p.tables.role-facts.few n need r.loops.now.rows r.ways.now tables r.question
+            (question-mean c.counts t p.counts ok r.question start (rw ends finals) out) well ask d)

@@ -6,23 +6,22 @@ use Rattle.kinds.specs.declared.Answer.{Answer}
 use Rattle.kinds.specs.declared.Answer.TheVariants as answer
 use Rattle.meaning.specs.Lent.{TablesFit, Sound}
 use Rattle.meaning.specs.Model.{Contradiction}
+use Rattle.meaning.specs.Asks.{IsYes}
 use Rattle.meaning.specs.Layout.{zeros}
 use Rattle.meaning.specs.Outcome.{bad-count, bad-table, bad-number, bad-ask, contradiction, spent, says-yes, says-no}
 use Rattle.meaning.proofs.OutcomeExists.{holds-sheet}
 use Rattle.meaning.proofs.Calculate.{sheet_area}
-use Rattle.kinds.specs.declared.Individual.{Individual}
 use Rattle.tables.specs.declared.collection.Refusal.{Refusal}
 use Rattle.tables.specs.declared.collection.Refusal.TheVariants.{BadCount, BadTable, BadNumber}
 use Rattle.tables.specs.Lists.{lists}
 use Rattle.tables.specs.Refusals.{answer_of}
-use Rattle.tables.specs.declared.ask.Ask.{Ask}
-use Rattle.tables.specs.declared.ask.Ask.TheVariants.{Pair}
+use Rattle.kinds.specs.declared.Ask.{Ask}
 use Rattle.index.specs.declared.lent.Lent.{Lent}
 use Rattle.index.specs.declared.work.Found.{Found}
 use Rattle.index.specs.Works.{meant, Passes, HasAreas, Needs, NeedsMore, IsFound}
-use Rattle.tables.specs.Asks.{IsAskDeclared}
+use Rattle.kinds.specs.Asks.{AskDeclared}
 use Rattle.index.specs.Preparation.{Preparation, preparation}
-use Rattle.index.specs.Asked.{IsYes, asked, IsAnswer}
+use Rattle.index.specs.Asked.{asked, IsAnswer}
 use Rattle.index.specs.Worked.{IsRefused, IsSettled, IsWorked}
 
 -- where a test fails its fact does not hold
@@ -34,42 +33,39 @@ module _ (l : Lent) (area spare : ℕ) where
   of = preparation l area spare
 
   -- a refusal of the collection
-  refused-pair : (e : Refusal) → IsRefused l area spare e → (a b : Individual) → IsAnswer of (Pair a b) (answer_of e)
-  refused-pair BadCount h a b x y e f = let w = h.bad_count.0 refl in (x, y, bad-count w)
-  refused-pair BadTable h a b x y e f = let w = h.bad_table.0 refl in (x, y, bad-table w.counts (rw (e, f) w.tables))
-  refused-pair BadNumber h a b x y e f = let w = h.bad_number.0 refl in (x, y, bad-number w.counts (rw (e, f) w.tables) w.numbers)
-
   pub refused : (e : Refusal) → IsRefused l area spare e → (ask : Ask) → IsAnswer of ask (answer_of e)
-  refused e h (Pair a b) = refused-pair e h a b
+  refused BadCount h ask x y e f = let w = h.bad_count.0 refl in (x, y, bad-count w)
+  refused BadTable h ask x y e f = let w = h.bad_table.0 refl in (x, y, bad-table w.counts (rw (e, f) w.tables))
+  refused BadNumber h ask x y e f = let w = h.bad_number.0 refl in (x, y, bad-number w.counts (rw (e, f) w.tables) w.numbers)
 
   module _ (passes : Passes l.collection) (areas : HasAreas area spare) where
     fits : (x y : List ℕ) → length x ≡ area → length y ≡ spare → TablesFit (lists l.collection) (length x) (length y)
     fits x y e f = record { tables = passes.tables; area = e ∙ areas.area; spare = f ∙ areas.spare }
 
-    pub undeclared : (ask : Ask) → (IsAskDeclared l.collection.counts ask → ⊥) → IsAnswer of ask answer.BadAsk
-    undeclared (Pair a b) n x y e f = (x, y, bad-ask passes.counts (fits x y e f) passes.numbers n)
+    pub undeclared : (ask : Ask) → (AskDeclared l.collection.counts ask → ⊥) → IsAnswer of ask answer.BadAsk
+    undeclared ask n x y e f = (x, y, bad-ask passes.counts (fits x y e f) passes.numbers n)
 
-    sound : (a b : Individual) → IsAskDeclared l.collection.counts (Pair a b) → (x y : List ℕ) → length x ≡ area → length y ≡ spare → Sound (asked of (Pair a b) x y)
-    sound a b d x y e f = record { counts = passes.counts; tables = fits x y e f; numbers = passes.numbers; ask = d }
+    sound : (ask : Ask) → AskDeclared l.collection.counts ask → (x y : List ℕ) → length x ≡ area → length y ≡ spare → Sound (asked of ask x y)
+    sound ask d x y e f = record { counts = passes.counts; tables = fits x y e f; numbers = passes.numbers; ask = d }
 
-    pub broken : (ask : Ask) → IsAskDeclared l.collection.counts ask → Contradiction (meant l.collection) → IsAnswer of ask answer.Contradiction
-    broken (Pair a b) d h x y e f = (x, y, contradiction (sound a b d x y e f) h)
+    pub broken : (ask : Ask) → AskDeclared l.collection.counts ask → Contradiction (meant l.collection) → IsAnswer of ask answer.Contradiction
+    broken ask d h x y e f = (x, y, contradiction (sound ask d x y e f) h)
 
-    pub beyond : (ask : Ask) → IsAskDeclared l.collection.counts ask → (n : ℕ) → NeedsMore l n → IsAnswer of ask (answer.AllowanceSpent l.allowance)
-    beyond (Pair a b) d n k x y e f =
-        let s = sound a b d x y e f in
-        (sheet_area (asked of (Pair a b) x y) l.allowance, zeros, spent s k.sane k.needed k.more (holds-sheet (asked of (Pair a b) x y) s l.allowance))
+    pub beyond : (ask : Ask) → AskDeclared l.collection.counts ask → (n : ℕ) → NeedsMore l n → IsAnswer of ask (answer.AllowanceSpent l.allowance)
+    beyond ask d n k x y e f =
+        let s = sound ask d x y e f in
+        (sheet_area (asked of ask x y) l.allowance, zeros, spent s k.sane k.needed k.more (holds-sheet (asked of ask x y) s l.allowance))
 
     module _ (sane : Contradiction (meant l.collection) → ⊥) (n : ℕ) (need : Needs (meant l.collection) n) (enough : n ≤ l.allowance) where
-      pub yes : (ask : Ask) → IsAskDeclared l.collection.counts ask → IsYes (meant l.collection) ask → IsAnswer of ask (answer.Yes n)
-      yes (Pair a b) d h x y e f =
-          let s = sound a b d x y e f in
-          (sheet_area (asked of (Pair a b) x y) n, zeros, says-yes s sane need enough (holds-sheet (asked of (Pair a b) x y) s n) h)
+      pub yes : (ask : Ask) → AskDeclared l.collection.counts ask → IsYes (meant l.collection) ask → IsAnswer of ask (answer.Yes n)
+      yes ask d h x y e f =
+          let s = sound ask d x y e f in
+          (sheet_area (asked of ask x y) n, zeros, says-yes s sane need enough (holds-sheet (asked of ask x y) s n) h)
 
-      pub no : (ask : Ask) → IsAskDeclared l.collection.counts ask → (IsYes (meant l.collection) ask → ⊥) → IsAnswer of ask (answer.No n)
-      no (Pair a b) d h x y e f =
-          let s = sound a b d x y e f in
-          (sheet_area (asked of (Pair a b) x y) n, zeros, says-no s sane need enough (holds-sheet (asked of (Pair a b) x y) s n) h)
+      pub no : (ask : Ask) → AskDeclared l.collection.counts ask → (IsYes (meant l.collection) ask → ⊥) → IsAnswer of ask (answer.No n)
+      no ask d h x y e f =
+          let s = sound ask d x y e f in
+          (sheet_area (asked of ask x y) n, zeros, says-no s sane need enough (holds-sheet (asked of ask x y) s n) h)
 
 module _ (l : Lent) (area spare : ℕ) (r : Result Found Refusal) (h : IsWorked l area spare r) where
   pub settled-as : {f : Found} → r ≡ Ok f → IsSettled l area spare f

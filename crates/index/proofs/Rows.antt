@@ -7,11 +7,12 @@ use Rattle.kinds.specs.declared.Answer.{Answer}
 use Rattle.kinds.specs.declared.Answer.TheVariants.{BadAsk}
 use Rattle.kinds.specs.declared.Counts.{Counts}
 use Rattle.meaning.specs.Outcome.{Outcome, bad-count, bad-table, bad-number, bad-ask, contradiction, spent, says-yes, says-no}
-use Rattle.tables.specs.declared.ask.Ask.{Ask}
-use Rattle.tables.specs.declared.ask.Ask.TheVariants.{Pair}
+use Rattle.kinds.specs.declared.Ask.{Ask}
+use Rattle.kinds.specs.declared.Ask.TheVariants.{Pair, From}
 use Rattle.index.specs.declared.lent.Lent.{Lent}
 use Rattle.index.specs.Preparation.{Preparation, preparation}
-use Rattle.tables.specs.Asks.{read_ask, IsAskDeclared}
+use Rattle.kinds.specs.Asks.{AskDeclared}
+use Rattle.tables.specs.Asks.{read_ask}
 use Rattle.index.specs.Asked.{asked, IsAnswer}
 use Rattle.index.specs.Clauses.{Refuses}
 use Rattle.index.specs.Row.{ask_count, AnswersEach, AllAlike, SomeDeclared, InTurn, none, next}
@@ -28,7 +29,8 @@ stands P answers k h w =
     let e = slice_get-get_or answers k BadAsk h in
     (_, e, subst (λ o. IfSome o P) e w)
 
-dec-declared : (c : Counts) (ask : Ask) → Dec (IsAskDeclared c ask)
+dec-declared : (c : Counts) (ask : Ask) → Dec (AskDeclared c ask)
+dec-declared c (From a) = dec_lt a.0 c.individuals
 dec-declared c (Pair a b) = both (dec_lt a.0 c.individuals) (dec_lt b.0 c.individuals)
   where
     both : {A B : Type 0} → Dec A → Dec B → Dec (A × B)
@@ -38,25 +40,22 @@ dec-declared c (Pair a b) = both (dec_lt a.0 c.individuals) (dec_lt b.0 c.indivi
 
 module _ (p : Preparation) (ask : Ask) (x y : List ℕ) where
   -- an ask that is not declared leaves both areas as they were
-  spared : {r : Answer} {u v : List ℕ} → (IsAskDeclared p.counts ask → ⊥) → Outcome (asked p ask x y) r u v → Outcome (asked p ask x y) r x y
-  spared n o = by ask n o
-    where
-      by : (ask : Ask) {r : Answer} {u v : List ℕ} → (IsAskDeclared p.counts ask → ⊥) → Outcome (asked p ask x y) r u v → Outcome (asked p ask x y) r x y
-      by (Pair a b) n (bad-count h) = bad-count h
-      by (Pair a b) n (bad-table k h) = bad-table k h
-      by (Pair a b) n (bad-number k t h) = bad-number k t h
-      by (Pair a b) n (bad-ask k t m h) = bad-ask k t m h
-      by (Pair a b) n (contradiction s k) = absurd (n s.ask)
-      by (Pair a b) n (spent s k need h lays) = absurd (n s.ask)
-      by (Pair a b) n (says-yes s k need h lays q) = absurd (n s.ask)
-      by (Pair a b) n (says-no s k need h lays q) = absurd (n s.ask)
+  spared : {r : Answer} {u v : List ℕ} → (AskDeclared p.counts ask → ⊥) → Outcome (asked p ask x y) r u v → Outcome (asked p ask x y) r x y
+  spared n (bad-count h) = bad-count h
+  spared n (bad-table k h) = bad-table k h
+  spared n (bad-number k t h) = bad-number k t h
+  spared n (bad-ask k t m h) = bad-ask k t m h
+  spared n (contradiction s k) = absurd (n s.ask)
+  spared n (spent s k need h lays) = absurd (n s.ask)
+  spared n (says-yes s k need h lays q) = absurd (n s.ask)
+  spared n (says-no s k need h lays q) = absurd (n s.ask)
 
-module _ (p : Preparation) (t : List ℕ) (tells : ℕ → Answer → Type 0) (area spare : List ℕ) where
+module _ (p : Preparation) (ask : ℕ → Ask) (tells : ℕ → Answer → Type 0) (area spare : List ℕ) where
   abbrev Turn : ℕ → List ℕ → List ℕ → Type 0
-  Turn = InTurn p t tells area spare
+  Turn = InTurn p ask tells area spare
 
   -- THEOREM: asks that leave both areas as they were are asked in turn
-  pub still : (n : ℕ) → ((k : ℕ) → k < n → (r : Answer) × tells k r × Outcome (asked p (read_ask t k) area spare) r area spare) → Turn n area spare
+  pub still : (n : ℕ) → ((k : ℕ) → k < n → (r : Answer) × tells k r × Outcome (asked p (ask k) area spare) r area spare) → Turn n area spare
   still zero h = none
   still (suc n) h = let w = h n (omega arith) in next w.0 (still n (λ k l. h k (omega arith))) w.1 w.2
 
@@ -66,28 +65,28 @@ module _ (p : Preparation) (t : List ℕ) (tells : ℕ → Answer → Type 0) (a
     again = record { sheet = left.sheet; cleared = left.cleared; untouched = λ n. refl; spared = λ n. refl }
 
     abbrev Replied : ℕ → Type 0
-    Replied k = (r : Answer) × tells k r × IsAnswer p (read_ask t k) r
+    Replied k = (r : Answer) × tells k r × IsAnswer p (ask k) r
 
     abbrev Far : ℕ → Type 0
-    Far n = (((k : ℕ) → k < n → IsAskDeclared p.counts (read_ask t k) → ⊥) × Turn n area spare) ⊎ Turn n x y
+    Far n = (((k : ℕ) → k < n → AskDeclared p.counts (ask k) → ⊥) × Turn n area spare) ⊎ Turn n x y
 
-    step : (n : ℕ) → Replied n → Far n → Dec (IsAskDeclared p.counts (read_ask t n)) → Far (suc n)
-    step n w (inl z) (yes d) = inr (next w.0 z.1 w.1 (replied p area spare x y left e f (read_ask t n) w.0 d w.2))
+    step : (n : ℕ) → Replied n → Far n → Dec (AskDeclared p.counts (ask n)) → Far (suc n)
+    step n w (inl z) (yes d) = inr (next w.0 z.1 w.1 (replied p area spare x y left e f (ask n) w.0 d w.2))
     step n w (inl z) (no m) =
-        inl (λ k l. at k (dec_lt k n) l, next w.0 z.1 w.1 (spared p (read_ask t n) area spare m (w.2 area spare e f).2))
+        inl (λ k l. at k (dec_lt k n) l, next w.0 z.1 w.1 (spared p (ask n) area spare m (w.2 area spare e f).2))
       where
-        at : (k : ℕ) → Dec (k < n) → k < suc n → IsAskDeclared p.counts (read_ask t k) → ⊥
+        at : (k : ℕ) → Dec (k < n) → k < suc n → AskDeclared p.counts (ask k) → ⊥
         at k (yes l) i d = z.0 k l d
         at k (no l) i d = let q : k ≡ n = omega arith in m (rw q at d)
-    step n w (inr z) (yes d) = inr (next w.0 z w.1 (replied p x y x y again g h (read_ask t n) w.0 d w.2))
-    step n w (inr z) (no m) = inr (next w.0 z w.1 (spared p (read_ask t n) x y m (w.2 x y g h).2))
+    step n w (inr z) (yes d) = inr (next w.0 z w.1 (replied p x y x y again g h (ask n) w.0 d w.2))
+    step n w (inr z) (no m) = inr (next w.0 z w.1 (spared p (ask n) x y m (w.2 x y g h).2))
 
     far : (n : ℕ) → ((k : ℕ) → k < n → Replied k) → Far n
     far zero w = inl (λ k l. absurd (omega arith), none)
-    far (suc n) w = step n (w n (omega arith)) (far n (λ k l. w k (omega arith))) (dec-declared p.counts (read_ask t n))
+    far (suc n) w = step n (w n (omega arith)) (far n (λ k l. w k (omega arith))) (dec-declared p.counts (ask n))
 
     -- THEOREM: replies from one preparation are the answers to asks in turn, where one of them is declared
-    pub turns : (n : ℕ) → ((k : ℕ) → k < n → Replied k) → (k : ℕ) → k < n → IsAskDeclared p.counts (read_ask t k) → Turn n x y
+    pub turns : (n : ℕ) → ((k : ℕ) → k < n → Replied k) → (k : ℕ) → k < n → AskDeclared p.counts (ask k) → Turn n x y
     turns n w k l d = by (far n w)
       where
         by : Far n → Turn n x y
@@ -101,9 +100,9 @@ module _ (l : Lent) (t : List ℕ) (area spare : List ℕ) (answers : List Answe
 
   -- where none is declared
   pub refused_in_turn : (refused : Answer) → Refuses l (length area) (length spare) refused → AllAlike t refused answers
-      → (SomeDeclared l.collection.counts t n → ⊥) → InTurn p t (StandsAt answers) area spare (min (ask_count t) long) area spare
+      → (SomeDeclared l.collection.counts t n → ⊥) → InTurn p (read_ask t) (StandsAt answers) area spare (min (ask_count t) long) area spare
   refused_in_turn refused h alike none-declared =
-      rw (← few) (still p t (StandsAt answers) area spare n
+      rw (← few) (still p (read_ask t) (StandsAt answers) area spare n
       (λ k i.
       let w = stands (λ q. q ≡ refused) answers k (omega arith) (alike k (omega arith)) in
       let o = h (read_ask t k) area spare refl refl (λ d. none-declared (record { at = k; below = omega arith; whole = omega arith; declared = d })) in
@@ -111,14 +110,16 @@ module _ (l : Lent) (t : List ℕ) (area spare : List ℕ) (answers : List Answe
 
   module _ (q : Preparation) (own : q ≡ p) (x y : List ℕ) (left : Left q area spare x y) (e : length x ≡ length area) (f : length y ≡ length spare) where
     -- where some is
-    pub replied_in_turn : AnswersEach q t answers → SomeDeclared l.collection.counts t n → InTurn p t (StandsAt answers) area spare (min (ask_count t) long) x y
+    pub replied_in_turn : AnswersEach q t answers → SomeDeclared l.collection.counts t n → InTurn p (read_ask t) (StandsAt answers) area spare (min (ask_count t) long) x y
     replied_in_turn each d =
         let left' = subst (λ (q : Preparation). Left q area spare x y) own left in
         let each' = subst (λ (q : Preparation). AnswersEach q t answers) own each in
-        rw (← few) (turns p t (StandsAt answers) area spare x y left' refl refl e f n (λ k i. stands (IsAnswer p (read_ask t k)) answers k (omega arith) (each' k (omega arith))) d.at d.below d.declared)
+        rw (← few) (turns p (read_ask t) (StandsAt answers) area spare x y left' refl refl e f n (λ k i. stands (IsAnswer p (read_ask t k)) answers k (omega arith) (each' k (omega arith))) d.at d.below d.declared)
 
--- asks in turn, whose answers stand elsewhere too
-pub retold : {p : Preparation} {t : List ℕ} {tells tells' : ℕ → Answer → Type 0} {area spare : List ℕ} (n : ℕ) {x y : List ℕ} → InTurn p t tells area spare n x y
-    → ((k : ℕ) (r : Answer) → k < n → tells k r → tells' k r) → InTurn p t tells' area spare n x y
-retold zero none h = none
-retold (suc n) (next r a s o) h = next r (retold n a (λ k q l. h k q (omega arith))) (h n r (omega arith) s) o
+-- the same asks in turn, whose answers stand elsewhere too
+pub retold : {p : Preparation} {ask ask' : ℕ → Ask} {tells tells' : ℕ → Answer → Type 0} {area spare : List ℕ} (n : ℕ) {x y : List ℕ} → InTurn p ask tells area spare n x y
+    → ((k : ℕ) → k < n → ask k ≡ ask' k) → ((k : ℕ) (r : Answer) → k < n → tells k r → tells' k r) → InTurn p ask' tells' area spare n x y
+retold zero none e h = none
+retold {p} {ask} {ask'} (suc n) (next {x = x} {y = y} {u = u} {v = v} r a s o) e h =
+    let o' = subst (λ (q : Ask). Outcome (asked p q x y) r u v) (e n (omega arith)) o in
+    next r (retold n a (λ k l. e k (omega arith)) (λ k q l. h k q (omega arith))) (h n r (omega arith) s) o'

@@ -3,8 +3,10 @@ use Rattle.std.specs.Prelude.{◌≡◌, ◌↔◌, Bool, IsTrue, Option, Some, 
 use Rattle.std.proofs.Common.{subst, sym, arith}
 use Rattle.std.proofs.Math.Decide.{dec_lt}
 use Rattle.std.proofs.lemmas.List.{length-replicate, get_or-replicate, get_or_past}
-use Rattle.tables.specs.declared.ask.Ask.{Ask}
-use Rattle.tables.specs.Asks.{read_ask, IsAskDeclared}
+use Rattle.kinds.specs.declared.Ask.{Ask}
+use Rattle.kinds.specs.Asks.{AskDeclared}
+use Rattle.tables.specs.Asks.{read_ask}
+use Rattle.meaning.specs.Asks.{IsYes}
 use Rattle.walk.specs.declared.strides.Strides.{Strides}
 use Rattle.walk.specs.Asks as answers
 use Rattle.walk.specs.Asks.{YesBy}
@@ -12,7 +14,7 @@ use Rattle.walk.specs.Parts.{part_size, ask_of}
 use Rattle.index.specs.declared.routes.Paths.{Paths}
 use Rattle.index.specs.Works.{StridesLead}
 use Rattle.index.specs.Preparation.{Preparation, collection_in}
-use Rattle.index.specs.Asked.{IsYes, IsTold, AreTold}
+use Rattle.index.specs.Asked.{IsTold, AreTold}
 
 -- one preparation is as good as another that is equal
 pub told_seen : {p q : Preparation} (ask : Ask) (told : Option Bool) → p ≡ q → IsTold q ask told → IsTold p ask told
@@ -39,8 +41,8 @@ module _ (p : Preparation) (t : List ℕ) (from : ℕ) where
       by (no m) = let e : slice_index_or none k None ≡ None = get_or_past none k None (omega (arith, length-replicate {A = Option Bool} n None)) in rw e tt
 
   module _ (s : Strides) (r : Paths) (loops : s.loops ≡ r.loops) (ways : s.ways ≡ r.ways) (hops : s.hops.now ≡ r.hops)
-      (right : (ask : Ask) → IsAskDeclared p.counts ask → StridesLead r ask ↔ IsYes (collection_in p) ask) where
-    by_strides : (ask : Ask) → IsAskDeclared p.counts ask → YesBy s r.question ask ↔ IsYes (collection_in p) ask
+      (right : (ask : Ask) → AskDeclared p.counts ask → StridesLead r ask ↔ IsYes (collection_in p) ask) where
+    by_strides : (ask : Ask) → AskDeclared p.counts ask → YesBy s r.question ask ↔ IsYes (collection_in p) ask
     by_strides ask d = let w = right ask d in rw (loops, ways, hops) w
 
     one_told : (ask : Ask) (v : Option Bool) → answers.IsAnswer s r.question ask v → IsTold p ask v

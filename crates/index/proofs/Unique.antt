@@ -14,8 +14,8 @@ use Rattle.meaning.proofs.LayoutLaws.{lays-once}
 use Rattle.meaning.proofs.Demands.{rounds-suffice}
 use Rattle.meaning.proofs.Reply.{clash}
 use Rattle.meaning.proofs.ClashLaws.{clash-is}
-use Rattle.tables.specs.declared.ask.Ask.{Ask}
-use Rattle.tables.specs.declared.ask.Ask.TheVariants.{Pair}
+use Rattle.kinds.specs.declared.Ask.{Ask}
+use Rattle.kinds.specs.declared.Ask.TheVariants.{Pair}
 use Rattle.index.specs.Preparation.{Preparation, collection_in, Fits, HasSheet}
 use Rattle.index.specs.Asked.{asked, IsAnswer}
 use Rattle.index.specs.Row.{InTurn, none, next}
@@ -84,9 +84,9 @@ module _ (p : Preparation) where
           (lays-once _ x u (a.sheet s w.0 w.2) (b.sheet s w.0 w.2), a.cleared s ∙ sym (b.cleared s))
       by (no n) = (a.untouched n ∙ sym (b.untouched n), a.spared n ∙ sym (b.spared n))
 
-  module _ (t : List ℕ) (tells tells' : ℕ → Answer → Type 0) (area spare : List ℕ) where
+  module _ (ask : ℕ → Ask) (tells tells' : ℕ → Answer → Type 0) (area spare : List ℕ) where
     -- THEOREM: two ways to ask a row in turn have the same answers and leave the same areas
-    pub in-turn-once : (n : ℕ) {x y u v : List ℕ} → InTurn p t tells area spare n x y → InTurn p t tells' area spare n u v
+    pub in-turn-once : (n : ℕ) {x y u v : List ℕ} → InTurn p ask tells area spare n x y → InTurn p ask tells' area spare n u v
         → (x ≡ u) × (y ≡ v) × ((k : ℕ) → k < n → SameAt tells tells' k)
     in-turn-once zero none none = (refl, refl, λ k h. absurd (omega arith))
     in-turn-once (suc n) (next r a h o) (next q b k m) =

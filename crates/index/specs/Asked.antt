@@ -1,26 +1,20 @@
 -- An ask of what was prepared, as a call; and its answer.
 use Rattle.std.specs.Prelude.{◌≡◌, ◌↔◌, Bool, IsTrue, Option, None, IfSome, List, ℕ, ◌+◌, length, slice_index_or}
 use Rattle.kinds.specs.declared.Answer.{Answer}
-use Rattle.meaning.specs.Collection.{Collection}
-use Rattle.meaning.specs.Question.{Yes}
+use Rattle.meaning.specs.Asks.{IsYes}
 use Rattle.meaning.specs.Lent.{Call}
 use Rattle.meaning.specs.Outcome.{Outcome}
-use Rattle.tables.specs.declared.ask.Ask.{Ask}
-use Rattle.tables.specs.declared.ask.Ask.TheVariants.{Pair}
-use Rattle.tables.specs.Asks.{read_ask, first_of, second_of, IsAskDeclared}
+use Rattle.kinds.specs.declared.Ask.{Ask}
+use Rattle.kinds.specs.Asks.{AskDeclared}
+use Rattle.tables.specs.Asks.{read_ask}
 use Rattle.index.specs.Preparation.{Preparation, collection_in}
-
--- the asked pair is yes in the canonical model
-abbrev pub IsYes : Collection → Ask → Type 0
-IsYes 𝓒 (Pair a b) = Yes 𝓒 a b
 
 -- the call that asks it of what was prepared, with these areas
 abbrev pub asked : Preparation → Ask → List ℕ → List ℕ → Call
 asked p ask area spare = record {
   counts = p.counts;
   tables = p.tables;
-  first = first_of ask;
-  second = second_of ask;
+  ask = ask;
   allowance = p.allowance;
   area = area;
   spare = spare;
@@ -35,7 +29,7 @@ IsAnswer p ask r =
 -- what was told of an ask is right where it is declared: whether it is yes
 abbrev pub IsTold : Preparation → Ask → Option Bool → Type 0
 IsTold p ask told =
-    IfSome told (λ yes. IsAskDeclared p.counts ask → IsTrue yes ↔ IsYes (collection_in p) ask)
+    IfSome told (λ yes. AskDeclared p.counts ask → IsTrue yes ↔ IsYes (collection_in p) ask)
 
 -- what was told of the asks of a row, from one on
 abbrev pub AreTold : Preparation → List ℕ → ℕ → List (Option Bool) → Type 0

@@ -3,10 +3,10 @@ use Rattle.std.specs.Prelude.{◌≡◌, ◌≤◌, ◌<◌, List, ℕ, length}
 use Rattle.kinds.specs.declared.Answer.{Answer}
 use Rattle.meaning.specs.Lent.{Call, CountsOk, TablesOk, NumbersOk, AskOk, Sound}
 use Rattle.meaning.specs.Outcome.{Outcome, Breaks, Reached, RoundsNeeded}
-use Rattle.tables.specs.declared.ask.Ask.{Ask}
+use Rattle.kinds.specs.declared.Ask.{Ask}
 use Rattle.index.specs.declared.lent.Lent.{Lent}
 use Rattle.index.specs.Preparation.{preparation}
-use Rattle.tables.specs.Asks.{IsAskDeclared}
+use Rattle.kinds.specs.Asks.{AskDeclared}
 use Rattle.index.specs.Asked.{asked}
 
 -- the call that asks it of what is lent, with these areas
@@ -37,7 +37,7 @@ pub record Settles (c : Call) (n : ℕ) : Type 0 where
 abbrev pub RunsOut : Call → ℕ → Type 0
 RunsOut c n = (n ≡ c.allowance) × ((m : ℕ) × Settles c m × (n < m))
 
--- n rounds are needed and allowed, and the pair is yes in the model; or it is not
+-- n rounds are needed and allowed, and the ask is yes in the model; or it is not
 abbrev pub IsYesAfter : Call → ℕ → Type 0
 IsYesAfter c n = Settles c n × (n ≤ c.allowance) × Reached c
 
@@ -52,5 +52,5 @@ SameOutcome r x y q u v = (r ≡ q) × (x ≡ u) × (y ≡ v)
 abbrev pub Refuses : Lent → ℕ → ℕ → Answer → Type 0
 Refuses l long long' r =
     (ask : Ask) (area spare : List ℕ) → length area ≡ long → length spare ≡ long'
-    → (IsAskDeclared l.collection.counts ask → ⊥)
+    → (AskDeclared l.collection.counts ask → ⊥)
     → Outcome (called l ask area spare) r area spare

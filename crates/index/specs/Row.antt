@@ -2,9 +2,11 @@
 use Rattle.std.specs.Prelude.{◌≡◌, IfSome, List, ℕ, suc, ◌/◌, ◌≤◌, ◌<◌, length, slice_get}
 use Rattle.kinds.specs.declared.Counts.{Counts}
 use Rattle.kinds.specs.declared.Answer.{Answer}
+use Rattle.kinds.specs.declared.Ask.{Ask}
 use Rattle.meaning.specs.Outcome.{Outcome}
 use Rattle.index.specs.Preparation.{Preparation}
-use Rattle.tables.specs.Asks.{ask_width, read_ask, IsAskDeclared}
+use Rattle.kinds.specs.Asks.{AskDeclared}
+use Rattle.tables.specs.Asks.{ask_width, read_ask}
 use Rattle.index.specs.Asked.{asked, IsAnswer}
 
 -- the whole asks in a row of numbers
@@ -39,12 +41,12 @@ pub record SomeDeclared (c : Counts) (t : List ℕ) (n : ℕ) : Type 0 where
   pub at : ℕ
   pub below : at < n
   pub whole : at < ask_count t
-  pub declared : IsAskDeclared c (read_ask t at)
+  pub declared : AskDeclared c (read_ask t at)
 
--- the first n asks of a row, each asked with the areas as the one before left them: `tells k r`
--- says where answer r to ask k stands
-pub data InTurn (p : Preparation) (t : List ℕ) (tells : ℕ → Answer → Type 0)
+-- the first n of some asks, each asked with the areas as the one before left them: `tells k r` says
+-- where answer r to ask k stands
+pub data InTurn (p : Preparation) (ask : ℕ → Ask) (tells : ℕ → Answer → Type 0)
     (area spare : List ℕ) : ℕ → List ℕ → List ℕ → Type 0 where
-  none : InTurn p t tells area spare 0 area spare
-  next : {n : ℕ} {x y u v : List ℕ} (r : Answer) → InTurn p t tells area spare n x y → tells n r
-      → Outcome (asked p (read_ask t n) x y) r u v → InTurn p t tells area spare (suc n) u v
+  none : InTurn p ask tells area spare 0 area spare
+  next : {n : ℕ} {x y u v : List ℕ} (r : Answer) → InTurn p ask tells area spare n x y → tells n r
+      → Outcome (asked p (ask n) x y) r u v → InTurn p ask tells area spare (suc n) u v

@@ -4,21 +4,21 @@ use Rattle.kinds.specs.Kinds.{CountsFit}
 use Rattle.meaning.specs.Collection.{Collection}
 use Rattle.meaning.specs.Lent.{collection, ShapesOk, NumbersFit}
 use Rattle.meaning.specs.Model.{Contradiction}
+use Rattle.meaning.specs.Asks.{IsYes}
 use Rattle.meaning.specs.Marks.{RoundCounts}
 use Rattle.meaning.specs.Sheet.{Mark}
 use Rattle.meaning.specs.Sheet as sheet
 use Rattle.meaning.specs.Lite.{lite}
 use Rattle.meaning.specs.Layout.{area_length, Lays, zeros}
-use Rattle.tables.specs.declared.ask.Ask.{Ask}
+use Rattle.kinds.specs.declared.Ask.{Ask}
 use Rattle.tables.specs.declared.collection.Collection as code
-use Rattle.tables.specs.Asks.{IsAskDeclared}
+use Rattle.kinds.specs.Asks.{AskDeclared}
 use Rattle.tables.specs.Lists.{lists}
 use Rattle.walk.specs.Asks.{Asked}
 use Rattle.index.specs.declared.lent.Lent.{Lent}
 use Rattle.index.specs.declared.routes.Paths.{Paths}
 use Rattle.index.specs.declared.work.Found.{Found}
 use Rattle.index.specs.declared.work.Found.TheVariants as found
-use Rattle.index.specs.Asked.{IsYes}
 
 -- the collection that lent tables mean
 abbrev pub meant : code.Collection → Collection
@@ -51,7 +51,7 @@ StridesLead r = Asked r.loops.now.rows r.ways.now r.hops.facts.numbers.now r.que
 
 -- so of each declared ask they tell whether it is yes
 pub record AreRight (c : code.Collection) (r : Paths) : Type 0 where
-  pub each : (ask : Ask) → IsAskDeclared c.counts ask → StridesLead r ask ↔ IsYes (meant c) ask
+  pub each : (ask : Ask) → AskDeclared c.counts ask → StridesLead r ask ↔ IsYes (meant c) ask
 
 -- the rounds needed are n, more than are allowed
 pub record NeedsMore (l : Lent) (n : ℕ) : Type 0 where

@@ -4,7 +4,7 @@ use Rattle.kinds.specs.declared.ConceptName.{ConceptName}
 use Rattle.kinds.specs.declared.Individual.{Individual}
 use Rattle.kinds.specs.declared.SignedRole.{SignedRole}
 use Rattle.meaning.specs.Lent.{Call, collection_of}
-use Rattle.meaning.specs.Worlds.{World, IsWorld, YesIn}
+use Rattle.meaning.specs.Worlds.{World, IsWorld, HasPathIn}
 
 -- a world whose things are numbers: the names of each, the signed roles of an ordered pair, and
 -- which thing an individual is
@@ -27,9 +27,9 @@ world_of w = record {
 abbrev pub IsWorldOf : Call → World → Type 0
 IsWorldOf c = IsWorld (collection_of c)
 
--- a path of the question leads in a world from the first individual to the second
+-- a world has a path, as it is asked for
 abbrev pub HasPath : Call → World → Type 0
-HasPath c 𝓦 = YesIn (collection_of c) 𝓦 c.first c.second
+HasPath c 𝓦 = HasPathIn (collection_of c) 𝓦 c.ask
 
 -- such a path is forced: each world of numbers has one
 abbrev pub IsForced : Call → Type 0

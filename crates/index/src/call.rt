@@ -16,8 +16,8 @@ ghost use Rattle.index.specs.Worlds.{IsForced, HasNoWorld, IsWorldOf, HasPath};
 
 use crate::lent::Lent;
 use crate::routes::Routes;
-use kinds::Answer;
-use tables::{Ask, Record};
+use kinds::{Answer, Ask};
+use tables::Record;
 
 // Of each ask that is not declared: the refusal of the collection, or else number 8.
 pub(crate) fn undeclared(lent: &Lent, area: usize, spare: usize) -> Answer

@@ -13,9 +13,9 @@ ghost use Rattle.index.specs.Preparation.{Preparation, preparation, HasSheet, Ro
 use crate::lent::Lent;
 use crate::routes::{Paths, Routes};
 use crate::work::{Found, settle};
-use kinds::{Answer, NoListener, RoundListener, Rounds};
+use kinds::{Answer, Ask, NoListener, RoundListener, Rounds};
 use std::marker::Model;
-use tables::{Ask, Record, Refusal, Table};
+use tables::{Record, Refusal, Table};
 use walk::{Answers, PART};
 
 // Seen as what it was prepared of: counts, tables, allowance and the lengths of both areas.

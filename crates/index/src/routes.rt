@@ -4,7 +4,7 @@ ghost use Rattle.std.specs.Prelude.{◌≡◌};
 
 use hops::{Hops, NO_HOP};
 use rules::Ways;
-use walk::{Loops, Question, Strides};
+use walk::{Exits, Loops, Question, Strides};
 
 // The tables that walks are made by. They are lent to a preparation, which fills them.
 #[derive(Drop)]
@@ -12,6 +12,7 @@ pub struct Routes {
     pub(crate) next: [u16; NO_HOP],
     pub(crate) loops: Loops,
     pub(crate) ways: Ways,
+    pub(crate) exits: Exits,
 }
 
 impl Routes {
@@ -20,6 +21,7 @@ impl Routes {
             next: [0; NO_HOP],
             loops: Loops::NONE,
             ways: Ways::NONE,
+            exits: Exits::NONE,
         }
     }
 }
@@ -30,7 +32,7 @@ pub struct Paths<'r> {
     pub loops: &'r Loops,
     pub ways: &'r walk::Ways,
     pub hops: Hops<'r>,
-    pub question: Question,
+    pub question: Question<'r>,
 }
 
 impl<'r> Paths<'r> {

@@ -1,5 +1,6 @@
 // A row of asks of a collection, answered in one call.
 ghost use Rattle.std.specs.Prelude.{◌≡◌, ◌↔◌, ◌+◌, IsTrue, Some, length, min, slice_get};
+ghost use Rattle.tables.specs.Asks.{read_ask};
 ghost use Rattle.index.specs.Preparation.{preparation};
 ghost use Rattle.index.specs.Row.{ask_count, AnswersEach, AllAlike, KeepsRest};
 ghost use Rattle.index.specs.Row.{SomeDeclared, InTurn};
@@ -8,8 +9,8 @@ use crate::call::undeclared;
 use crate::lent::Lent;
 use crate::prepared::Prepared;
 use crate::routes::Routes;
-use kinds::{Answer, Counts};
-use tables::{Ask, Record, Table};
+use kinds::{Answer, Ask, Counts};
+use tables::{Record, Table};
 use walk::PART;
 
 // Some ask of the first n is declared.
@@ -78,7 +79,7 @@ impl<'a> Lent<'a> {
         ensures in_turn { let p = preparation self.now (length area.old) (length spare.old) in
             let t = asks.now.numbers.now in
             let n = min (ask_count t) (length answers.old) in
-            InTurn p t (λ k r. slice_get answers.new k ≡ Some r) area.old spare.old n
+            InTurn p (read_ask t) (λ k r. slice_get answers.new k ≡ Some r) area.old spare.old n
             area.new spare.new }
         ensures rest { KeepsRest asks.now.numbers.now answers.old answers.new }
     {

@@ -1,6 +1,6 @@
 // The theorems of this room: each contract leaves one outcome, every byte of both areas.
 ghost use Rattle.std.specs.Prelude.{◌≡◌, ◌<◌, ℕ, List};
-ghost use Rattle.tables.specs.declared.ask.Ask.{Ask};
+ghost use Rattle.kinds.specs.declared.Ask.{Ask};
 ghost use Rattle.kinds.specs.declared.Answer.{Answer};
 ghost use Rattle.laws.specs.Once.{AtMostOne};
 ghost use Rattle.index.specs.Preparation.{Preparation};
@@ -24,8 +24,8 @@ pub fn unique<A: AnyPlace, B: AnyPlace>()
         → Left p area spare x y → Left p area spare u v → (x ≡ u) × (y ≡ v) }
     ensures one_answer { (p : Preparation) (ask : Ask) (r q : Answer)
         → IsAnswer p ask r → IsAnswer p ask q → r ≡ q }
-    ensures one_row { (p : Preparation) (t area spare x y u v : List ℕ) (n : ℕ)
-        → InTurn p t A.tells area spare n x y → InTurn p t B.tells area spare n u v
+    ensures one_row { (p : Preparation) (ask : ℕ → Ask) (area spare x y u v : List ℕ) (n : ℕ)
+        → InTurn p ask A.tells area spare n x y → InTurn p ask B.tells area spare n u v
         → (x ≡ u) × (y ≡ v) × ((k : ℕ) → k < n → SameAt A.tells B.tells k) }
 {}
 

@@ -14,7 +14,7 @@ use kinds::{RoundListener, Rounds};
 use orders::{ConceptOrder, RoleOrder};
 use rules::Rows;
 use sheet::{AREA, Closing, Ran};
-use walk::Question;
+use walk::{Question, Tree};
 
 // What is found of a collection that passed its tests.
 #[derive(Clone, Copy)]
@@ -45,7 +45,12 @@ pub(crate) fn settle<'r, L: RoundListener>(
     ensures spare_kept { OnErr result (spare.new ≡ spare.old) }
 {
     let of = lent.collection;
-    let Routes { next, loops, ways } = routes;
+    let Routes {
+        next,
+        loops,
+        ways,
+        exits,
+    } = routes;
     let roles = RoleOrder::new(of.role_rules);
     let order = ConceptOrder::new(of.concept_rules, &roles);
     let mut elements = Elements::EMPTY;
@@ -65,8 +70,9 @@ pub(crate) fn settle<'r, L: RoundListener>(
         Ran::Spent => Ok(Found::Spent),
         Ran::Needed(rounds) => {
             loops.fill(&elements.individuals, &closing.sheet);
-            let question = Question::new(of.counts.start, of.finals);
             let ways = &ways.by;
+            let tree = Tree::new(&order.below, ways, &closing.sheet, of.finals);
+            let question = Question::new(of.counts.start, &tree, &elements.individuals, exits);
             Ok(Found::Needed(
                 rounds,
                 Paths {

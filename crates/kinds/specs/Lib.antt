@@ -1,3 +1,4 @@
 pub mod Kinds
+pub mod Asks
 pub mod Answer
 pub mod Told

@@ -1,8 +1,9 @@
-// The four kinds of number, signed roles and basic concepts over them, the declared counts, and the answers.
+// The four kinds of number, signed roles and basic concepts over them, the declared counts, what is asked, and the answers.
 #![tactic(auto)]
 
 ghost use Rattle.std.specs.Prelude.{◌+◌, ◌*◌, ◌%◌, ◌<◌, ◌≡◌, ◌≢◌, ◌↔◌, IsTrue};
 ghost use Rattle.kinds.specs.Kinds.{most_roles, inverse, forward, backward, wrapped, number_of, concept_of, NameDeclared, RoleDeclared, SignedDeclared, IndividualDeclared, StateDeclared, ConceptDeclared, CountsFit};
+ghost use Rattle.kinds.specs.Asks.{first_of};
 ghost use Rattle.kinds.specs.Answer.{answer_number, answer_count};
 
 mod listener;
@@ -46,6 +47,14 @@ pub struct Counts {
     pub individuals: u16,
     pub states: u16,
     pub start: State,
+}
+
+// What is asked of a collection: of a pair of individuals, whether a path that the question describes leads from the first to the second;
+// from one individual, whether such a path leads anywhere at all.
+#[derive(Clone, Copy)]
+pub enum Ask {
+    Pair(Individual, Individual),
+    From(Individual),
 }
 
 // What a call answers; `number` and `count` are those of docs/RULES.md, section 7.
@@ -206,6 +215,21 @@ impl Counts {
             && self.individuals <= Individual::MOST
             && self.states <= State::MOST
             && self.start.0 < self.states
+    }
+}
+
+impl Ask {
+    // The numbers of an ask in a row of them.
+    pub const WIDTH: usize = 3;
+
+    // The individual that its paths start from.
+    pub fn first(self) -> Individual
+        ensures { result ≡ first_of self }
+    {
+        match self {
+            Ask::Pair(first, _) => first,
+            Ask::From(first) => first,
+        }
     }
 }
 

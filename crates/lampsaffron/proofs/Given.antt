@@ -6,9 +6,8 @@ use Rattle.kinds.specs.Answer.{answer_number, answer_count}
 use Rattle.meaning.specs.Lent.{Call}
 use Rattle.meaning.proofs.OutcomeLaws.{outcome-unique}
 use Rattle.index.specs.Preparation.{Preparation}
-use Rattle.index.specs.Row.{ask_count}
 use Rattle.index.proofs.Unique.{in-turn-once}
-use Rattle.lampsaffron.specs.Boundary.{Gives, Tells}
+use Rattle.lampsaffron.specs.Boundary.{pair_count, pair_at, Gives, Tells}
 use Rattle.lampsaffron.specs.Row.{TellsRow}
 
 -- THEOREM: number, count and both areas are fixed by the call
@@ -23,7 +22,7 @@ pub row-once : (p : Preparation) (t area spare numbers numbers' counts counts' x
 row-once p t area spare numbers numbers' counts counts' x y u v a b =
     let f = a.fits in
     let g = b.fits in
-    let w = in-turn-once p t (Tells numbers counts) (Tells numbers' counts') area spare (ask_count t) a.in_turn b.in_turn in (
+    let w = in-turn-once p (pair_at t) (Tells numbers counts) (Tells numbers' counts') area spare (pair_count t) a.in_turn b.in_turn in (
       ext_get_or 0 numbers numbers' (f.number_each ∙ sym g.number_each) (λ k h.
           let s = w.2 k (omega (arith, h, f.number_each)) in
           get_or_from_slice_get numbers k _ 0 s.one.number ∙ sym (get_or_from_slice_get numbers' k _ 0 s.other.number)),

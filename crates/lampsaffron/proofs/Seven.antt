@@ -5,11 +5,12 @@ use Rattle.std.proofs.Math.Decide.{ℕ_discrete}
 use Rattle.std.proofs.lemmas.Option.{slice_get_within}
 use Rattle.kinds.specs.Answer.{seven-never}
 use Rattle.index.specs.Preparation.{Preparation}
-use Rattle.index.specs.Row.{ask_count, InTurn, none, next}
+use Rattle.kinds.specs.declared.Ask.{Ask}
+use Rattle.index.specs.Row.{InTurn, none, next}
 use Rattle.lampsaffron.specs.Boundary.{Tells}
 
-module _ (p : Preparation) (t area spare numbers counts : List ℕ) where
-  none-is : {n : ℕ} {x y : List ℕ} → InTurn p t (Tells numbers counts) area spare n x y → (k : ℕ) → k < n → slice_get numbers k ≢ Some 7
+module _ (p : Preparation) (ask : ℕ → Ask) (area spare numbers counts : List ℕ) where
+  none-is : {n : ℕ} {x y : List ℕ} → InTurn p ask (Tells numbers counts) area spare n x y → (k : ℕ) → k < n → slice_get numbers k ≢ Some 7
   none-is none k h e = omega arith
   none-is (next {n = n} r before tells o) k h e = side (ℕ_discrete k n) (λ l. none-is before k l e)
     where
@@ -18,6 +19,6 @@ module _ (p : Preparation) (t area spare numbers counts : List ℕ) where
       side (no q) f = f (omega arith)
 
   -- THEOREM: where each ask of the row has its number
-  pub row-never : (x y : List ℕ) → length numbers ≡ ask_count t → InTurn p t (Tells numbers counts) area spare (ask_count t) x y
+  pub row-never : (n : ℕ) (x y : List ℕ) → length numbers ≡ n → InTurn p ask (Tells numbers counts) area spare n x y
       → (k : ℕ) → slice_get numbers k ≢ Some 7
-  row-never x y long turns k e = let h = slice_get_within numbers k 7 e in none-is turns k (omega (arith, h, long)) e
+  row-never n x y long turns k e = let h = slice_get_within numbers k 7 e in none-is turns k (omega (arith, h, long)) e

@@ -1,13 +1,13 @@
 -- What the calls from other languages give: the outcome of asking, each answer as number and count.
-use Rattle.std.specs.Prelude.{◌≡◌, List, ℕ, ◌<◌, Some, IfSome, length, slice_get}
+use Rattle.std.specs.Prelude.{◌≡◌, List, ℕ, ◌/◌, ◌<◌, Some, IfSome, length, slice_get}
 use Rattle.kinds.specs.declared.Answer.{Answer}
 use Rattle.kinds.specs.declared.Counts.{Counts}
-use Rattle.kinds.specs.Kinds.{state}
+use Rattle.kinds.specs.declared.Ask.{Ask}
+use Rattle.kinds.specs.declared.Ask.TheVariants.{Pair}
+use Rattle.kinds.specs.Kinds.{individual, state}
 use Rattle.kinds.specs.Answer.{answer_number, answer_count}
-use Rattle.meaning.specs.Lent.{Tables, Call, Whole}
+use Rattle.meaning.specs.Lent.{Tables, Call, Whole, field}
 use Rattle.meaning.specs.Outcome.{Outcome}
-use Rattle.tables.specs.Asks.{ask_width}
-use Rattle.index.specs.Row.{ask_count}
 
 -- the five counts, as they are passed
 abbrev pub counted : ℕ → ℕ → ℕ → ℕ → ℕ → Counts
@@ -33,15 +33,26 @@ pub record Gives (c : Call) (number count : ℕ) (x y : List ℕ) : Type 0 where
   pub number_is : number ≡ answer_number answer
   pub count_is : count ≡ answer_count answer
 
+-- a row of pairs, two numbers to each: how many there are, and pair k as an ask
+abbrev pub pair_width : ℕ
+pair_width = 2
+
+abbrev pub pair_count : List ℕ → ℕ
+pair_count pairs = length pairs / pair_width
+
+abbrev pub pair_at : List ℕ → ℕ → Ask
+pair_at pairs k =
+    Pair (individual (field pair_width pairs 0 k)) (individual (field pair_width pairs 1 k))
+
 -- the most pairs of one call
 abbrev pub most_pairs : ℕ
 most_pairs = 256
 
 -- whole pairs, not too many, and an entry for each in both rows that the answers are told in
 pub record RowFits (pairs : List ℕ) (numbers counts : ℕ) : Type 0 where
-  pub whole : Whole ask_width most_pairs pairs
-  pub number_each : numbers ≡ ask_count pairs
-  pub count_each : counts ≡ ask_count pairs
+  pub whole : Whole pair_width most_pairs pairs
+  pub number_each : numbers ≡ pair_count pairs
+  pub count_each : counts ≡ pair_count pairs
 
 -- entry k is the answer's number, and its count
 pub record Tells (numbers counts : List ℕ) (k : ℕ) (r : Answer) : Type 0 where

@@ -2,14 +2,15 @@
 // count of each answer.
 #![tactic(auto)]
 
-ghost use Rattle.std.specs.Prelude.{◌≡◌, ◌≢◌, ◌↔◌, ◌≤◌, ◌++◌, ℕ, IsTrue, Some};
+ghost use Rattle.std.specs.Prelude.{◌≡◌, ◌≢◌, ◌↔◌, ◌≤◌, ◌++◌, ℕ, IsTrue, Some, min};
 ghost use Rattle.std.specs.Prelude.{length, slice_get, take, drop};
 ghost use Rattle.std.specs.Bool.{OnTrue, OnFalse};
 ghost use Rattle.kinds.specs.Kinds.{individual};
 ghost use Rattle.index.specs.Asked.{asked};
 ghost use Rattle.index.specs.Preparation.{made_of};
-ghost use Rattle.index.specs.Row.{ask_count, InTurn};
-ghost use Rattle.lampsaffron.specs.Boundary.{counted, lent, Gives, RowFits, Tells, TellsEach};
+ghost use Rattle.index.specs.Row.{InTurn};
+ghost use Rattle.lampsaffron.specs.Boundary.{counted, lent, Gives, most_pairs, pair_count, pair_at, RowFits, Tells, TellsEach};
+ghost use Rattle.lampsaffron.specs.Row.{HasPairs};
 ghost use Rattle.expression.specs.Answer.{IsAutomatonOf};
 ghost use Rattle.lampsaffron.specs.Expression.{number_of, Makes};
 
@@ -18,11 +19,16 @@ pub mod theorems;
 
 use expression::{Refusal, automaton_of};
 use index::Lent;
-use kinds::{Answer, Counts, Individual, State};
-use tables::{Ask, Collection, Table};
+use kinds::{Answer, Ask, Counts, Individual, State};
+use tables::{Collection, Table};
 
 // The most pairs of one call.
 const PAIRS: usize = 256;
+
+// The numbers of a pair, and those of as many asks.
+const PAIR: usize = 2;
+
+const ROW: usize = Ask::WIDTH * PAIRS;
 
 // One pair asked of a collection, as `Lent::ask` does it.
 #[unsafe(no_mangle)]
@@ -87,11 +93,81 @@ pub extern "C" fn lampsaffron_ask(
     answer.number()
 }
 
-// Whole pairs, not too many, and an entry for each in both.
-fn row_fits(asks: &Table<Ask>, numbers: usize, counts: usize) -> bool
-    ensures { IsTrue result ↔ RowFits asks.now.numbers.now numbers counts }
+// One named end asked of a collection: does a path leave the individual at all?
+#[unsafe(no_mangle)]
+pub extern "C" fn lampsaffron_ask_from(
+    names: u16,
+    roles: u16,
+    individuals: u16,
+    states: u16,
+    start: u16,
+    concept_rules: &[u16],
+    concept_exclusions: &[u16],
+    role_rules: &[u16],
+    role_exclusions: &[u16],
+    concept_facts: &[u16],
+    role_facts: &[u16],
+    steps: &[u16],
+    finals: &[u16],
+    first: u16,
+    allowance: u16,
+    area: &mut [u8],
+    spare: &mut [u8],
+    count: &mut u16,
+) -> u8
+    ensures gives { let counts = counted names roles individuals states start in
+        let tables = lent concept_rules.now concept_exclusions.now role_rules.now
+        role_exclusions.now concept_facts.now role_facts.now steps.now finals.now in
+        let p = made_of counts tables allowance (length area.old) (length spare.old) in
+        let ask = Ask.From (individual first) in
+        let c = asked p ask area.old spare.old in
+        Gives c result count.new area.new spare.new }
+    ensures seven_never { result ≢ 7 }
 {
-    asks.is_whole(PAIRS) && numbers == asks.len() && counts == asks.len()
+    let counts = Counts {
+        names,
+        roles,
+        individuals,
+        states,
+        start: State(start),
+    };
+    let collection = Collection {
+        counts,
+        concept_rules: Table::new(concept_rules),
+        concept_exclusions: Table::new(concept_exclusions),
+        role_rules: Table::new(role_rules),
+        role_exclusions: Table::new(role_exclusions),
+        concept_facts: Table::new(concept_facts),
+        role_facts: Table::new(role_facts),
+        steps: Table::new(steps),
+        finals: Table::new(finals),
+    };
+    let lent = Lent {
+        collection,
+        allowance,
+    };
+    let told = lent.ask(Ask::From(Individual(first)), area, spare);
+    *count = told.count();
+    told.number()
+}
+
+// Whole pairs, not too many, and an entry for each in both.
+fn row_fits(pairs: &[u16], numbers: usize, counts: usize) -> bool
+    ensures { IsTrue result ↔ RowFits pairs.now numbers counts }
+{
+    let n = pairs.len() / PAIR;
+    pairs.len() % PAIR == 0 && n <= PAIRS && numbers == n && counts == n
+}
+
+// The pairs as a row of asks, as many as have room.
+fn put_pairs(pairs: &[u16], row: &mut [u16; ROW])
+    ensures { HasPairs pairs.now row.new (min (pair_count pairs.now) most_pairs) }
+{
+    for k in 0..(pairs.len() / PAIR).min(PAIRS) {
+        row[Ask::WIDTH * k] = 0;
+        row[Ask::WIDTH * k + 1] = pairs[PAIR * k];
+        row[Ask::WIDTH * k + 2] = pairs[PAIR * k + 1];
+    }
 }
 
 // The answers to a row, each as its number and its count.
@@ -135,8 +211,9 @@ pub extern "C" fn lampsaffron_ask_all(
         role_exclusions.now concept_facts.now role_facts.now steps.now finals.now in
         let p = made_of declared tables allowance (length area.old) (length spare.old) in
         let told = Tells numbers.new counts.new in
-        let n = ask_count pairs.now in
-        OnTrue result (InTurn p pairs.now told area.old spare.old n area.new spare.new) }
+        let n = pair_count pairs.now in
+        let ask = pair_at pairs.now in
+        OnTrue result (InTurn p ask told area.old spare.old n area.new spare.new) }
     ensures seven_never { (k : ℕ) → OnTrue result (slice_get numbers.new k ≢ Some 7) }
 
     // Where the lengths do not fit, nothing is asked, and nothing is written.
@@ -145,10 +222,12 @@ pub extern "C" fn lampsaffron_ask_all(
     ensures numbers_kept { OnFalse result (numbers.new ≡ numbers.old) }
     ensures counts_kept { OnFalse result (counts.new ≡ counts.old) }
 {
-    let asks: Table<Ask> = Table::new(pairs);
-    if !row_fits(&asks, numbers.len(), counts.len()) {
+    if !row_fits(pairs, numbers.len(), counts.len()) {
         return false;
     }
+    let mut row = [0; ROW];
+    put_pairs(pairs, &mut row);
+    let asks: Table<Ask> = Table::new(&row[..Ask::WIDTH * (pairs.len() / PAIR)]);
     let declared = Counts {
         names,
         roles,

@@ -6,6 +6,8 @@ use Rattle.kinds.specs.declared.Individual.{Individual}
 use Rattle.kinds.specs.declared.SignedRole.{SignedRole}
 use Rattle.kinds.specs.declared.Concept.{Concept}
 use Rattle.kinds.specs.declared.Counts.{Counts}
+use Rattle.kinds.specs.declared.Ask.{Ask}
+use Rattle.kinds.specs.declared.Ask.TheVariants.{Pair, From}
 use Rattle.kinds.specs.declared.Answer.{Answer}
 use Rattle.kinds.specs.declared.Answer.TheVariants.{No, Yes, Contradiction, AllowanceSpent, BadCount, BadTable, BadNumber, BadAsk}
 use Rattle.kinds.specs.Kinds.{most_names, most_roles, most_individuals, most_states}
@@ -16,7 +18,7 @@ use Rattle.meaning.specs.Lent.{rule_width, concept_fact_width, role_fact_width, 
 use Rattle.meaning.specs.Layout.{area_length, zeros}
 use Rattle.meaning.proofs.LayoutLaws.{state_declared, concept_declared, image}
 use Rattle.meaning.proofs.LiteSheet.{lite_sheet, lite_work}
-use Rattle.meaning.proofs.Reply.{clash, reaches}
+use Rattle.meaning.proofs.Reply.{clash, is_yes}
 
 unfoldable pub counts_fit : Counts → Bool
 counts_fit c =
@@ -95,13 +97,14 @@ kind_ok k = leb k 1
 unfoldable pub numbers_ok : Counts → Tables → Bool
 numbers_ok c t = let b = every (records 4 (λ t k. field 4 t 0 k) t.steps) kind_ok in and (numbers_declared (collection c t)) b
 
-unfoldable pub ask_ok : Counts → Individual → Individual → Bool
-ask_ok c a b = let r = individual_declared c b in and (individual_declared c a) r
+unfoldable pub ask_ok : Counts → Ask → Bool
+ask_ok c (Pair a b) = let r = individual_declared c b in and (individual_declared c a) r
+ask_ok c (From a) = individual_declared c a
 
 -- the answer to a sound call: 2, 3, then 1 or 0
-module _ (𝓒 : Collection) (a b : Individual) (allowance : ℕ) where
+module _ (𝓒 : Collection) (ask : Ask) (allowance : ℕ) where
   unfoldable pub after_rounds : Answer
-  after_rounds = pick (reaches 𝓒 (lite_work 𝓒).1 a b) (Yes (lite_work 𝓒).0) (No (lite_work 𝓒).0)
+  after_rounds = pick (is_yes 𝓒 (lite_work 𝓒).1 ask) (Yes (lite_work 𝓒).0) (No (lite_work 𝓒).0)
 
   unfoldable pub after_clash : Answer
   after_clash = let r = after_rounds in pick (ltb allowance (lite_work 𝓒).0) (AllowanceSpent allowance) r
@@ -112,7 +115,7 @@ module _ (𝓒 : Collection) (a b : Individual) (allowance : ℕ) where
 -- the library's order, one test after another: 4, 5, 6, 8, and then the answer to a sound call
 module _ (c : Call) where
   unfoldable pub after_numbers : Answer
-  after_numbers = let r = sound_answer (collection_of c) c.first c.second c.allowance in pick (ask_ok c.counts c.first c.second) r BadAsk
+  after_numbers = let r = sound_answer (collection_of c) c.ask c.allowance in pick (ask_ok c.counts c.ask) r BadAsk
 
   unfoldable pub after_tables : Answer
   after_tables = let r = after_numbers in pick (numbers_ok c.counts c.tables) r BadNumber

@@ -7,6 +7,9 @@ use Rattle.kinds.specs.declared.State.{State}
 use Rattle.kinds.specs.declared.SignedRole.{SignedRole}
 use Rattle.kinds.specs.declared.Concept.{Concept}
 use Rattle.kinds.specs.declared.Counts.{Counts}
+use Rattle.kinds.specs.declared.Ask.{Ask}
+use Rattle.kinds.specs.declared.Ask.TheVariants.{Pair, From}
+use Rattle.kinds.specs.Asks.{AskDeclared}
 use Rattle.kinds.specs.Kinds.{most_names, most_roles, most_individuals, most_states, CountsFit, StateDeclared, ConceptDeclared}
 use Rattle.laws.specs.Truth.{test-and, test-below, test-equal, test-every, test-most, test-of, test-same}
 use Rattle.meaning.specs.Collection.{Collection, Letter, role, test, Step, step, StepDeclared, LetterDeclared, ConceptsDeclared, RolesDeclared, ConceptFactDeclared, RoleFactDeclared, NumbersDeclared, WellFormed}
@@ -131,9 +134,13 @@ numbers-test c =
     (λ h. (h.declared, h.step-kinds))
 
 -- test 8
-pub ask-test : (c : Call) → IsTrue (ask_ok c.counts c.first c.second) ↔ (AskOk c)
+ask-declared-test : (c : Counts) (ask : Ask) → IsTrue (ask_ok c ask) ↔ (AskDeclared c ask)
 unfolding ask_ok
-ask-test c = test-and (test-below c.first.0 c.counts.individuals) (test-below c.second.0 c.counts.individuals)
+ask-declared-test c (Pair a b) = test-and (test-below a.0 c.individuals) (test-below b.0 c.individuals)
+ask-declared-test c (From a) = test-below a.0 c.individuals
+
+pub ask-test : (c : Call) → IsTrue (ask_ok c.counts c.ask) ↔ (AskOk c)
+ask-test c = ask-declared-test c.counts c.ask
 
 -- the area that is computed holds the sheet
 module _ (𝓒 : Collection) (ok : WellFormed 𝓒) where

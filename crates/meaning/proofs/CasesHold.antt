@@ -5,7 +5,7 @@ use Rattle.std.proofs.Math.Path.{sym}
 use Rattle.std.proofs.Math.Dec.{eqb→eq}
 use Rattle.kinds.specs.declared.Answer.{Answer}
 use Rattle.kinds.specs.declared.Answer.TheVariants.{No, Yes, Contradiction, AllowanceSpent, BadCount, BadTable, BadNumber, BadAsk}
-use Rattle.kinds.specs.Kinds.{inverse, individual, number_of, concept_of}
+use Rattle.kinds.specs.Kinds.{inverse, number_of, concept_of}
 use Rattle.kinds.specs.Answer.{answer_number, answer_count}
 use Rattle.laws.specs.Member.{◌∈◌, map-in, map-out}
 use Rattle.laws.specs.Search.{and, and_left, and_right, any, every, every-out}
@@ -23,7 +23,8 @@ use Rattle.meaning.proofs.SheetLaws.{mark-markable}
 use Rattle.meaning.proofs.Tests.{joins, hangs_to, hangs_from, hangs, round, Spot, places, spot_in, spot_out, at, table, work, after}
 use Rattle.meaning.proofs.LiteSheet.{lite_sheet, lite_after, lite-after, lite-mark-in, lite-mark-out}
 use Rattle.meaning.proofs.LiteTests.{role_base, role_le, concept_base, concept_le, lite_tests}
-use Rattle.meaning.proofs.Reply.{declared_individuals, fact_types, end_types, is_typed, typed_to, individual_has, joins_by, fact_edge, follows, alive_by, alive_at, alive, clash_at, clash_under, concept_clash, clash_between, clash_below, role_clash, clash, marked, stride, walks, reaches_in, reaches}
+use Rattle.meaning.proofs.Reply.{declared_individuals, fact_types, end_types, is_typed, typed_to, individual_has, joins_by, fact_edge, follows, alive_by, alive_at, alive, clash_at, clash_under, concept_clash, clash_between, clash_below, role_clash, clash, marked, stride, walks, reaches_in, reaches, is_final, goes_on, out_from, leaves}
+use Rattle.meaning.proofs.OnwardTests.{goes_round, goes_to, goes_down, further, nodes, kept, onward_work}
 use Rattle.meaning.specs.Lent.{records, collection, Sound}
 use Rattle.meaning.specs.Layout.{place, area_length, Lays, Standing}
 use Rattle.meaning.proofs.OutcomeExists.{outcome-exists, passes-all, sound-well-formed, holds-sheet}
@@ -93,20 +94,20 @@ given k = collection k.counts k.tables
 
 unfoldable sound_ok : Case → Bool
 sound_ok k =
-    let e = ask_ok k.counts (individual k.first) (individual k.second) in
+    let e = ask_ok k.counts k.ask in
     let b = and (numbers_ok k.counts k.tables) e in
     let a = and (shapes_ok k.tables) b in
     and (counts_fit k.counts) a
 
 abbrev computed : Case → Answer
-computed k = sound_answer (given k) (individual k.first) (individual k.second) k.allowance
+computed k = sound_answer (given k) k.ask k.allowance
 
 unfoldable holds : Case → Bool
 holds k = let b = answer_ok (given k) (computed k) k.number k.count k.marks k.added in and (sound_ok k) b
 
 -- every row passes
 table-computes : every cases holds ≡ true
-unfolding every cases holds sound_ok answer_ok adds_ok list_ok rises_from stands_at select counts_fit whole shapes_ok concepts_declared roles_declared concept_fact_declared role_fact_declared numbers_declared numbers_ok ask_ok sound_answer after_clash after_rounds records concept_of number_of inverse any upto numbered pairs memo settle stays new via compose tab closing both signed_roles valid_concepts declared_states joins hangs_to hangs_from hangs round places table work after role_base role_le concept_base concept_le declared_individuals fact_types end_types is_typed typed_to individual_has joins_by fact_edge follows alive_by alive_at alive clash_at clash_under concept_clash clash_between clash_below role_clash clash marked stride walks reaches_in reaches
+unfolding every cases holds sound_ok answer_ok adds_ok list_ok rises_from stands_at select counts_fit whole shapes_ok concepts_declared roles_declared concept_fact_declared role_fact_declared numbers_declared numbers_ok ask_ok sound_answer after_clash after_rounds records concept_of number_of inverse any upto numbered pairs memo settle stays new via compose tab closing both signed_roles valid_concepts declared_states joins hangs_to hangs_from hangs round places table work after role_base role_le concept_base concept_le declared_individuals fact_types end_types is_typed typed_to individual_has joins_by fact_edge follows alive_by alive_at alive clash_at clash_under concept_clash clash_between clash_below role_clash clash marked stride walks reaches_in reaches is_final goes_on out_from leaves goes_round goes_to goes_down further nodes kept onward_work
 table-computes = refl
 
 -- the list that is computed is that of the places that hold 1, in any area that holds the sheet

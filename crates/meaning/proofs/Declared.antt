@@ -75,6 +75,21 @@ module _ (𝓒 : Collection) (ok : NumbersDeclared 𝓒) where
   concept-declared (rule {C = C} {D = D} m) h = (ok.concept-rules (C, D) m).1
   concept-declared (wider l) h = role-declared l h
 
+  -- and what lies below what is declared
+  pub role-above-declared : {R S : SignedRole} → RoleLe 𝓒 R S → SignedDeclared 𝓒.counts S → SignedDeclared 𝓒.counts R
+  role-above-declared same h = h
+  role-above-declared (then l m) h = role-above-declared l (role-above-declared m h)
+  role-above-declared (rule {R = R} {S = S} m) h = (ok.role-rules (R, S) m).0
+  role-above-declared (turned {R = R} {S = S} l) h =
+      let k = inverse-declared 𝓒.counts (inverse S) h in
+      inverse-declared 𝓒.counts R (role-above-declared l (rw (inverse-inverse S) at k))
+
+  pub concept-above-declared : {C D : Concept} → ConceptLe 𝓒 C D → ConceptDeclared 𝓒.counts D → ConceptDeclared 𝓒.counts C
+  concept-above-declared same h = h
+  concept-above-declared (then l m) h = concept-above-declared l (concept-above-declared m h)
+  concept-above-declared (rule {C = C} {D = D} m) h = (ok.concept-rules (C, D) m).0
+  concept-above-declared (wider l) h = role-above-declared l h
+
   pub role-step-to : (s : State) (S : SignedRole) (t : State) → RoleStep 𝓒 s S t → t ∈ declared_states 𝓒.counts
   role-step-to s S t m = state-in 𝓒.counts t (ok.steps (step s (role S) t) m).2
 

@@ -14,7 +14,7 @@ use Rattle.meaning.specs.Tree.{root}
 use Rattle.meaning.specs.Lite.{lite}
 use Rattle.meaning.specs.Model.{tree_of}
 use Rattle.meaning.specs.Question.{PathIn}
-use Rattle.meaning.proofs.QuestionLaws.{yes↔word}
+use Rattle.meaning.proofs.AskLaws.{ask↔word, ask-grows}
 use Rattle.meaning.proofs.ModelWalk.{loop↔tree_of}
 use Rattle.meaning.proofs.Declared.{concepts-count, states-count, state-in, concept-in, lite-sane}
 use Rattle.meaning.proofs.Tests.{rounds-bound}
@@ -23,7 +23,7 @@ use Rattle.meaning.specs.Lent.{Call, collection_of, Sound}
 use Rattle.meaning.specs.Outcome.{Outcome, bad-count, bad-table, bad-number, bad-ask, contradiction, spent, says-yes, says-no, Breaks, Reached, RoundsNeeded}
 use Rattle.meaning.proofs.OutcomeExists.{sound-well-formed}
 use Rattle.meaning.specs.Demands.{most_rounds, Enough, AsModelSays, Larger, Grown, allowed}
-use Rattle.meaning.proofs.Larger.{yes-grows, contradiction-grows}
+use Rattle.meaning.proofs.Larger.{contradiction-grows}
 
 -- never more than 30,720
 pub most-rounds : (c : Counts) → CountsFit c → most_rounds c ≤ 30720
@@ -79,34 +79,34 @@ module _ (c : Call) where
     yes = λ sane. absurd (sane h);
     no = λ sane. absurd (sane h);
   }
-  decided (is-yes n sane reached) = let w = (yes↔word (collection_of c) c.first c.second).0 reached in record {
+  decided (is-yes n sane reached) = let w = (ask↔word (collection_of c) c.ask).0 reached in record {
     contradiction = (λ m. absurd (omega arith), λ b. absurd (sane b));
     yes = λ u. (λ m. w, λ v. n);
     no = λ u. (λ m. absurd (omega arith), λ v. absurd (v w));
   }
-  decided (is-no n sane missed) = let w = (yes↔word (collection_of c) c.first c.second).1 in record {
+  decided (is-no n sane missed) = let w = (ask↔word (collection_of c) c.ask).1 in record {
     contradiction = (λ m. absurd (omega arith), λ b. absurd (sane b));
     yes = λ u. (λ m. absurd (omega arith), λ v. absurd (missed (w v)));
     no = λ u. (λ m v. missed (w v), λ v. n);
   }
 
   -- THEOREM: with an allowance of at least the rounds needed, the outcome of a well-formed call is contradiction exactly
-  -- when the canonical model breaks an exclusion, and otherwise yes exactly when a path in it from the first individual
-  -- to the second spells a word of the question
+  -- when the canonical model breaks an exclusion, and otherwise yes exactly when a path in it, as it is asked for,
+  -- spells a word of the question
   pub says-what-the-model-says : {r : Answer} {x y : List ℕ} → Sound c → Enough c → Outcome c r x y → AsModelSays c r
   says-what-the-model-says s e o = decided (verdict s e o)
 
--- growth, between two collections: a shared start state and pair, the records of the first among those of the second
-module _ (c d : Call) (more : Larger (collection_of c) (collection_of d)) (first : c.first ≡ d.first) (second : c.second ≡ d.second) where
+-- growth, between two collections: a shared start state and ask, the records of the first among those of the second
+module _ (c d : Call) (more : Larger (collection_of c) (collection_of d)) (same : c.ask ≡ d.ask) where
   module _ (s : Sound c) (s' : Sound d) where
     breaks-kept : Breaks c → Breaks d
     breaks-kept h = contradiction-grows more (sound-well-formed c s) (sound-well-formed d s') h
 
     reached-kept : Reached c → Reached d
     reached-kept h =
-        let i = s'.ask.0 in
-        let k = yes-grows more (sound-well-formed c s) (sound-well-formed d s') c.first c.second s.ask.0 (rw (← first) at i) h in
-        rw (first, second) at k
+        let i = s'.ask in
+        let k = ask-grows more (sound-well-formed c s) (sound-well-formed d s') c.ask s.ask (rw (← same) at i) h in
+        rw same at k
 
     grown : {r q : Answer} → Verdict c r → Verdict d q → Grown r q
     grown (is-contradiction n h) (is-contradiction m k) = record { yes-kept = λ u. absurd (omega arith); contradiction-kept = λ u. m; no-before = λ u. absurd (omega arith) }

@@ -7,6 +7,9 @@ use Rattle.kinds.specs.declared.State.{State}
 use Rattle.kinds.specs.declared.SignedRole.{SignedRole}
 use Rattle.kinds.specs.declared.Concept.{Concept}
 use Rattle.kinds.specs.declared.Concept.TheVariants.{Name, Exists}
+use Rattle.kinds.specs.declared.Ask.{Ask}
+use Rattle.kinds.specs.declared.Ask.TheVariants.{Pair, From}
+use Rattle.kinds.specs.Asks.{AskDeclared}
 use Rattle.kinds.specs.declared.Answer.{Answer}
 use Rattle.kinds.specs.Answer.{answer_number}
 use Rattle.kinds.specs.Kinds.{IndividualDeclared}
@@ -17,12 +20,14 @@ use Rattle.meaning.specs.Tree.{root, ◌▹◌}
 use Rattle.meaning.specs.Run.{stop, go}
 use Rattle.meaning.specs.Model.{Has, Belongs, bare, grown, ModelEdge, fact, child, parent, individuals, Element, canonical, Typed, named, first, second, FactEdge, ahead, behind, Contradiction, at-element, at_pair}
 use Rattle.meaning.specs.Question.{along-role, at_name, PathIn, Yes}
+use Rattle.meaning.specs.Leaving.{Leaves}
+use Rattle.meaning.specs.Asks.{IsYes}
 use Rattle.meaning.specs.Lent.{Call, collection_of, Sound}
 use Rattle.meaning.specs.Outcome.{Outcome, bad-count, bad-table, bad-number, bad-ask, contradiction, spent, says-yes, says-no}
 use Rattle.meaning.specs.Demands.{Larger}
 use Rattle.meaning.specs.Excluded.{SelfExcluded, RoleSelfExcluded, ImpliesMore, AsksWhereMore, IsDecided}
 use Rattle.meaning.proofs.ModelLaws.{born, has_above, edge-above, has-neighbour}
-use Rattle.meaning.proofs.Larger.{yes-grows, contradiction-grows}
+use Rattle.meaning.proofs.Larger.{yes-grows, leaves-grows, contradiction-grows}
 use Rattle.meaning.proofs.Reply.{clash}
 use Rattle.meaning.proofs.ClashLaws.{clash-is}
 use Rattle.meaning.proofs.OutcomeExists.{sound-well-formed}
@@ -137,6 +142,19 @@ module _ {𝓒 𝓓 : Collection} (w : ImpliesMore 𝓒 𝓓) where
           (z.0, z.1, path-back 𝓒 𝓓.concept-rules w.added sane ok.numbers (bare i) z.2),
     )
 
+    -- THEOREM: and a path leaves an individual in the one exactly when one does in the other
+    pub leaves-alike : (Contradiction 𝓒 → ⊥) → (a : Individual) → IndividualDeclared 𝓒.counts a → Leaves 𝓒 a ↔ Leaves 𝓓 a
+    leaves-alike sane a i = (
+      leaves-grows implies-larger ok ok' a,
+      λ l.
+          let z = subst (λ 𝓔. Leaves 𝓔 a) but-rules l in
+          (z.0, z.1, z.2, path-back 𝓒 𝓓.concept-rules w.added sane ok.numbers (bare i) z.3),
+    )
+
+    ask-alike : (Contradiction 𝓒 → ⊥) → (ask : Ask) → AskDeclared 𝓒.counts ask → IsYes 𝓒 ask ↔ IsYes 𝓓 ask
+    ask-alike sane (Pair a b) d = yes-alike sane a b d.0
+    ask-alike sane (From a) d = leaves-alike sane a d
+
 -- an answer of 0, 1 or 2 is as the model says
 decided-says : (c : Call) {r : Answer} {x y : List ℕ} → Outcome c r x y → answer_number r ≤ 2 → Sound c × Verdict c r
 decided-says c (bad-count k) l = absurd (omega arith)
@@ -152,8 +170,8 @@ module _ (c d : Call) (w : AsksWhereMore c d) (s : Sound c) (s' : Sound d) where
   breaks : Contradiction (collection_of c) ↔ Contradiction (collection_of d)
   breaks = breaks-alike w.more (sound-well-formed c s) (sound-well-formed d s')
 
-  reached : (Contradiction (collection_of c) → ⊥) → Yes (collection_of c) c.first c.second ↔ Yes (collection_of d) d.first d.second
-  reached sane = rw (← w.first, ← w.second) (yes-alike w.more (sound-well-formed c s) (sound-well-formed d s') sane c.first c.second s.ask.0)
+  reached : (Contradiction (collection_of c) → ⊥) → IsYes (collection_of c) c.ask ↔ IsYes (collection_of d) d.ask
+  reached sane = rw (← w.ask) (ask-alike w.more (sound-well-formed c s) (sound-well-formed d s') sane c.ask s.ask)
 
   alike : {r q : Answer} → Verdict c r → Verdict d q → answer_number r ≡ answer_number q
   alike (is-contradiction n b) (is-contradiction m k) = n ∙ sym m

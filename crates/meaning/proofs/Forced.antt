@@ -12,6 +12,7 @@ use Rattle.meaning.specs.Run.{Run, stop, go, one, carry}
 use Rattle.meaning.specs.Model.{Has, Belongs, bare, ModelEdge, fact, child, parent, individuals, Element, Typed, named, first, second, FactEdge, ahead, behind, canonical, Contradiction, at-element, at_pair}
 use Rattle.meaning.proofs.ModelLaws.{born, edge-back, edge-above, edge-has, has-neighbour, concept-fact-holds, role-fact-holds, concept-rule-kept}
 use Rattle.meaning.specs.Question.{Going, along-role, at_name, Yes}
+use Rattle.meaning.specs.Leaving.{LeavesIn, Leaves}
 use Rattle.meaning.specs.Clash.{Alive, sprouts, grows, Clash, individual-clash, unnamed-clash, fact-clash, down-clash, up-clash}
 use Rattle.meaning.proofs.Clash.{find}
 use Rattle.meaning.specs.Worlds.{World, In, Keeps, Respects, IsWorld, YesIn, model_world}
@@ -81,6 +82,10 @@ module _ (𝓒 : Collection) (𝓦 : World) (keeps : Keeps 𝓒 𝓦) where
   pub yes-in : (a b : Individual) → Yes 𝓒 a b → YesIn 𝓒 𝓦 a b
   yes-in a b y = let w = path-in y.2 for-root in (y.0, y.1, ends w.1 w.2)
 
+  -- THEOREM: and a path that leaves an individual in the model leaves it in every such world
+  pub leaves-in : (a : Individual) → Leaves 𝓒 a → LeavesIn 𝓒 structure (person a)
+  leaves-in a l = let w = path-in l.3 for-root in (l.0, l.1, w.0, w.2)
+
   -- a living role joins two things
   alive : {R : SignedRole} → Alive 𝓒 R → (d e : structure.Thing) × structure.edge d R e
   alive (sprouts a R h) = let n = holds (Exists R) for-root h in (person a, n.0, n.1)
@@ -134,6 +139,10 @@ module _ (𝓒 : Collection) where
   -- THEOREM: where it has a path as a world, the pair is yes
   pub yes-out : (a b : Individual) → YesIn 𝓒 (model_world 𝓒) a b → Yes 𝓒 a b
   yes-out a b y = (y.0, y.1, carry (λ x. x) going y.2)
+
+  -- THEOREM: and where one leaves an individual it does so in the model
+  pub leaves-out : (a : Individual) → LeavesIn 𝓒 (model_world 𝓒).structure (root a) → Leaves 𝓒 a
+  leaves-out a l = (l.0, l.1, l.2, carry (λ x. x) going l.3)
 
 -- THEOREM: a contradiction leaves no world
 pub no-world : (𝓒 : Collection) (𝓦 : World) → Contradiction 𝓒 → IsWorld 𝓒 𝓦 → ⊥

@@ -4,13 +4,15 @@ use Rattle.kinds.specs.declared.Individual.{Individual}
 use Rattle.kinds.specs.declared.State.{State}
 use Rattle.kinds.specs.declared.SignedRole.{SignedRole}
 use Rattle.kinds.specs.declared.Concept.{Concept}
-use Rattle.kinds.specs.declared.Concept.TheVariants.{Exists}
+use Rattle.kinds.specs.declared.Concept.TheVariants.{Name, Exists}
 use Rattle.kinds.specs.Kinds.{IndividualDeclared}
 use Rattle.meaning.specs.Collection.{Collection, step, role, WellFormed}
 use Rattle.meaning.specs.Orders.{RoleLe, ConceptLe, same, then, rule, turned, wider}
 use Rattle.meaning.specs.Tree.{root, ◌▹◌}
-use Rattle.meaning.specs.Model.{Has, Belongs, bare, grown, ModelEdge, fact, child, parent, individuals, Element, Typed, named, first, second, IndividualHas, FactEdge, ahead, behind, Contradiction, at-element, at_pair}
-use Rattle.meaning.specs.Question.{Yes}
+use Rattle.meaning.specs.Model.{Has, Belongs, bare, grown, ModelEdge, fact, child, parent, individuals, canonical, Element, Typed, named, first, second, IndividualHas, FactEdge, ahead, behind, Contradiction, at-element, at_pair}
+use Rattle.meaning.specs.Run.{Run, one, carry}
+use Rattle.meaning.specs.Question.{Going, along-role, at_name, Yes}
+use Rattle.meaning.specs.Leaving.{Leaves}
 use Rattle.meaning.specs.Grows.{Grows}
 use Rattle.meaning.specs.Demands.{Larger}
 use Rattle.meaning.proofs.Growth.{walk-grows}
@@ -88,3 +90,13 @@ module _ {𝓒 𝓓 : Collection} (more : Larger 𝓒 𝓓) where
     pub contradiction-grows : Contradiction 𝓒 → Contradiction 𝓓
     contradiction-grows (at-element x C D m b h k) = at-element x C D (more.concept-exclusions (C, D) m) (belongs-grows b C h) (has-grows x C h) (has-grows x D k)
     contradiction-grows (at_pair x y R S m g h) = at_pair x y R S (more.role-exclusions (R, S) m) (edge-grows g) (edge-grows h)
+
+    going-grows : (x y : Element 𝓒) (s t : State) → Going 𝓒 (canonical 𝓒) x s y t → Run (Going 𝓓 (canonical 𝓓)) x s y t
+    going-grows x y s t (along-role S m e) = one (along-role S (more.steps _ m) (edge-grows e))
+    going-grows x y s t (at_name A m h) = one (at_name A (more.steps _ m) (has-grows x (Name A) h))
+
+    -- THEOREM: and each path that leaves an individual
+    pub leaves-grows : (a : Individual) → Leaves 𝓒 a → Leaves 𝓓 a
+    leaves-grows a l =
+        let p = carry (λ x. x) going-grows l.3 in
+        (l.0, more.finals l.0 l.1, l.2, rw more.start at p)

@@ -9,11 +9,14 @@ pub mod ModelMoves
 pub mod ModelPaths
 pub mod ModelWalk
 pub mod QuestionLaws
+pub mod Onward
+pub mod LeavingLaws
 pub mod Clash
 pub mod ClashShown
 pub mod StraightBack
 pub mod Forced
 pub mod Larger
+pub mod AskLaws
 pub mod Declared
 pub mod RoundLaws
 pub mod RoundFrom
@@ -21,6 +24,7 @@ pub mod RoundFrom
 pub mod Tests
 pub mod LiteTests
 pub mod LiteSheet
+pub mod OnwardTests
 pub mod Reply
 pub mod ReplyLaws
 pub mod ClashLaws

@@ -30,7 +30,7 @@ module _ (𝓒 : Collection) (𝓡 : Roots) (keep : RootsKeep 𝓒 𝓡) where
   holds→has (x ▹ R) B D h k = rw h k
 
   -- THEOREM: moves from an element that belongs are a path
-  from-moves : {x y : Elem 𝓡.Root SignedRole} {s t : State} → Run (Move (lite 𝓒) 𝓡.has (Near 𝓒 𝓡)) x s y t → Belongs 𝓒 𝓡 x
+  pub from-moves : {x y : Elem 𝓡.Root SignedRole} {s t : State} → Run (Move (lite 𝓒) 𝓡.has (Near 𝓒 𝓡)) x s y t → Belongs 𝓒 𝓡 x
       → PathIn 𝓒 (grown_from 𝓒 𝓡) x s y t
   from-moves stop b = stop
   from-moves (go (tests {x = x} B h e) p) b = go (at_name e.0 e.1 (holds→has x B (Name e.0) h e.2)) (from-moves p b)

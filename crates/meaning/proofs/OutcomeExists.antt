@@ -11,8 +11,8 @@ use Rattle.laws.specs.Truth.{test-false, test-of}
 use Rattle.meaning.specs.Collection.{WellFormed}
 use Rattle.meaning.specs.Lent.{Call, collection_of, CountsOk, TablesOk, NumbersOk, Sound}
 use Rattle.meaning.specs.Outcome.{Outcome, bad-count, bad-table, bad-number, bad-ask, contradiction, spent, says-yes, says-no, Breaks, Reached, RoundsNeeded, HoldsSheet}
-use Rattle.meaning.proofs.Reply.{clash, reaches}
-use Rattle.meaning.proofs.ReplyLaws.{reaches-is}
+use Rattle.meaning.proofs.Reply.{clash, is_yes}
+use Rattle.meaning.proofs.ReplyLaws.{yes-is}
 use Rattle.meaning.proofs.ClashLaws.{clash-is}
 use Rattle.meaning.proofs.Calculate.{counts_fit, tables_ok, numbers_ok, ask_ok, after_rounds, after_clash, sound_answer, after_numbers, after_tables, after_counts, answer, sheet_area, area_after, spare_after}
 use Rattle.meaning.proofs.CalculateLaws.{counts-test, tables-test, numbers-test, ask-test, sheet-lays}
@@ -29,11 +29,11 @@ module _ (c : Call) where
   pub clash-test : Sound c → IsTrue (clash (collection_of c)) ↔ (Breaks c)
   clash-test s = let w = clash-is (collection_of c) (sound-well-formed s) in test-of (clash (collection_of c)) w.0 w.1
 
-  pub reaches-test : Sound c → IsTrue (reaches (collection_of c) (lite_work (collection_of c)).1 c.first c.second) ↔ (Reached c)
-  reaches-test s =
+  pub yes-test : Sound c → IsTrue (is_yes (collection_of c) (lite_work (collection_of c)).1 c.ask) ↔ (Reached c)
+  yes-test s =
       let ok = sound-well-formed s in
-      let w = reaches-is (collection_of c) ok (lite_work (collection_of c)).1 (closed-out (collection_of c) ok.numbers) (closed_in (collection_of c) ok.numbers) c.first c.second s.ask.0 in
-      test-of (reaches (collection_of c) (lite_work (collection_of c)).1 c.first c.second) w.0 w.1
+      let w = yes-is (collection_of c) ok (lite_work (collection_of c)).1 (closed-out (collection_of c) ok.numbers) (closed_in (collection_of c) ok.numbers) c.ask s.ask in
+      test-of (is_yes (collection_of c) (lite_work (collection_of c)).1 c.ask) w.0 w.1
 
   pub rounds-needed : Sound c → RoundsNeeded c (lite_work (collection_of c)).0
   rounds-needed s = lite-needed (collection_of c) s.numbers.declared
@@ -46,40 +46,40 @@ module _ (c : Call) where
   Done r = Outcome c r (area_after c r) (spare_after c r)
 
   rounds-stage : Sound c → (Breaks c → ⊥) → (lite_work (collection_of c)).0 ≤ c.allowance
-      → Done (after_rounds (collection_of c) c.first c.second c.allowance)
+      → Done (after_rounds (collection_of c) c.ask c.allowance)
   unfolding after_rounds
-  rounds-stage s sane h = side (reaches (collection_of c) (lite_work (collection_of c)).1 c.first c.second) refl
+  rounds-stage s sane h = side (is_yes (collection_of c) (lite_work (collection_of c)).1 c.ask) refl
     where
-      side : (b : Bool) → reaches (collection_of c) (lite_work (collection_of c)).1 c.first c.second ≡ b
+      side : (b : Bool) → is_yes (collection_of c) (lite_work (collection_of c)).1 c.ask ≡ b
           → Done (pick b (Yes (lite_work (collection_of c)).0) (No (lite_work (collection_of c)).0))
-      side true e = says-yes s sane (rounds-needed s) h (holds-sheet s (lite_work (collection_of c)).0) ((reaches-test s).0 e)
-      side false e = says-no s sane (rounds-needed s) h (holds-sheet s (lite_work (collection_of c)).0) (test-false (reaches-test s) e)
+      side true e = says-yes s sane (rounds-needed s) h (holds-sheet s (lite_work (collection_of c)).0) ((yes-test s).0 e)
+      side false e = says-no s sane (rounds-needed s) h (holds-sheet s (lite_work (collection_of c)).0) (test-false (yes-test s) e)
 
-  clash-stage : Sound c → (Breaks c → ⊥) → Done (after_clash (collection_of c) c.first c.second c.allowance)
+  clash-stage : Sound c → (Breaks c → ⊥) → Done (after_clash (collection_of c) c.ask c.allowance)
   unfolding after_clash
   clash-stage s sane = side (ltb c.allowance (lite_work (collection_of c)).0) refl
     where
       side : (b : Bool) → ltb c.allowance (lite_work (collection_of c)).0 ≡ b
-          → Done (pick b (AllowanceSpent c.allowance) (after_rounds (collection_of c) c.first c.second c.allowance))
+          → Done (pick b (AllowanceSpent c.allowance) (after_rounds (collection_of c) c.ask c.allowance))
       side true e = spent s sane (rounds-needed s) (ltb-true _ _ e) (holds-sheet s c.allowance)
       side false e = rounds-stage s sane (ltb-false _ _ e)
 
   abbrev sound-answer : Answer
-  sound-answer = sound_answer (collection_of c) c.first c.second c.allowance
+  sound-answer = sound_answer (collection_of c) c.ask c.allowance
 
   ask-stage : Sound c → Done sound-answer
   unfolding sound_answer
   ask-stage s = side (clash (collection_of c)) refl
     where
-      side : (b : Bool) → clash (collection_of c) ≡ b → Done (pick b Contradiction (after_clash (collection_of c) c.first c.second c.allowance))
+      side : (b : Bool) → clash (collection_of c) ≡ b → Done (pick b Contradiction (after_clash (collection_of c) c.ask c.allowance))
       side true e = contradiction s ((clash-test s).0 e)
       side false e = clash-stage s (test-false (clash-test s) e)
 
   numbers-stage : CountsOk c → TablesOk c → NumbersOk c → Done (after_numbers c)
   unfolding after_numbers
-  numbers-stage k t n = side (ask_ok c.counts c.first c.second) refl
+  numbers-stage k t n = side (ask_ok c.counts c.ask) refl
     where
-      side : (b : Bool) → ask_ok c.counts c.first c.second ≡ b → Done (pick b sound-answer BadAsk)
+      side : (b : Bool) → ask_ok c.counts c.ask ≡ b → Done (pick b sound-answer BadAsk)
       side true h = ask-stage (record { counts = k; tables = t; numbers = n; ask = (ask-test c).0 h })
       side false h = bad-ask k t n (test-false (ask-test c) h)
 
@@ -109,6 +109,6 @@ module _ (c : Call) where
       side false h = bad-count (test-false (counts-test c.counts) h)
 
   -- a sound call passes each test
-  pub passes-all : Sound c → answer c ≡ sound_answer (collection_of c) c.first c.second c.allowance
+  pub passes-all : Sound c → answer c ≡ sound_answer (collection_of c) c.ask c.allowance
   unfolding answer after_counts after_tables after_numbers
   passes-all s = rw ((counts-test c.counts).1 s.counts, (tables-test c).1 s.tables, (numbers-test c).1 s.numbers, (ask-test c).1 s.ask)

@@ -13,7 +13,7 @@ use Rattle.meaning.proofs.LayoutLaws.{lays-once}
 use Rattle.meaning.specs.Outcome.{Outcome, bad-count, bad-table, bad-number, bad-ask, contradiction, spent, says-yes, says-no}
 use Rattle.meaning.proofs.Calculate.{after_rounds, after_clash, sound_answer, after_numbers, after_tables, after_counts, answer, sheet_area, area_after, spare_after}
 use Rattle.meaning.proofs.CalculateLaws.{counts-test, tables-test, numbers-test, ask-test}
-use Rattle.meaning.proofs.OutcomeExists.{clash-test, reaches-test, rounds-needed, holds-sheet, passes-all}
+use Rattle.meaning.proofs.OutcomeExists.{clash-test, yes-test, rounds-needed, holds-sheet, passes-all}
 use Rattle.meaning.proofs.LiteSheet.{lite_work}
 
 module _ (c : Call) where
@@ -30,10 +30,10 @@ module _ (c : Call) where
       rw (passes-all c s, test-fails (clash-test c s) sane, lt-ltb c.allowance (lite_work (collection_of c)).0 (omega arith))
   outcome-answer (says-yes {n = n} s sane need h lays reached) =
       let e = rounds-unique (lite (collection_of c)) n (lite_work (collection_of c)).0 need (rounds-needed c s) in
-      rw (passes-all c s, test-fails (clash-test c s) sane, le-ltb c.allowance (lite_work (collection_of c)).0 (omega arith), (reaches-test c s).1 reached) (ap Yes e)
+      rw (passes-all c s, test-fails (clash-test c s) sane, le-ltb c.allowance (lite_work (collection_of c)).0 (omega arith), (yes-test c s).1 reached) (ap Yes e)
   outcome-answer (says-no {n = n} s sane need h lays missed) =
       let e = rounds-unique (lite (collection_of c)) n (lite_work (collection_of c)).0 need (rounds-needed c s) in
-      rw (passes-all c s, test-fails (clash-test c s) sane, le-ltb c.allowance (lite_work (collection_of c)).0 (omega arith), test-fails (reaches-test c s) missed) (ap No e)
+      rw (passes-all c s, test-fails (clash-test c s) sane, le-ltb c.allowance (lite_work (collection_of c)).0 (omega arith), test-fails (yes-test c s) missed) (ap No e)
 
   -- the answer decides both areas
   outcome-areas : {r : Answer} {x y : List ℕ} → Outcome c r x y → (x ≡ area_after c r) × (y ≡ spare_after c r)

@@ -9,13 +9,13 @@ use Rattle.meaning.specs.Question.{Spells, by-role, by_name, along-role, at_name
 
 module _ (𝓒 : Collection) (𝓢 : Structure) where
   -- a path spells a word that the automaton reads
-  path→word : {x y : 𝓢.Thing} {s t : State} → PathIn 𝓒 𝓢 x s y t → (w : List Letter) × Reads 𝓒 s w t × Spells 𝓢 x w y
+  pub path→word : {x y : 𝓢.Thing} {s t : State} → PathIn 𝓒 𝓢 x s y t → (w : List Letter) × Reads 𝓒 s w t × Spells 𝓢 x w y
   path→word stop = ([], Reads.nothing, Spells.nothing)
   path→word (go (along-role S e h) p) = let r = path→word p in (role S ∷ r.0, letter e r.1, by-role h r.2)
   path→word (go (at_name A e h) p) = let r = path→word p in (test A ∷ r.0, letter e r.1, by_name h r.2)
 
   -- a word that the automaton reads and some path spells puts elements and states in step
-  word→path : {x y : 𝓢.Thing} {s t : State} {w : List Letter} → Spells 𝓢 x w y → Reads 𝓒 s w t → PathIn 𝓒 𝓢 x s y t
+  pub word→path : {x y : 𝓢.Thing} {s t : State} {w : List Letter} → Spells 𝓢 x w y → Reads 𝓒 s w t → PathIn 𝓒 𝓢 x s y t
   word→path Spells.nothing Reads.nothing = stop
   word→path (by-role {S = S} h p) (letter e r) = go (along-role S e h) (word→path p r)
   word→path (by_name {A = A} h p) (letter e r) = go (at_name A e h) (word→path p r)

@@ -15,7 +15,8 @@ use Rattle.meaning.specs.Outcome.{Outcome, bad-count, bad-table, bad-number, bad
 use Rattle.meaning.specs.Demands.{Larger}
 use Rattle.meaning.specs.SameSets.{step_kinds, SameSets}
 use Rattle.meaning.proofs.MarksGrow.{mark-grows}
-use Rattle.meaning.proofs.Larger.{lite-grows, yes-grows, contradiction-grows}
+use Rattle.meaning.proofs.Larger.{lite-grows, contradiction-grows}
+use Rattle.meaning.proofs.AskLaws.{ask-grows}
 use Rattle.meaning.proofs.OutcomeExists.{sound-well-formed}
 use Rattle.meaning.proofs.OutcomeLaws.{outcome-unique}
 
@@ -78,7 +79,7 @@ module _ (c : Call) (t : Tables) (s : SameSets c t) where
   reached-same h =
       let w = sound-well-formed c h in
       let w' = sound-well-formed d (sound-kept h) in
-      (yes-grows s.more w w' c.first c.second h.ask.0 h.ask.0, yes-grows s.fewer w' w c.first c.second h.ask.0 h.ask.0)
+      (ask-grows s.more w w' c.ask h.ask h.ask, ask-grows s.fewer w' w c.ask h.ask h.ask)
 
   needed-kept : (n : ℕ) → Needed (lite (collection_of c)) n → Needed (lite (collection_of d)) n
   needed-kept =

@@ -1,4 +1,4 @@
--- Calculation: who has which concept, contradiction, the walk and the answer to a pair, as tests that compute.
+-- Calculation: who has which concept, contradiction, the walk and the answer to an ask, as tests that compute.
 use Rattle.std.specs.Prelude.{Bool, List}
 use Rattle.kinds.specs.declared.ConceptName.{ConceptName}
 use Rattle.kinds.specs.declared.RoleName.{RoleName}
@@ -8,6 +8,8 @@ use Rattle.kinds.specs.declared.SignedRole.{SignedRole}
 use Rattle.kinds.specs.declared.Concept.{Concept}
 use Rattle.kinds.specs.declared.Concept.TheVariants.{Name, Exists}
 use Rattle.kinds.specs.declared.Counts.{Counts}
+use Rattle.kinds.specs.declared.Ask.{Ask}
+use Rattle.kinds.specs.declared.Ask.TheVariants.{Pair, From}
 use Rattle.kinds.specs.Kinds.{inverse, forward, backward, individual}
 use Rattle.laws.specs.Search.{any, or, and}
 use Rattle.laws.specs.Same.{both}
@@ -15,8 +17,9 @@ use Rattle.laws.specs.Pairs.{pairs}
 use Rattle.laws.specs.Numbers.{numbered}
 use Rattle.laws.specs.Chain.{closed}
 use Rattle.meaning.specs.Collection.{Collection}
-use Rattle.meaning.specs.Lite.{signed_roles, valid_concepts, declared_states}
-use Rattle.meaning.proofs.LiteTests.{same_individual, same_state, same_role, same_concept, leads, role_letter, role_le, concept_le}
+use Rattle.meaning.specs.Lite.{signed_roles, valid_concepts, declared_states, lite}
+use Rattle.meaning.proofs.OnwardTests.{onward}
+use Rattle.meaning.proofs.LiteTests.{same_individual, same_state, same_role, same_concept, leads, role_letter, role_le, concept_le, lite_tests}
 
 unfoldable pub declared_individuals : Counts → List Individual
 declared_individuals c = numbered individual c.individuals
@@ -118,3 +121,25 @@ module _ (𝓒 : Collection) where
 
   unfoldable pub reaches : (State → State → Concept → Bool) → Individual → Individual → Bool
   reaches f a b = any 𝓒.finals (reaches_in f a b)
+
+  -- the walk leads out: to a final state, or to an individual below which the way leads on to one
+  unfoldable pub is_final : State → Bool
+  is_final s = any 𝓒.finals (same_state s)
+
+  abbrev pub leads_on : (State → State → Concept → Bool) → State → Concept → Bool
+  leads_on f = onward (lite 𝓒) (lite_tests 𝓒) f is_final
+
+  unfoldable pub goes_on : (State → Concept → Bool) → Individual → State → Concept → Bool
+  goes_on g a s B = let b = g s B in and (individual_has a B) b
+
+  unfoldable pub out_from : (State → State → Concept → Bool) → (State → Concept → Bool) → Individual → Individual × State → Bool
+  out_from f g a p =
+      let o = or (is_final p.1) (any (valid_concepts 𝓒.counts) (goes_on g p.0 p.1)) in
+      and (walks f (a, 𝓒.counts.start) p) o
+
+  unfoldable pub leaves : (State → State → Concept → Bool) → Individual → Bool
+  leaves f a = any (pairs (declared_individuals 𝓒.counts) (declared_states 𝓒.counts)) (out_from f (leads_on f) a)
+
+  abbrev pub is_yes : (State → State → Concept → Bool) → Ask → Bool
+  is_yes f (Pair a b) = reaches f a b
+  is_yes f (From a) = leaves f a

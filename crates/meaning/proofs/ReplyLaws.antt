@@ -10,10 +10,13 @@ use Rattle.kinds.specs.declared.SignedRole.{SignedRole}
 use Rattle.kinds.specs.declared.Concept.{Concept}
 use Rattle.kinds.specs.declared.Concept.TheVariants.{Name, Exists}
 use Rattle.kinds.specs.declared.Counts.{Counts}
+use Rattle.kinds.specs.declared.Ask.{Ask}
+use Rattle.kinds.specs.declared.Ask.TheVariants.{Pair, From}
 use Rattle.kinds.specs.Kinds.{inverse, inverse-inverse, forward, backward, individual, IndividualDeclared, ConceptDeclared}
+use Rattle.kinds.specs.Asks.{AskDeclared}
 use Rattle.laws.specs.Member.{◌∈◌}
 use Rattle.laws.specs.Search.{any, any-in, any_out, or, or_left, or_right, or_case, and, and_left, and_right, and_both}
-use Rattle.laws.specs.Same.{both, both-same}
+use Rattle.laws.specs.Same.{both, both-same, listed_in, listed-out}
 use Rattle.laws.specs.Pairs.{pairs, pairs-in, pairs-out}
 use Rattle.laws.specs.Numbers.{numbered-in, numbered-out}
 use Rattle.laws.specs.Chain.{Chain, link, chain, closed_in, closed-out}
@@ -23,11 +26,16 @@ use Rattle.meaning.specs.Tree.{Loop, here, tested, twice, below, along, by}
 use Rattle.meaning.specs.Lite.{valid_concepts, declared_states, lite}
 use Rattle.meaning.specs.Model.{Typed, named, first, second, IndividualHas, FactEdge, ahead, behind}
 use Rattle.meaning.specs.Question.{Yes}
-use Rattle.meaning.specs.Walk.{IndividualsWalk}
+use Rattle.meaning.specs.Leaving.{Leaves}
+use Rattle.meaning.specs.Asks.{IsYes}
+use Rattle.meaning.specs.Onward.{LeadsOn}
+use Rattle.meaning.specs.Walk.{IndividualsWalk, IndividualsWalkOut}
+use Rattle.meaning.proofs.LeavingLaws.{leaves↔walk}
+use Rattle.meaning.proofs.OnwardTests.{onward-is}
 use Rattle.meaning.proofs.ModelWalk.{edge-declared, path↔individuals-walk}
-use Rattle.meaning.proofs.Declared.{concept-in, state-in, concept-declared, role-step-to, test-step-to}
-use Rattle.meaning.proofs.LiteTests.{same_individual, same_state, same_concept, individual-same, state-same, concept-same, leads, role_letter, role_le, role_le-in, role_le-out, concept_le, concept_le-in, concept_le-out, role-step-in, role-step-out}
-use Rattle.meaning.proofs.Reply.{declared_individuals, fact_types, end_types, is_typed, typed_to, individual_has, joins_by, fact_edge, marked, stride, walks, reaches_in, reaches}
+use Rattle.meaning.proofs.Declared.{concept-in, state-in, concept-declared, role-step-to, test-step-to, lite-sane}
+use Rattle.meaning.proofs.LiteTests.{same_individual, same_state, same_concept, individual-same, state-same, concept-same, leads, role_letter, role_le, role_le-in, role_le-out, concept_le, concept_le-in, concept_le-out, role-step-in, role-step-out, lite_tests, lite-decides}
+use Rattle.meaning.proofs.Reply.{declared_individuals, fact_types, end_types, is_typed, typed_to, individual_has, joins_by, fact_edge, marked, stride, walks, reaches_in, reaches, is_final, leads_on, goes_on, out_from, leaves, is_yes}
 
 pub individual-in : (c : Counts) (a : Individual) → IndividualDeclared c a → a ∈ declared_individuals c
 unfolding declared_individuals
@@ -135,7 +143,7 @@ module _ (𝓒 : Collection) (ok : WellFormed 𝓒) where
       any-in 𝓒.role-facts (joins_by 𝓒 b (inverse S) a) m (or_right (and (same_individual a b) _) _ (and_both (same_individual b b) _ (individual-same.self b) (and_both (same_individual a a) _ (individual-same.self a)
       (rw (inverse-inverse S) (role_le-in 𝓒 ok.numbers (forward r) S (omega (arith, (ok.numbers.role-facts (r, a, b) m).0)) l)))))
 
-  loop-state : {B : Concept} {s t : State} → Loop (lite 𝓒) B s t → s ∈ declared_states 𝓒.counts → t ∈ declared_states 𝓒.counts
+  pub loop-state : {B : Concept} {s t : State} → Loop (lite 𝓒) B s t → s ∈ declared_states 𝓒.counts → t ∈ declared_states 𝓒.counts
   loop-state here m = m
   loop-state (tested {s = s} {t = t} e) m = test-step-to 𝓒 ok.numbers s e.0 t e.1
   loop-state (twice l k) m = loop-state k (loop-state l m)
@@ -234,3 +242,69 @@ module _ (𝓒 : Collection) (ok : WellFormed 𝓒) where
               (w.0, w.1, (path↔individuals-walk 𝓒 ok a b start w.0 i).1 ((walks-is a b start w.0 n m).0 w.2)),
           λ p. any-in 𝓒.finals (reaches_in 𝓒 f a b) p.1 ((walks-is a b start p.0 n m).1 ((path↔individuals-walk 𝓒 ok a b start p.0 i).0 p.2)),
         )
+
+    -- what is computed as the way on is that
+    final-out : (s : State) → T (is_final 𝓒 s) → s ∈ 𝓒.finals
+    unfolding is_final
+    final-out s h = listed-out same_state state-same 𝓒.finals s h
+
+    final_in : (s : State) → s ∈ 𝓒.finals → T (is_final 𝓒 s)
+    unfolding is_final
+    final_in s m = listed_in same_state state-same 𝓒.finals s m
+
+    leads_on-is : (s : State) (B : Concept) → s ∈ declared_states 𝓒.counts → B ∈ valid_concepts 𝓒.counts
+        → T (leads_on 𝓒 f s B) ↔ LeadsOn (lite 𝓒) (λ t. t ∈ 𝓒.finals) s B
+    leads_on-is =
+        onward-is (lite 𝓒) (lite_tests 𝓒) f (is_final 𝓒) (lite-decides 𝓒 ok.numbers) (lite-sane 𝓒 ok.numbers) (λ s t B. Loop (lite 𝓒) B s t) (λ t. t ∈ 𝓒.finals)
+        mark-out mark-in (λ s t B m l. loop-state l m) final-out final_in
+
+    abbrev on : Individual × State → Bool
+    on p = any (valid_concepts 𝓒.counts) (goes_on 𝓒 (leads_on 𝓒 f) p.0 p.1)
+
+    -- what is computed as a path that leaves is one in the canonical model
+    pub leaves-is : (a : Individual) → IndividualDeclared 𝓒.counts a → T (leaves 𝓒 f a) ↔ Leaves 𝓒 a
+    unfolding leaves out_from goes_on
+    leaves-is a i =
+        (λ h. (leaves↔walk 𝓒 ok a i).1 (out h), λ p. back ((leaves↔walk 𝓒 ok a i).0 p))
+      where
+        m : 𝓒.counts.start ∈ declared_states 𝓒.counts
+        m = state-in 𝓒.counts 𝓒.counts.start ok.counts.start
+
+        n : a ∈ declared_individuals 𝓒.counts
+        n = individual-in 𝓒.counts a i
+
+        way : (p : Individual × State) → p ∈ nodes → T (is_final 𝓒 p.1) ⊎ T (on p)
+            → (p.1 ∈ 𝓒.finals) ⊎ ((B : Concept) × IndividualHas 𝓒 p.0 B × LeadsOn (lite 𝓒) (λ t. t ∈ 𝓒.finals) p.1 B)
+        way p k (inl h) = inl (final-out p.1 h)
+        way p k (inr h) =
+            let w = any_out (valid_concepts 𝓒.counts) (goes_on 𝓒 (leads_on 𝓒 f) p.0 p.1) h in
+            let B = w.0 in
+            let s = (pairs-out (declared_individuals 𝓒.counts) (declared_states 𝓒.counts) k).1 in
+            inr (B, individual_has-out p.0 B (and_left (individual_has 𝓒 p.0 B) _ w.2), (leads_on-is p.1 B s w.1).0 (and_right (individual_has 𝓒 p.0 B) _ w.2))
+
+        out : T (any nodes (out_from 𝓒 f (leads_on 𝓒 f) a)) → IndividualsWalkOut 𝓒 a 𝓒.counts.start
+        out h =
+            let w = any_out nodes (out_from 𝓒 f (leads_on 𝓒 f) a) h in
+            let p = w.0 in
+            let walk = (walks-is a p.0 𝓒.counts.start p.1 n m).0 (and_left (walks 𝓒 f (a, 𝓒.counts.start) p) _ w.2) in
+            record { to = p.0; last = p.1; walk = walk; out = way p w.1 (or_case (is_final 𝓒 p.1) _ (and_right (walks 𝓒 f (a, 𝓒.counts.start) p) _ w.2)) }
+
+        back : IndividualsWalkOut 𝓒 a 𝓒.counts.start → T (any nodes (out_from 𝓒 f (leads_on 𝓒 f) a))
+        back w =
+            let p : Individual × State = (w.to, w.last) in
+            let k = (chain→walk (walk→chain w.walk m) (pairs-in n m)).0 in
+            let s = (pairs-out (declared_individuals 𝓒.counts) (declared_states 𝓒.counts) k).1 in
+            any-in nodes (out_from 𝓒 f (leads_on 𝓒 f) a) k (and_both (walks 𝓒 f (a, 𝓒.counts.start) p) _ ((walks-is a w.to 𝓒.counts.start w.last n m).1 w.walk) (side s w.out))
+          where
+            side : w.last ∈ declared_states 𝓒.counts → (w.last ∈ 𝓒.finals) ⊎ ((B : Concept) × IndividualHas 𝓒 w.to B × LeadsOn (lite 𝓒) (λ t. t ∈ 𝓒.finals) w.last B)
+                → T (or (is_final 𝓒 w.last) (on (w.to, w.last)))
+            side s (inl h) = or_left (is_final 𝓒 w.last) _ (final_in w.last h)
+            side s (inr h) =
+                let d = concept-in 𝓒.counts h.0 (has-declared w.to h.0 h.1) in
+                or_right (is_final 𝓒 w.last) _
+                (any-in (valid_concepts 𝓒.counts) (goes_on 𝓒 (leads_on 𝓒 f) w.to w.last) d
+                (and_both (individual_has 𝓒 w.to h.0) _ (individual_has-in w.to h.0 h.1) ((leads_on-is w.last h.0 s d).1 h.2)))
+
+    pub yes-is : (ask : Ask) → AskDeclared 𝓒.counts ask → T (is_yes 𝓒 f ask) ↔ IsYes 𝓒 ask
+    yes-is (Pair a b) d = reaches-is a b d.0
+    yes-is (From a) d = leaves-is a d

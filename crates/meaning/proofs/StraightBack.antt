@@ -17,6 +17,7 @@ use Rattle.meaning.proofs.ModelLaws.{born, has_above}
 use Rattle.meaning.proofs.RoleTurned.{turn}
 use Rattle.meaning.proofs.ModelWalk.{edge-declared}
 use Rattle.meaning.specs.Question.{Going, along-role, at_name, PathIn, Yes}
+use Rattle.meaning.specs.Leaving.{LeavesIn, Leaves}
 use Rattle.meaning.proofs.LiteTests.{same_role, role_same}
 
 module _ (𝓒 : Collection) where
@@ -117,4 +118,11 @@ module _ (𝓒 : Collection) where
     straight-back-yes a b i = (
       λ y. (y.0, y.1, fold-path y.2 (Belongs.bare i)),
       λ y. (y.0, y.1, carry (λ x. x) (λ x y s t m. one (lean-going m)) y.2),
+    )
+
+    -- THEOREM: and a path leaves the same individuals
+    pub straight-back-leaves : (a : Individual) → IndividualDeclared 𝓒.counts a → Leaves 𝓒 a ↔ LeavesIn 𝓒 (lean_model 𝓒) (root a)
+    straight-back-leaves a i = (
+      λ l. (l.0, l.1, fold l.2, fold-path l.3 (Belongs.bare i)),
+      λ l. (l.0, l.1, l.2, carry (λ x. x) (λ x y s t m. one (lean-going m)) l.3),
     )

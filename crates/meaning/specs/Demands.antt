@@ -5,7 +5,7 @@ use Rattle.kinds.specs.declared.Counts.{Counts}
 use Rattle.kinds.specs.Answer.{answer_number}
 use Rattle.laws.specs.Member.{Within}
 use Rattle.meaning.specs.Collection.{Collection}
-use Rattle.meaning.specs.Question.{SpellsWord}
+use Rattle.meaning.specs.Asks.{IsSpelled}
 use Rattle.meaning.specs.Lent.{Call, collection_of}
 use Rattle.meaning.specs.Outcome.{Breaks, RoundsNeeded}
 
@@ -17,9 +17,9 @@ most_rounds c = (c.names + 2 * c.roles) * c.states * (c.states - 1)
 abbrev pub Enough : Call → Type 0
 Enough c = (n : ℕ) × RoundsNeeded c n × (n ≤ c.allowance)
 
--- a path in the model from the first individual to the second spells a word of the question
+-- a path in the model, as it is asked for, spells a word of the question
 abbrev pub Spelled : Call → Type 0
-Spelled c = SpellsWord (collection_of c) c.first c.second
+Spelled c = IsSpelled (collection_of c) c.ask
 
 -- contradiction when the model breaks an exclusion, otherwise yes when such a path is there
 pub record AsModelSays (c : Call) (r : Answer) : Type 0 where
@@ -39,11 +39,10 @@ pub record Larger (𝓒 𝓓 : Collection) : Type 0 where
   pub steps : Within 𝓒.steps 𝓓.steps
   pub finals : Within 𝓒.finals 𝓓.finals
 
--- a second call asks the same pair of a larger collection
+-- a second call asks the same of a larger collection
 pub record GrowsTo (c d : Call) : Type 0 where
   pub larger : Larger (collection_of c) (collection_of d)
-  pub first : c.first ≡ d.first
-  pub second : c.second ≡ d.second
+  pub ask : c.ask ≡ d.ask
 
 -- its answer q keeps a yes of r or turns it into contradiction, keeps a contradiction, and its no
 -- was a no before

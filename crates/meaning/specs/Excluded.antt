@@ -35,8 +35,7 @@ pub record ImpliesMore (𝓒 𝓓 : Collection) : Type 0 where
 -- two calls ask the same of two such collections
 pub record AsksWhereMore (c d : Call) : Type 0 where
   pub more : ImpliesMore (collection_of c) (collection_of d)
-  pub first : c.first ≡ d.first
-  pub second : c.second ≡ d.second
+  pub ask : c.ask ≡ d.ask
 
 -- the call is answered no, yes or contradiction: no test refuses it, and its rounds suffice
 abbrev pub IsDecided : Call → Answer → Type 0

@@ -8,6 +8,7 @@ use Rattle.laws.specs.Member.{◌∈◌}
 use Rattle.meaning.specs.Collection.{Collection, WellFormed}
 use Rattle.meaning.specs.Model.{Contradiction}
 use Rattle.meaning.specs.Question.{Yes}
+use Rattle.meaning.specs.Leaving.{Leaves}
 use Rattle.meaning.specs.Lent.{Call, Sound}
 use Rattle.meaning.specs.Layout.{area_length}
 use Rattle.meaning.specs.Outcome.{Outcome}
@@ -40,7 +41,7 @@ abbrev pub AnswersGrow : Type 0
 AnswersGrow = (c d : Call) → GrowsTo c d → Sound c → Sound d → Enough c → Enough d
     → (r q : Answer) (x y x' y' : List ℕ) → Outcome c r x y → Outcome d q x' y' → Grown r q
 
--- of the canonical models: the larger one keeps a contradiction, and a yes
+-- of the canonical models: the larger one keeps a contradiction, a yes, and a path that leaves
 abbrev pub ContradictionGrows : Type 0
 ContradictionGrows = (𝓒 𝓓 : Collection) → Larger 𝓒 𝓓 → WellFormed 𝓒 → WellFormed 𝓓
     → Contradiction 𝓒 → Contradiction 𝓓
@@ -49,6 +50,10 @@ abbrev pub YesGrows : Type 0
 YesGrows = (𝓒 𝓓 : Collection) → Larger 𝓒 𝓓 → WellFormed 𝓒 → WellFormed 𝓓
     → (a b : Individual) → IndividualDeclared 𝓒.counts a → IndividualDeclared 𝓓.counts a
     → Yes 𝓒 a b → Yes 𝓓 a b
+
+abbrev pub LeavesGrows : Type 0
+LeavesGrows = (𝓒 𝓓 : Collection) → Larger 𝓒 𝓓 → WellFormed 𝓒 → WellFormed 𝓓
+    → (a : Individual) → Leaves 𝓒 a → Leaves 𝓓 a
 
 -- an answer given at one allowance returns with the same count, and the same areas, at every larger
 -- one

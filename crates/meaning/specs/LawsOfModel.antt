@@ -16,9 +16,10 @@ use Rattle.meaning.specs.Tree.{root, ◌▹◌}
 use Rattle.meaning.specs.Model as model
 use Rattle.meaning.specs.Model.{Element, individuals, canonical, Contradiction}
 use Rattle.meaning.specs.Question.{PathIn, Yes, SpellsWord}
-use Rattle.meaning.specs.Walk.{IndividualsWalk}
+use Rattle.meaning.specs.Leaving.{LeavesIn, Leaves, SpellsFrom}
+use Rattle.meaning.specs.Walk.{IndividualsWalk, IndividualsWalkOut}
 use Rattle.meaning.specs.Clash.{Clash}
-use Rattle.meaning.specs.StraightBack.{LeanContradiction, LeanYes}
+use Rattle.meaning.specs.StraightBack.{lean_model, LeanContradiction, LeanYes}
 
 -- of the canonical model: an element belongs to it, has a concept, is joined to another by a role
 abbrev pub Belongs : (𝓒 : Collection) → Element 𝓒 → Type 0
@@ -193,3 +194,25 @@ abbrev pub PathIsWalk : Type 0
 PathIsWalk = (𝓒 : Collection) → WellFormed 𝓒 → (a b : Individual) (s t : State)
     → IndividualDeclared 𝓒.counts a
     → PathIn 𝓒 (canonical 𝓒) (root a) s (root b) t ↔ IndividualsWalk 𝓒 a s b t
+
+-- an individual is left exactly when some path from it spells a word of the question
+abbrev pub LeavesIsWord : Type 0
+LeavesIsWord = (𝓒 : Collection) (a : Individual) → Leaves 𝓒 a ↔ SpellsFrom 𝓒 a
+
+-- the empty path counts here too
+abbrev pub EmptyPathLeaves : Type 0
+EmptyPathLeaves = (𝓒 : Collection) (a : Individual) → 𝓒.counts.start ∈ 𝓒.finals → Leaves 𝓒 a
+
+-- the first of a pair that is yes is left
+abbrev pub YesLeaves : Type 0
+YesLeaves = (𝓒 : Collection) (a b : Individual) → Yes 𝓒 a b → Leaves 𝓒 a
+
+-- a path leaves an individual exactly when the individuals' walk leads out
+abbrev pub LeavesIsWalk : Type 0
+LeavesIsWalk = (𝓒 : Collection) → WellFormed 𝓒 → (a : Individual)
+    → IndividualDeclared 𝓒.counts a → Leaves 𝓒 a ↔ IndividualsWalkOut 𝓒 a 𝓒.counts.start
+
+-- and no answer differs where the children that go straight back are left out
+abbrev pub LeanLeavesSame : Type 0
+LeanLeavesSame = (𝓒 : Collection) → WellFormed 𝓒 → (a : Individual)
+    → IndividualDeclared 𝓒.counts a → Leaves 𝓒 a ↔ LeavesIn 𝓒 (lean_model 𝓒) (root a)

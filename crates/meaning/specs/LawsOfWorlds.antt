@@ -3,17 +3,24 @@ use Rattle.std.specs.Prelude.{List, ℕ}
 use Rattle.kinds.specs.declared.Individual.{Individual}
 use Rattle.kinds.specs.declared.Answer.TheVariants.{No, Yes, Contradiction, AllowanceSpent}
 use Rattle.meaning.specs.Collection.{Collection, NumbersDeclared}
+use Rattle.meaning.specs.Tree.{root}
 use Rattle.meaning.specs.Model as model
 use Rattle.meaning.specs.Question as question
+use Rattle.meaning.specs.Leaving.{LeavesIn, Leaves}
 use Rattle.meaning.specs.Lent.{Call, collection_of}
 use Rattle.meaning.specs.Outcome.{Outcome}
-use Rattle.meaning.specs.Worlds.{World, Keeps, Respects, IsWorld, YesIn, model_world}
+use Rattle.meaning.specs.Worlds.{World, Keeps, Respects, IsWorld, YesIn, HasPathIn, model_world}
 
 module _ (𝓦 : World) where
   -- a yes of the canonical model has its path in each world that has the facts and keeps the rules
   abbrev pub YesIsForced : Type 0
   YesIsForced = (𝓒 : Collection) (a b : Individual) → question.Yes 𝓒 a b → Keeps 𝓒 𝓦
       → YesIn 𝓒 𝓦 a b
+
+  -- so has an individual that a path of the canonical model leaves
+  abbrev pub LeavingIsForced : Type 0
+  LeavingIsForced = (𝓒 : Collection) (a : Individual) → Leaves 𝓒 a → Keeps 𝓒 𝓦
+      → LeavesIn 𝓒 𝓦.structure (𝓦.person a)
 
   -- where the canonical model breaks an exclusion, the facts cannot be so: it is no world
   abbrev pub ContradictionLeavesNone : Type 0
@@ -22,7 +29,7 @@ module _ (𝓦 : World) where
   -- the answer yes: facts and rules together force a path
   abbrev pub YesSaysForced : Type 0
   YesSaysForced = (c : Call) (n : ℕ) (x y : List ℕ) → Outcome c (Yes n) x y
-      → IsWorld (collection_of c) 𝓦 → YesIn (collection_of c) 𝓦 c.first c.second
+      → IsWorld (collection_of c) 𝓦 → HasPathIn (collection_of c) 𝓦 c.ask
 
   -- the answer contradiction: the facts cannot be so
   abbrev pub ContradictionSaysNone : Type 0
@@ -42,6 +49,11 @@ abbrev pub OnlyYesIsForced : Type 0
 OnlyYesIsForced = (𝓒 : Collection) (a b : Individual) → YesIn 𝓒 (model_world 𝓒) a b
     → question.Yes 𝓒 a b
 
+-- and where a path leaves an individual in it as a world, one does in the canonical model
+abbrev pub OnlyLeavingIsForced : Type 0
+OnlyLeavingIsForced = (𝓒 : Collection) (a : Individual)
+    → LeavesIn 𝓒 (model_world 𝓒).structure (root a) → Leaves 𝓒 a
+
 -- the answers no, yes and allowance spent: the canonical model is a world,
 abbrev pub NoLeavesOne : Type 0
 NoLeavesOne = (c : Call) (n : ℕ) (x y : List ℕ) → Outcome c (No n) x y
@@ -58,5 +70,4 @@ SpentLeavesOne = (c : Call) (n : ℕ) (x y : List ℕ) → Outcome c (AllowanceS
 -- and after no it has no path: facts and rules do not force one
 abbrev pub NoSaysNotForced : Type 0
 NoSaysNotForced = (c : Call) (n : ℕ) (x y : List ℕ) → Outcome c (No n) x y
-    → YesIn (collection_of c) (model_world (collection_of c)) c.first c.second
-    → ⊥
+    → HasPathIn (collection_of c) (model_world (collection_of c)) c.ask → ⊥

@@ -1,6 +1,5 @@
--- What a library call is lent: five counts, eight tables of 16-bit numbers, a pair, an allowance
--- and two areas (docs/RULES.md, section 3); and its tests 4, 5, 6
--- and 8 (section 7).
+-- What a library call is lent: five counts, eight tables of 16-bit numbers, an ask, an allowance
+-- and two areas (docs/RULES.md, section 3); and its tests 4, 5, 6 and 8 (section 7).
 use Rattle.std.specs.Prelude.{◌≡◌, List, ℕ, zero, suc, ◌+◌, ◌*◌, ◌/◌, ◌%◌, ◌≤◌, length, slice_index}
 use Rattle.kinds.specs.declared.ConceptName.{ConceptName}
 use Rattle.kinds.specs.declared.RoleName.{RoleName}
@@ -9,7 +8,9 @@ use Rattle.kinds.specs.declared.State.{State}
 use Rattle.kinds.specs.declared.SignedRole.{SignedRole}
 use Rattle.kinds.specs.declared.Concept.{Concept}
 use Rattle.kinds.specs.declared.Counts.{Counts}
-use Rattle.kinds.specs.Kinds.{concept_name, role_name, individual, state, signed, concept_of, CountsFit, IndividualDeclared}
+use Rattle.kinds.specs.declared.Ask.{Ask}
+use Rattle.kinds.specs.Kinds.{concept_name, role_name, individual, state, signed, concept_of, CountsFit}
+use Rattle.kinds.specs.Asks.{AskDeclared}
 use Rattle.laws.specs.Numbers.{numbered}
 use Rattle.meaning.specs.Collection.{Collection, Letter, role, test, Step, step, NumbersDeclared, Each}
 use Rattle.meaning.specs.Layout.{area_length}
@@ -126,8 +127,7 @@ collection c t = record {
 pub record Call : Type 0 where
   pub counts : Counts
   pub tables : Tables
-  pub first : Individual
-  pub second : Individual
+  pub ask : Ask
   pub allowance : ℕ
   pub area : List ℕ
   pub spare : List ℕ
@@ -176,7 +176,7 @@ NumbersOk c = NumbersFit c.counts c.tables
 
 -- test 8: both asked individuals are declared
 abbrev pub AskOk : Call → Type 0
-AskOk c = IndividualDeclared c.counts c.first × IndividualDeclared c.counts c.second
+AskOk c = AskDeclared c.counts c.ask
 
 -- a call that none of them refuses
 pub record Sound (c : Call) : Type 0 where

@@ -7,9 +7,12 @@ pub mod Run
 pub mod Tree
 pub mod Model
 pub mod Question
+pub mod Leaving
+pub mod Asks
 pub mod Kind
 pub mod Sheet
 pub mod Lite
+pub mod Onward
 pub mod Walk
 pub mod Layout
 pub mod Marks
@@ -30,6 +33,7 @@ pub mod Tests
 pub mod LawsOfOrders
 pub mod LawsOfModel
 pub mod LawsOfSheet
+pub mod LawsOfLeaving
 pub mod LawsOfMarks
 pub mod LawsOfGrowth
 pub mod LawsOfCalls

@@ -5,7 +5,7 @@ use Rattle.kinds.specs.declared.Answer.{Answer}
 use Rattle.kinds.specs.declared.Answer.TheVariants.{No, Yes, Contradiction, AllowanceSpent, BadCount, BadTable, BadNumber, BadAsk}
 use Rattle.meaning.specs.Sheet.{Mark, Needed}
 use Rattle.meaning.specs.Model as model
-use Rattle.meaning.specs.Question as question
+use Rattle.meaning.specs.Asks.{IsYes}
 use Rattle.meaning.specs.Lite.{lite}
 use Rattle.meaning.specs.Lent.{Call, collection_of, CountsOk, TablesOk, NumbersOk, AskOk, Sound}
 use Rattle.meaning.specs.Layout.{Lays, zeros}
@@ -15,9 +15,9 @@ module _ (c : Call) where
   abbrev pub Breaks : Type 0
   Breaks = model.Contradiction (collection_of c)
 
-  -- the asked pair is yes in it
+  -- the ask is yes in it
   abbrev pub Reached : Type 0
-  Reached = question.Yes (collection_of c) c.first c.second
+  Reached = IsYes (collection_of c) c.ask
 
   -- the loop sheet's rounds needed
   abbrev pub RoundsNeeded : ℕ → Type 0

@@ -6,6 +6,8 @@ use Rattle.kinds.specs.declared.Individual.{Individual}
 use Rattle.kinds.specs.declared.State.{State}
 use Rattle.kinds.specs.declared.SignedRole.{SignedRole}
 use Rattle.kinds.specs.declared.Concept.{Concept}
+use Rattle.kinds.specs.declared.Ask.{Ask}
+use Rattle.kinds.specs.declared.Ask.TheVariants.{Pair, From}
 use Rattle.kinds.specs.declared.Concept.TheVariants.{Name, Exists}
 use Rattle.kinds.specs.Kinds.{inverse, forward}
 use Rattle.laws.specs.Member.{◌∈◌}
@@ -13,6 +15,7 @@ use Rattle.meaning.specs.Collection.{Collection}
 use Rattle.meaning.specs.Tree.{root}
 use Rattle.meaning.specs.Model.{Structure, Element, Belongs, individuals, canonical}
 use Rattle.meaning.specs.Question.{PathIn}
+use Rattle.meaning.specs.Leaving.{LeavesIn}
 
 -- a world: a structure, and the thing that each individual is. Different individuals may be one
 -- thing
@@ -58,6 +61,11 @@ module _ (𝓒 : Collection) (𝓦 : World) where
   abbrev pub YesIn : Individual → Individual → Type 0
   YesIn a b =
       (t : State) × (t ∈ 𝓒.finals) × PathIn 𝓒 structure (person a) 𝓒.counts.start (person b) t
+
+  -- an ask has its path in it
+  abbrev pub HasPathIn : Ask → Type 0
+  HasPathIn (Pair a b) = YesIn a b
+  HasPathIn (From a) = LeavesIn 𝓒 structure (person a)
 
 -- the canonical model as a world: the elements that belong, with their names and edges; each
 -- individual is itself

@@ -4,7 +4,7 @@ ghost use Rattle.meaning.specs.Grows.{Growing};
 ghost use Rattle.meaning.specs.LawsOfGrowth.{LoopsGrow, WalksGrow, PathsGrow};
 ghost use Rattle.meaning.specs.LawsOfCalls.{EveryInputAnswered, OutcomeOnce, SaysAsModel};
 ghost use Rattle.meaning.specs.LawsOfCalls.{MostIsEnough, AnswerReturns, AnswersGrow};
-ghost use Rattle.meaning.specs.LawsOfCalls.{ContradictionGrows, YesGrows, CasesHold};
+ghost use Rattle.meaning.specs.LawsOfCalls.{ContradictionGrows, YesGrows, LeavesGrows, CasesHold};
 
 // A type that names a rules' kind and one that yields more: any.
 pub trait AnyGrowing {
@@ -29,6 +29,7 @@ pub fn growth()
     ensures answers { AnswersGrow }
     ensures contradiction { ContradictionGrows }
     ensures yes { YesGrows }
+    ensures leaves { LeavesGrows }
 {}
 
 // And of paths, for any rules' kind.

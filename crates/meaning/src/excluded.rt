@@ -10,6 +10,7 @@ ghost use Rattle.kinds.specs.Kinds.{IndividualDeclared};
 ghost use Rattle.meaning.specs.Collection.{Collection, WellFormed};
 ghost use Rattle.meaning.specs.Model.{Element, Has, Belongs, ModelEdge, individuals, Contradiction};
 ghost use Rattle.meaning.specs.Question.{Yes};
+ghost use Rattle.meaning.specs.Leaving.{Leaves};
 ghost use Rattle.meaning.specs.Lent.{Call};
 ghost use Rattle.meaning.specs.Excluded.{RoleSelfExcluded, ImpliesMore};
 ghost use Rattle.meaning.specs.Excluded.{AsksWhereMore, IsDecided};
@@ -31,6 +32,9 @@ pub fn implies_nothing()
     ensures yes { (c d : Collection) → WellFormed c → WellFormed d → ImpliesMore c d
         → ¬ Contradiction c → (a b : Individual) → IndividualDeclared c.counts a
         → Yes c a b ↔ Yes d a b }
+    ensures leaves { (c d : Collection) → WellFormed c → WellFormed d → ImpliesMore c d
+        → ¬ Contradiction c → (a : Individual) → IndividualDeclared c.counts a
+        → Leaves c a ↔ Leaves d a }
     ensures answer { (c d : Call) (r q : Answer) → AsksWhereMore c d → IsDecided c r
         → IsDecided d q → answer_number r ≡ answer_number q }
 {}

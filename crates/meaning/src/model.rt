@@ -1,7 +1,7 @@
 // Laws of the canonical model.
 ghost use Rattle.meaning.specs.LawsOfModel.{ElementsAreRows, BareBelongs, RowBelongs, UnnamedHas};
 ghost use Rattle.meaning.specs.LawsOfModel.{FactsJoin, SelfFactsJoin, ChildrenJoin, NeighboursDiffer};
-ghost use Rattle.meaning.specs.LawsOfModel.{LeanContradictionSame, LeanYesSame};
+ghost use Rattle.meaning.specs.LawsOfModel.{LeanContradictionSame, LeanYesSame, LeanLeavesSame};
 ghost use Rattle.meaning.specs.LawsOfModel.{ConceptFactsHold, RoleFactsHold, ConceptRulesKept};
 ghost use Rattle.meaning.specs.LawsOfModel.{RoleRulesKept, ConceptsAbove, RolesAbove, InversesBack};
 ghost use Rattle.meaning.specs.LawsOfModel.{NeighbourIsHad, NeighbourIsThere};
@@ -9,6 +9,7 @@ ghost use Rattle.meaning.specs.LawsOfModel.{ConceptForbidden, RoleForbidden, Sel
 ghost use Rattle.meaning.specs.LawsOfModel.{NoContradictionWhereNone, ContradictionFound};
 ghost use Rattle.meaning.specs.LawsOfModel.{RoleStepMoves, TestStepStays};
 ghost use Rattle.meaning.specs.LawsOfModel.{YesIsWord, EmptyPathCounts, PathIsWalk};
+ghost use Rattle.meaning.specs.LawsOfModel.{LeavesIsWord, EmptyPathLeaves, YesLeaves, LeavesIsWalk};
 
 // Its elements are rows that lead to them; those that go straight back may be left out.
 pub fn elements()
@@ -22,6 +23,7 @@ pub fn elements()
     ensures neighbours_differ { NeighboursDiffer }
     ensures lean_contradiction { LeanContradictionSame }
     ensures lean_yes { LeanYesSame }
+    ensures lean_leaves { LeanLeavesSame }
 {}
 
 // It has every fact and keeps every rule.
@@ -54,4 +56,12 @@ pub fn question()
     ensures word { YesIsWord }
     ensures empty_path { EmptyPathCounts }
     ensures walk { PathIsWalk }
+{}
+
+// And the question with one named end.
+pub fn leaving()
+    ensures word { LeavesIsWord }
+    ensures empty_path { EmptyPathLeaves }
+    ensures pair { YesLeaves }
+    ensures walk { LeavesIsWalk }
 {}

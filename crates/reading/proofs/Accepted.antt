@@ -21,8 +21,10 @@ use Rattle.expression.specs.Answer.{IsAutomatonOf}
 use Rattle.expression.proofs.FitsLaws.{fits-tables, needs-marks}
 use Rattle.expression.proofs.Once.{is-once}
 use Rattle.streams.specs.Lines.{lines}
+use Rattle.kinds.specs.Asks.{AskDeclared}
+use Rattle.tables.specs.Asks.{ask_by}
 use Rattle.frames.specs.declared.Frame.{Frame}
-use Rattle.frames.specs.declared.Frame.TheVariants.{Declared, ConceptRule, ConceptExclusion, RoleRule, RoleExclusion, ConceptFact, RoleFact, RoleStep, TestStep, Final, Ask, Allowance, Expression}
+use Rattle.frames.specs.declared.Frame.TheVariants.{Declared, ConceptRule, ConceptExclusion, RoleRule, RoleExclusion, ConceptFact, RoleFact, RoleStep, TestStep, Final, Ask, AskFrom, Allowance, Expression}
 use Rattle.reading.specs.Tables.{Kind, concept_rules, concept_exclusions, role_rules, role_exclusions, concept_facts, role_facts, steps, finals, asks, record_in, width, most, entries, table, declared_by, expression_given}
 use Rattle.reading.specs.File.{file_of, typed_question, IsQuestion, asked}
 use Rattle.reading.specs.Reading.{Verdict, sound, frames_of, Reading, empty, whole, stopped, onward, Taken, none, more}
@@ -44,7 +46,7 @@ module _ (c : Counts) (n : ℕ → ℕ) where
   Passes role_facts = RoleFactDeclared c (role_name (n 0), individual (n 1), individual (n 2))
   Passes steps = (n 0 ≤ 1) × StepDeclared c (step (state (n 1)) (letter_of (n 0) (n 2)) (state (n 3)))
   Passes finals = StateDeclared c (state (n 0))
-  Passes asks = IndividualDeclared c (individual (n 0)) × IndividualDeclared c (individual (n 1))
+  Passes asks = AskDeclared c (ask_by (n 0) (n 1) (n 2))
 
 -- the numbers of a record that stands first in a list
 abbrev numbers : List ℕ → ℕ → ℕ
@@ -70,6 +72,7 @@ module _ (before : List Frame) (t : Taken before) (l : List ℕ) where
   taken-passes steps (TestStep u A v) p = (omega arith, p.numbers)
   taken-passes finals (Final u) p = p.numbers
   taken-passes asks (Ask a b) p = p.ask
+  taken-passes asks (AskFrom a) p = p.ask
   taken-passes kind f p = tt
 
 -- every record of some frames passes by line 1's counts, whatever follows it in its table

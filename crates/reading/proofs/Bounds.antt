@@ -2,7 +2,7 @@
 use Rattle.std.specs.Prelude.{ℕ, ◌+◌, ◌<◌, ◌≤◌, ◌≡◌, Bool, true, false, List, [], ◌∷◌, ◌++◌, Option, None, Some, cond, is_some, length}
 use Rattle.std.proofs.Common.{refl, ap, ◌∙◌, arith, length-append}
 use Rattle.frames.specs.declared.Frame.{Frame}
-use Rattle.frames.specs.declared.Frame.TheVariants.{Declared, ConceptRule, ConceptExclusion, RoleRule, RoleExclusion, ConceptFact, RoleFact, RoleStep, TestStep, Final, Ask, Allowance, Expression}
+use Rattle.frames.specs.declared.Frame.TheVariants.{Declared, ConceptRule, ConceptExclusion, RoleRule, RoleExclusion, ConceptFact, RoleFact, RoleStep, TestStep, Final, Ask, AskFrom, Allowance, Expression}
 use Rattle.reading.specs.Tables.{Kind, concept_rules, concept_exclusions, role_rules, role_exclusions, concept_facts, role_facts, steps, finals, asks, record_in, most, entries, table, allowance_given, expression_given}
 use Rattle.reading.specs.Reading.{Taken}
 use Rattle.reading.proofs.TableLaws.{added, entries-more, table-length}
@@ -98,6 +98,7 @@ module _ (before : List Frame) where
   shared-more (TestStep p1 A u) t p h = shared-step (TestStep p1 A u) refl refl p.in_place.1 (p.room steps refl)
   shared-more (Final p1) t p h = shared-still (Final p1) refl refl h
   shared-more (Ask a b) t p h = shared-still (Ask a b) refl refl h
+  shared-more (AskFrom a) t p h = shared-still (AskFrom a) refl refl h
   shared-more (Expression row) t p h =
       omega (arith, expressed-now row p.in_place.1, no_steps before p.in_place.2, entries-more steps before (Expression row))
 
@@ -134,6 +135,7 @@ module _ (before : List Frame) where
   counted-more (TestStep p1 A u) t p h = record-more (TestStep p1 A u) refl refl h refl
   counted-more (Final p1) t p h = record-more (Final p1) refl refl h refl
   counted-more (Ask a b) t p h = record-more (Ask a b) refl refl h refl
+  counted-more (AskFrom a) t p h = record-more (AskFrom a) refl refl h refl
 
 -- the most lines of a sound file: line 1, the allowance, and as many as the tables have records; 7,186
 abbrev pub most_lines : ℕ

@@ -3,7 +3,7 @@ use Rattle.std.specs.Prelude.{IsSome, ◌<◌, ◌≡◌, ◌≢◌, ◌↔◌, 
 use Rattle.std.proofs.Common.{refl, arith}
 use Rattle.laws.specs.First.{First, fails, holds, first-onward}
 use Rattle.frames.specs.declared.Frame.{Frame}
-use Rattle.frames.specs.declared.Frame.TheVariants.{Declared, ConceptRule, ConceptExclusion, RoleRule, RoleExclusion, ConceptFact, RoleFact, RoleStep, TestStep, Final, Ask, Allowance, Expression}
+use Rattle.frames.specs.declared.Frame.TheVariants.{Declared, ConceptRule, ConceptExclusion, RoleRule, RoleExclusion, ConceptFact, RoleFact, RoleStep, TestStep, Final, Ask, AskFrom, Allowance, Expression}
 use Rattle.reading.specs.declared.File.{File}
 use Rattle.reading.specs.declared.Refusal.{Refusal}
 use Rattle.reading.specs.declared.Refusal.TheVariants.{BadCount, BadTable, BadNumber, BadAsk, OutOfPlace}
@@ -60,6 +60,7 @@ module _ (before : List Frame) where
   room-to steps (TestStep s A t) h e = (room-in steps).0 h
   room-to finals (Final s) h e = (room-in finals).0 h
   room-to asks (Ask a b) h e = (room-in asks).0 h
+  room-to asks (AskFrom a) h e = (room-in asks).0 h
   room-to kind f h e = absurd cc
 
   room-from : (f : Frame) → HasRoom before f → HasShelfRoom (file_of before) f
@@ -73,6 +74,7 @@ module _ (before : List Frame) where
   room-from (TestStep s A t) h = (room-in steps).1 (h steps refl)
   room-from (Final s) h = (room-in finals).1 (h finals refl)
   room-from (Ask a b) h = (room-in asks).1 (h asks refl)
+  room-from (AskFrom a) h = (room-in asks).1 (h asks refl)
   room-from f h = tt
 
   pub room : (f : Frame) → HasShelfRoom (file_of before) f ↔ HasRoom before f

@@ -3,7 +3,7 @@ use Rattle.std.specs.Prelude.{ℕ, ◌+◌, ◌≡◌, ◌≢◌, List, [], ◌�
 use Rattle.std.proofs.Common.{refl, ap, ◌∙◌, length-append}
 use Rattle.kinds.specs.declared.Counts.{Counts}
 use Rattle.frames.specs.declared.Frame.{Frame}
-use Rattle.frames.specs.declared.Frame.TheVariants.{Declared, ConceptRule, ConceptExclusion, RoleRule, RoleExclusion, ConceptFact, RoleFact, RoleStep, TestStep, Final, Ask, Allowance, Expression}
+use Rattle.frames.specs.declared.Frame.TheVariants.{Declared, ConceptRule, ConceptExclusion, RoleRule, RoleExclusion, ConceptFact, RoleFact, RoleStep, TestStep, Final, Ask, AskFrom, Allowance, Expression}
 use Rattle.reading.specs.declared.File.{File}
 use Rattle.reading.specs.Tables.{concept_rules, concept_exclusions, role_rules, role_exclusions, concept_facts, role_facts, steps, finals, asks, record_in, table, declared_by, allowance_given, expression_given}
 use Rattle.reading.specs.File.{file_of, file_with}
@@ -74,3 +74,4 @@ module _ (before : List Frame) where
   file_with-file_of (TestStep s A t) p = later before (TestStep s A t) p.in_place.0 refl refl
   file_with-file_of (Final s) p = later before (Final s) p.in_place.0 refl refl
   file_with-file_of (Ask a b) p = later before (Ask a b) p.in_place refl refl
+  file_with-file_of (AskFrom a) p = later before (AskFrom a) p.in_place refl refl

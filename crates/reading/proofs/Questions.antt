@@ -12,7 +12,7 @@ use Rattle.expression.specs.Listed.{Listed}
 use Rattle.expression.specs.Answer.{HasAutomaton, IsAutomatonOf}
 use Rattle.expression.proofs.Clauses.{automaton-once}
 use Rattle.frames.specs.declared.Frame.{Frame}
-use Rattle.frames.specs.declared.Frame.TheVariants.{Declared, ConceptRule, ConceptExclusion, RoleRule, RoleExclusion, ConceptFact, RoleFact, RoleStep, TestStep, Final, Ask, Allowance, Expression}
+use Rattle.frames.specs.declared.Frame.TheVariants.{Declared, ConceptRule, ConceptExclusion, RoleRule, RoleExclusion, ConceptFact, RoleFact, RoleStep, TestStep, Final, Ask, AskFrom, Allowance, Expression}
 use Rattle.reading.specs.declared.File.{File}
 use Rattle.reading.specs.Tables.{declared_by, expression_given}
 use Rattle.reading.specs.File.{question_by, IsQuestion}
@@ -71,6 +71,7 @@ expressing-more before (RoleStep s R u) t p h = expressing-later before (RoleSte
 expressing-more before (TestStep s A u) t p h = expressing-later before (TestStep s A u) p.in_place.0 refl h
 expressing-more before (Final s) t p h = expressing-later before (Final s) p.in_place.0 refl h
 expressing-more before (Ask a b) t p h = expressing-later before (Ask a b) p.in_place refl h
+expressing-more before (AskFrom a) t p h = expressing-later before (AskFrom a) p.in_place refl h
 
 expressing : (fs : List Frame) → Taken fs → Expressing fs
 expressing = taken-keeps Expressing tt expressing-more

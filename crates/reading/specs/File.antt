@@ -4,12 +4,12 @@ use Rattle.std.specs.Prelude.{ℕ, ◌+◌, ◌*◌, ◌^◌, ◌<◌, ◌≤◌
 use Rattle.kinds.specs.Kinds.{number_of}
 use Rattle.meaning.specs.Lent.{Tables, Call}
 use Rattle.meaning.specs.Layout.{zeros}
-use Rattle.tables.specs.declared.ask.Ask as tables
-use Rattle.tables.specs.Asks.{read_ask, first_of, second_of}
+use Rattle.kinds.specs.declared.Ask as kinds
+use Rattle.tables.specs.Asks.{read_ask}
 use Rattle.expression.specs.Listed.{Listed}
 use Rattle.expression.specs.Answer.{IsAutomatonOf}
 use Rattle.frames.specs.declared.Frame.{Frame}
-use Rattle.frames.specs.declared.Frame.TheVariants.{Declared, ConceptRule, ConceptExclusion, RoleRule, RoleExclusion, ConceptFact, RoleFact, RoleStep, TestStep, Final, Ask, Allowance, Expression}
+use Rattle.frames.specs.declared.Frame.TheVariants.{Declared, ConceptRule, ConceptExclusion, RoleRule, RoleExclusion, ConceptFact, RoleFact, RoleStep, TestStep, Final, Ask, AskFrom, Allowance, Expression}
 use Rattle.reading.specs.declared.File.{File}
 use Rattle.reading.specs.Tables.{Kind, concept_rules, concept_exclusions, role_rules, role_exclusions, concept_facts, role_facts, steps, finals, asks, width, most, table, declared_by, allowance_given, expression_given, usual_allowance, rounds_allowed}
 
@@ -46,8 +46,7 @@ abbrev pub asked : List Frame → Listed → ℕ → Call
 asked fs q k = record {
   counts = declared_by fs;
   tables = tables_of fs q;
-  first = first_of (read_ask (table asks fs) k);
-  second = second_of (read_ask (table asks fs) k);
+  ask = read_ask (table asks fs) k;
   allowance = rounds_allowed fs;
   area = zeros;
   spare = zeros;
@@ -97,15 +96,14 @@ abbrev pub allowance_in : File → ℕ
 allowance_in file = unwrap_or file.allowance usual_allowance
 
 -- ask k of what is held, and its call of the library
-abbrev pub held_ask : File → ℕ → tables.Ask
+abbrev pub held_ask : File → ℕ → kinds.Ask
 held_ask file k = read_ask file.asks k
 
 abbrev pub held_call : File → Listed → ℕ → Call
 held_call file q k = record {
   counts = file.counts;
   tables = lent_tables file q;
-  first = first_of (held_ask file k);
-  second = second_of (held_ask file k);
+  ask = held_ask file k;
   allowance = allowance_in file;
   area = zeros;
   spare = zeros;
@@ -143,6 +141,7 @@ HasShelfRoom file (RoleStep s R t) = RoomIn steps file.steps
 HasShelfRoom file (TestStep s A t) = RoomIn steps file.steps
 HasShelfRoom file (Final s) = RoomIn finals file.finals
 HasShelfRoom file (Ask a b) = RoomIn asks file.asks
+HasShelfRoom file (AskFrom a) = RoomIn asks file.asks
 HasShelfRoom file other = ⊤
 
 -- the numbers of a rule's concepts go into 16 bits
@@ -166,7 +165,8 @@ fields_with (RoleFact r a b) t = record t { role_facts = t.role_facts ++ (r.0 �
 fields_with (RoleStep s R u) t = record t { steps = t.steps ++ (0 ∷ s.0 ∷ R.0 ∷ u.0 ∷ []) }
 fields_with (TestStep s A u) t = record t { steps = t.steps ++ (1 ∷ s.0 ∷ A.0 ∷ u.0 ∷ []) }
 fields_with (Final s) t = record t { finals = t.finals ++ s.0 ∷ [] }
-fields_with (Ask a b) t = record t { asks = t.asks ++ (a.0 ∷ b.0 ∷ []) }
+fields_with (Ask a b) t = record t { asks = t.asks ++ (0 ∷ a.0 ∷ b.0 ∷ []) }
+fields_with (AskFrom a) t = record t { asks = t.asks ++ (1 ∷ a.0 ∷ 0 ∷ []) }
 fields_with (Allowance n) t = record t { allowance = Some n }
 fields_with (Expression row) t = record t { expression = Some row }
 

@@ -9,7 +9,7 @@ use Rattle.expression.specs.Depth.{TooDeep}
 use Rattle.expression.specs.Fits.{MarksDeclared}
 use Rattle.expression.specs.Answer.{HasMarks}
 use Rattle.frames.specs.declared.Frame.{Frame}
-use Rattle.frames.specs.declared.Frame.TheVariants.{Declared, ConceptRule, ConceptExclusion, RoleRule, RoleExclusion, ConceptFact, RoleFact, RoleStep, TestStep, Final, Ask, Allowance, Expression}
+use Rattle.frames.specs.declared.Frame.TheVariants.{Declared, ConceptRule, ConceptExclusion, RoleRule, RoleExclusion, ConceptFact, RoleFact, RoleStep, TestStep, Final, Ask, AskFrom, Allowance, Expression}
 use Rattle.reading.specs.declared.Refusal.{Refusal}
 use Rattle.reading.specs.declared.Refusal.TheVariants.{BadCount, BadTable, BadNumber, BadAsk, OutOfPlace, NoExpression, AnotherShape}
 use Rattle.reading.specs.declared.Refusal.TheVariants as refusal
@@ -57,6 +57,7 @@ module _ (counts : Counts) where
 module _ (counts : Counts) where
   abbrev pub AskOk : Frame → Type 0
   AskOk (Ask a b) = IndividualDeclared counts a × IndividualDeclared counts b
+  AskOk (AskFrom a) = IndividualDeclared counts a
   AskOk other = ⊤
 
 -- not 13: the brackets of its expression are not too deep

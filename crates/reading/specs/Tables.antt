@@ -7,7 +7,7 @@ use Rattle.kinds.specs.Kinds.{state, number_of}
 use Rattle.meaning.specs.Lent.{rule_width, concept_fact_width, role_fact_width, step_width, final_width, most_concept_rules, most_concept_exclusions, most_role_rules, most_role_exclusions, most_concept_facts, most_role_facts, most_steps, most_finals}
 use Rattle.tables.specs.Asks.{ask_width}
 use Rattle.frames.specs.declared.Frame.{Frame}
-use Rattle.frames.specs.declared.Frame.TheVariants.{Declared, ConceptRule, ConceptExclusion, RoleRule, RoleExclusion, ConceptFact, RoleFact, RoleStep, TestStep, Final, Ask, Allowance, Expression}
+use Rattle.frames.specs.declared.Frame.TheVariants.{Declared, ConceptRule, ConceptExclusion, RoleRule, RoleExclusion, ConceptFact, RoleFact, RoleStep, TestStep, Final, Ask, AskFrom, Allowance, Expression}
 
 -- the eight tables of a collection, with both kinds of step in one, and the asks
 pub data Kind : Type 0 where
@@ -27,7 +27,8 @@ record_in role_facts (RoleFact r a b) = Some (r.0 ∷ a.0 ∷ b.0 ∷ [])
 record_in steps (RoleStep s R t) = Some (0 ∷ s.0 ∷ R.0 ∷ t.0 ∷ [])
 record_in steps (TestStep s A t) = Some (1 ∷ s.0 ∷ A.0 ∷ t.0 ∷ [])
 record_in finals (Final s) = Some (s.0 ∷ [])
-record_in asks (Ask a b) = Some (a.0 ∷ b.0 ∷ [])
+record_in asks (Ask a b) = Some (0 ∷ a.0 ∷ b.0 ∷ [])
+record_in asks (AskFrom a) = Some (1 ∷ a.0 ∷ 0 ∷ [])
 record_in kind f = None
 
 -- the numbers in a record of each table

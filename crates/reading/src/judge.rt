@@ -71,6 +71,7 @@ fn ask_ok(frame: &Frame, counts: Counts) -> bool
 {
     match frame {
         Frame::Ask(i, j) => i.declared(counts) && j.declared(counts),
+        Frame::AskFrom(i) => i.declared(counts),
         _ => true,
     }
 }
@@ -154,7 +155,7 @@ impl File {
             Frame::RoleFact(_, _, _) => self.role_facts.has_room(),
             Frame::RoleStep(_, _, _) | Frame::TestStep(_, _, _) => self.steps.has_room(),
             Frame::Final(_) => self.finals.has_room(),
-            Frame::Ask(_, _) => self.asks.has_room(),
+            Frame::Ask(_, _) | Frame::AskFrom(_) => self.asks.has_room(),
             Frame::Declared(_) | Frame::Allowance(_) | Frame::Expression(_) => true,
         }
     }

@@ -14,12 +14,12 @@ ghost use Rattle.reading.specs.Turns.{TakesLine};
 use expression::{Automaton, automaton_of};
 use frames::marks::Marks;
 use frames::{Frame, Misread};
-use kinds::{Concept, Counts, Rounds, State};
+use kinds::{Ask, Concept, Counts, Rounds, State};
 use shelf::Shelf;
 use std::io;
 use streams::Source;
 use streams::lines::{Lines, Next};
-use tables::{Ask, Collection, ConceptFact, ConceptPair, RoleFact, RolePair, Step, Table};
+use tables::{Collection, ConceptFact, ConceptPair, RoleFact, RolePair, Step, Table};
 
 mod judge;
 pub mod shelf;
@@ -243,7 +243,8 @@ impl File {
             Frame::RoleStep(s, r, t) => self.steps.push(&[0, s.0, r.0, t.0]),
             Frame::TestStep(s, a, t) => self.steps.push(&[1, s.0, a.0, t.0]),
             Frame::Final(s) => self.finals.push(&[s.0]),
-            Frame::Ask(i, j) => self.asks.push(&[i.0, j.0]),
+            Frame::Ask(i, j) => self.asks.push(&[0, i.0, j.0]),
+            Frame::AskFrom(i) => self.asks.push(&[1, i.0, 0]),
             Frame::Allowance(rounds) => self.allowance = Some(rounds),
             Frame::Expression(marks) => self.expression = Some(marks),
         }

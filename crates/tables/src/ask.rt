@@ -1,33 +1,24 @@
-// What is asked of a collection.
+// An ask in a row of them: its kind, 0 for a pair and else for one end, and two individuals, of which one end has the first alone.
 ghost use Rattle.std.specs.Prelude.{◌≡◌, ◌<◌, ◌/◌, ◌↔◌, length, IsTrue};
 ghost use Rattle.std.proofs.Common.{rules};
-ghost use Rattle.tables.specs.Asks.{ask_width, read_ask, IsAskDeclared, first_of};
+ghost use Rattle.kinds.specs.Asks.{AskDeclared};
+ghost use Rattle.tables.specs.Asks.{ask_width, ask_by, read_ask};
 
 use crate::fields::Fields;
 use crate::records::Record;
-use kinds::{Counts, Individual};
+use kinds::{Ask, Counts, Individual};
 
-// A pair of individuals: does a path that the question describes lead from the first to the second?
-#[derive(Clone, Copy)]
-pub enum Ask {
-    Pair(Individual, Individual),
-}
-
-impl Ask {
-    // The numbers of an ask in a row of them.
-    pub const WIDTH: usize = 2;
-
-    // The individual that its paths start from.
-    pub fn first(self) -> Individual
-        ensures { result ≡ first_of self }
-    {
-        match self {
-            Ask::Pair(first, _) => first,
-        }
+// The ask of a kind.
+fn ask_by(kind: u16, first: u16, second: u16) -> Ask
+    ensures { result ≡ ask_by kind first second }
+{
+    if kind == 0 {
+        Ask::Pair(Individual(first), Individual(second))
+    } else {
+        Ask::From(Individual(first))
     }
 }
 
-// In a row of asks each is two numbers, the first individual and the second.
 impl Fields for Ask {
     ghost WIDTH = { ask_width };
 
@@ -38,20 +29,22 @@ impl Fields for Ask {
     const WIDTH: usize = Ask::WIDTH;
 
     fn read(numbers: &[u16], k: usize) -> Ask {
-        Ask::Pair(
-            Individual(numbers[Self::WIDTH * k]),
-            Individual(numbers[Self::WIDTH * k + 1]),
+        ask_by(
+            numbers[Self::WIDTH * k],
+            numbers[Self::WIDTH * k + 1],
+            numbers[Self::WIDTH * k + 2],
         )
     }
 }
 
 impl Record for Ask {
-    ghost Declared = { IsAskDeclared };
+    ghost Declared = { AskDeclared };
 
-    // Test 8: both asked individuals are declared.
+    // Test 8: each asked individual is declared.
     fn declared(self, counts: Counts) -> bool {
         match self {
             Ask::Pair(first, second) => first.declared(counts) && second.declared(counts),
+            Ask::From(first) => first.declared(counts),
         }
     }
 }

@@ -1,6 +1,8 @@
 pub mod SetLaws
 pub mod ImageLaws
 pub mod LoopLaws
+pub mod OnwardLaws
+pub mod ExitLaws
 pub mod GrowLaws
 pub mod SettleLaws
 pub mod VisitLaws
@@ -11,3 +13,4 @@ pub mod BackLaws
 pub mod TellLaws
 pub mod FinalLaws
 pub mod Mean
+pub mod ExitMean

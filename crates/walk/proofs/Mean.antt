@@ -16,22 +16,29 @@ use Rattle.hops.specs.Meant.{AreFew}
 use Rattle.meaning.specs.Collection.{Collection, NumbersDeclared, WellFormed, step, role}
 use Rattle.meaning.specs.Lent.{Tables, collection, records, role_fact_width, final_width, final_at}
 use Rattle.meaning.specs.Question as question
+use Rattle.meaning.specs.Leaving.{Leaves}
+use Rattle.meaning.specs.Asks.{IsYes}
 use Rattle.laws.specs.Member.{◌∈◌}
 use Rattle.laws.specs.Numbers.{numbered-in, numbered-out}
-use Rattle.tables.specs.declared.ask.Ask.TheVariants.{Pair}
+use Rattle.kinds.specs.declared.Ask.{Ask}
+use Rattle.kinds.specs.declared.Ask.TheVariants.{Pair, From}
+use Rattle.kinds.specs.Asks.{AskDeclared}
 use Rattle.meaning.specs.Model.{individuals, canonical}
 use Rattle.meaning.specs.Run.{Run, stop, go}
-use Rattle.meaning.specs.Lite.{lite}
+use Rattle.meaning.specs.Lite.{lite, declared_states}
 use Rattle.meaning.specs.Tree as tree
 use Rattle.meaning.specs.Tree.{root}
 use Rattle.meaning.proofs.Clash.{typed-valid}
-use Rattle.meaning.specs.Walk.{Near, IndividualsWalk}
-use Rattle.meaning.proofs.ModelWalk.{path↔individuals-walk}
-use Rattle.meaning.proofs.Declared.{state-in, state-out, concept-in, concept-out, concept-declared, lite-sane}
+use Rattle.meaning.specs.Walk.{Near, IndividualsWalk, IndividualsWalkOut}
+use Rattle.meaning.proofs.ModelWalk.{edge-declared, path↔individuals-walk}
+use Rattle.meaning.proofs.LeavingLaws.{leaves↔walk}
+use Rattle.meaning.proofs.ReplyLaws.{loop-state}
+use Rattle.meaning.proofs.Declared.{state-in, state-out, concept-in, concept-out, concept-declared, role-step-to, lite-sane}
 use Rattle.meaning.specs.Sheet.{Needed}
 use Rattle.meaning.proofs.SheetLaws.{mark-markable, mark→loop, loop→mark}
 use Rattle.walk.specs.declared.question.Question.{Question}
-use Rattle.walk.specs.Asks.{PairAsked}
+use Rattle.walk.specs.Asks.{PairAsked, FromAsked, Asked}
+use Rattle.walk.specs.Finals.{AreFinals}
 use Rattle.walk.specs.Sets.{concepts_at, row_at}
 use Rattle.walk.specs.Loops.{LoopTo, AreLoops}
 use Rattle.walk.specs.Strides.{TableStride, along, loop, Reaches}
@@ -44,7 +51,7 @@ module _ (c : Counts) (t : Tables) (fit : CountsFit c) (ok : NumbersDeclared (co
   𝓒 = collection c t
 
   -- a declared concept has a number below the width of a set
-  number_low : (B : Concept) → ConceptDeclared c B → number_of B < concept_width
+  pub number_low : (B : Concept) → ConceptDeclared c B → number_of B < concept_width
   unfolding number_of
   number_low (Name A) h = let f = fit.names in omega arith
   number_low (Exists R) h = let f = fit.roles in omega arith
@@ -166,32 +173,75 @@ module _ (c : Counts) (t : Tables) (fit : CountsFit c) (ok : NumbersDeclared (co
           let y = path↔individuals-walk 𝓒 wf a b c.start u ha in
           (λ p. y.1 (x.0 (rw e at p)), λ p. rw e (x.1 (y.0 p)))
 
-      pub pair-mean : (a b : Individual) → IndividualDeclared c a → PairAsked loops ways rf q a.0 b.0 ↔ question.Yes 𝓒 a b
+      pair-mean : (a b : Individual) → IndividualDeclared c a → PairAsked loops ways rf q a.0 b.0 ↔ question.Yes 𝓒 a b
       pair-mean a b ha = (
         λ p. let u = state p.state in (u, (of.final u).0 p.final, (path-mean a b u ha).0 p.reaches),
         λ y. record { state = y.0.0; final = (of.final y.0).1 y.1; reaches = (path-mean a b y.0 ha).1 y.2 },
       )
 
-  -- the set of the states of its table, with its start state, is the question of a collection
-  pub question-mean : QuestionMeans c t
+      -- the walk stays where all is declared
+      walk-declared : {a b : Individual} {s u : State} → IndividualsWalk 𝓒 a s b u → IndividualDeclared c a → s ∈ declared_states c → IndividualDeclared c b × (u ∈ declared_states c)
+      walk-declared stop ha hs = (ha, hs)
+      walk-declared (go (tree.along {s = s} {t = u} m) w) ha hs = walk-declared w (edge-declared 𝓒 wf m.2).1 (role-step-to 𝓒 ok s m.0 u m.1)
+      walk-declared (go (tree.by B h l) w) ha hs = walk-declared w ha (loop-state 𝓒 wf l hs)
+
+      -- THEOREM: strides lead from an individual to an exit exactly where a path leaves it
+      pub from-mean : (a : Individual) → IndividualDeclared c a → FromAsked loops ways rf q a.0 ↔ Leaves 𝓒 a
+      from-mean a ha = (λ p. (leaves↔walk 𝓒 wf a ha).1 (out p), λ l. back ((leaves↔walk 𝓒 wf a ha).0 l))
+        where
+          out : FromAsked loops ways rf q a.0 → IndividualsWalkOut 𝓒 a c.start
+          out p =
+              let e = of.start in
+              let r = p.reaches in
+              record {
+                to = individual p.to;
+                last = state p.state;
+                walk = (walk-mean wf a (individual p.to) c.start (state p.state) ha fit.start).0 (rw e at r);
+                out = of.exits.to p.to p.state p.low p.exit;
+              }
+
+          back : IndividualsWalkOut 𝓒 a c.start → FromAsked loops ways rf q a.0
+          back w =
+              let e = of.start in
+              let d = walk-declared w.walk ha (state-in c c.start fit.start) in
+              let f = fit.individuals in
+              let low : w.to.0 < most_individuals = omega (arith, d.0) in
+              record {
+                to = w.to.0;
+                state = w.last.0;
+                low = low;
+                exit = of.exits.from w.to.0 w.last.0 low (state-out c w.last d.1) w.out;
+                reaches = rw e ((walk-mean wf a w.to c.start w.last ha fit.start).1 w.walk);
+              }
+
+      pub asked-mean : (ask : Ask) → AskDeclared c ask → Asked loops ways rf q ask ↔ IsYes 𝓒 ask
+      asked-mean (Pair a b) d = pair-mean a b d.0
+      asked-mean (From a) d = from-mean a d
+
+  -- the set of the states of its table has the final states of a collection
+  pub finals-mean : (set : ℕ) → AreFinals t.finals set → (u : State) → Has set u.0 ↔ (u ∈ 𝓒.finals)
   unfolding records
-  question-mean q e f = record { start = e; final = λ u. (to u, from u) }
+  finals-mean set f u = (to, from)
     where
-      to : (u : State) → Has q.finals.0 u.0 → u ∈ 𝓒.finals
-      to u p =
+      to : Has set u.0 → u ∈ 𝓒.finals
+      to p =
           let x = (f.at u.0).0 p in
           let i : final_at t.finals x.place ≡ u = ap state x.is in
           let m = numbered-in (final_at t.finals) (length t.finals / final_width) x.place x.below in
           rw i at m
 
-      from : (u : State) → u ∈ 𝓒.finals → Has q.finals.0 u.0
-      from u m =
+      from : u ∈ 𝓒.finals → Has set u.0
+      from m =
           let w = numbered-out (final_at t.finals) (length t.finals / final_width) m in
           let d = ok.finals u m in
           let g = fit.states in
           (f.at u.0).1 (record { place = w.0; below = w.1; is = ap (λ (s : State). s.0) (sym w.2); low = omega arith })
 
-  -- THEOREM: by the tables of a collection, with its closed sheet and its question, the answer to a declared ask is yes exactly where the pair is
+  -- with its start state and its exits it is the question of the collection
+  pub question-mean : QuestionMeans c t
+  question-mean q e f x = record { start = e; final = finals-mean q.finals.0 f; exits = x }
+
+  -- THEOREM: by the tables of a collection, with its closed sheet and its question, the answer to a declared ask is yes exactly where it is in the canonical model
   pub yes-mean : AreFew t.role-facts → YesMeans c t
-  yes-mean few n needed s e r q of (Pair a b) d =
-      rw e (pair-mean few n needed s.loops.now.rows s.ways.now r q of (record { counts = fit; numbers = ok }) a b d.0)
+  yes-mean few n needed s e r q of ask d =
+      rw e (asked-mean few n needed s.loops.now.rows s.ways.now r q of (record { counts = fit; numbers = ok }) ask d)

@@ -5,17 +5,21 @@ use Rattle.std.proofs.Math.Decide.{ℕ_discrete, dec_lt}
 use Rattle.std.proofs.Math.ListN.{get_or-eq_default}
 use Rattle.std.proofs.lemmas.List.{length-replicate, get_or-replicate}
 use Rattle.kinds.specs.declared.Individual.{Individual}
+use Rattle.std.proofs.lemmas.Bool.{false≢true}
+use Rattle.kinds.specs.Kinds.{most_individuals}
+use Rattle.sets.specs.Bits.{Meets}
 use Rattle.sets.specs.declared.states.StateSet.{StateSet}
-use Rattle.tables.specs.declared.ask.Ask.{Ask}
-use Rattle.tables.specs.declared.ask.Ask.TheVariants.{Pair}
-use Rattle.tables.specs.Asks.{first_of}
+use Rattle.walk.specs.Sets.{set_at}
+use Rattle.kinds.specs.declared.Ask.{Ask}
+use Rattle.kinds.specs.declared.Ask.TheVariants.{Pair, From}
+use Rattle.kinds.specs.Asks.{first_of}
 use Rattle.walk.specs.declared.asks.Told.{Told}
 use Rattle.walk.specs.declared.part.Part.{Part}
 use Rattle.walk.specs.declared.question.Question.{Question}
 use Rattle.walk.specs.declared.strides.Strides.{Strides}
 use Rattle.walk.specs.Strides.{Walked}
 use Rattle.walk.specs.Parts.{most_part, size_of, ask_in}
-use Rattle.walk.specs.Asks.{Hit, PairHit, PairAsked, Asked, YesBy, IsAnswer}
+use Rattle.walk.specs.Asks.{Hit, PairHit, FromHit, PairAsked, FromAsked, Asked, YesBy, IsAnswer}
 use Rattle.walk.specs.Telling.{IsTold, Tells, TellsOf, Answering}
 use Rattle.walk.specs.Meant.{AreAnswers}
 
@@ -50,7 +54,7 @@ module _ (part : Part) (told : Told) where
 
 -- the answer to ask k is put in
 pub told_one : (part : Part) (told : Told) (k : ℕ) (old : List (Option Bool)) (b : Bool) → length old ≡ most_part → k < size_of part
-    → (first_of (ask_in part k)).0 ≡ told.reach.now.first.0 → IsTrue b ↔ Hit told.reach.now.sets told.question.finals.0 (ask_in part k) → TellsOf part told k old (set old k (Some b))
+    → (first_of (ask_in part k)).0 ≡ told.reach.now.first.0 → IsTrue b ↔ Hit told.reach.now.sets told.question (ask_in part k) → TellsOf part told k old (set old k (Some b))
 told_one part told k old b long h e right =
     record { tells = record { long = length-set old k (Some b); each = λ j. side j (ℕ_discrete j k) }; own = λ l f. rw own is }
   where
@@ -77,7 +81,17 @@ same_test P false false s t = refl
 module _ (loops ways : List (List StateSet)) (facts : List ℕ) (question : Question) where
   -- THEOREM: what a walk from x reached tells of an ask of x
   pub told-right : (x : Individual) (reached : List StateSet) → Walked loops ways facts x question.start reached
-      → (ask : Ask) (b : Bool) → (first_of ask).0 ≡ x.0 → IsTrue b ↔ Hit reached question.finals.0 ask → IsTrue b ↔ Asked loops ways facts question ask
+      → (ask : Ask) (b : Bool) → (first_of ask).0 ≡ x.0 → IsTrue b ↔ Hit reached question ask → IsTrue b ↔ Asked loops ways facts question ask
+  told-right x reached w (From first) b e s = (λ p. met (s.0 p), λ a. s.1 (hit a))
+    where
+      met : FromHit reached question.exits.now.rows → FromAsked loops ways facts question first.0
+      met h =
+          let m = h.meets in
+          let r = (w.at h.to m.0).0 m.1 in
+          record { to = h.to; state = m.0; low = h.low; exit = m.2; reaches = rw e r }
+
+      hit : FromAsked loops ways facts question first.0 → FromHit reached question.exits.now.rows
+      hit a = let r = a.reaches in record { to = a.to; low = a.low; meets = (a.state, (w.at a.to a.state).1 (rw e at r), a.exit) }
   told-right x reached w (Pair first second) b e s = (λ p. met (s.0 p), λ a. s.1 (hit a))
     where
       met : PairHit reached question.finals.0 second.0 → PairAsked loops ways facts question first.0 second.0
@@ -85,6 +99,11 @@ module _ (loops ways : List (List StateSet)) (facts : List ℕ) (question : Ques
 
       hit : PairAsked loops ways facts question first.0 second.0 → PairHit reached question.finals.0 second.0
       hit a = let r = a.reaches in (a.state, (w.at second.0 a.state).1 (rw e at r), a.final)
+
+-- no individual was reached in an exit of it
+pub not_out : (reached exits : List StateSet) (i : ℕ) → ((k : ℕ) → k < i → Meets (set_at reached k) (set_at exits k) → ⊥) → most_individuals ≤ i
+    → IsTrue false ↔ FromHit reached exits
+not_out reached exits i none h = (λ e. absurd (false≢true e), λ w. absurd (let l = w.low in none w.to (omega arith) w.meets))
 
 -- no ask has its answer
 abbrev pub no_answers : List (Option Bool)
@@ -125,7 +144,7 @@ module _ (YesTo : Ask → Type 0) (part : Part) where
 
     -- or a walk from its first individual gives it
     pub answering_more : (told : Told) (now new : List (Option Bool)) → TellsOf part told k answers now → Tells part told now new
-        → ((ask : Ask) (b : Bool) → (first_of ask).0 ≡ told.reach.now.first.0 → IsTrue b ↔ Hit told.reach.now.sets told.question.finals.0 ask → IsTrue b ↔ YesTo ask)
+        → ((ask : Ask) (b : Bool) → (first_of ask).0 ≡ told.reach.now.first.0 → IsTrue b ↔ Hit told.reach.now.sets told.question ask → IsTrue b ↔ YesTo ask)
         → (first_of (ask_in part k)).0 ≡ told.reach.now.first.0 → Answering YesTo part (k + 1) new
     answering_more told now new v w honest e =
         record {

@@ -1,9 +1,10 @@
 -- When the answer to an ask is yes, by the tables that a walk is lent.
-use Rattle.std.specs.Prelude.{◌≡◌, ◌↔◌, Bool, IsTrue, Option, Some, List, ℕ}
+use Rattle.std.specs.Prelude.{◌≡◌, ◌↔◌, Bool, IsTrue, Option, Some, List, ℕ, ◌<◌}
+use Rattle.kinds.specs.Kinds.{most_individuals}
 use Rattle.sets.specs.Bits.{Has, Meets}
 use Rattle.sets.specs.declared.states.StateSet.{StateSet}
-use Rattle.tables.specs.declared.ask.Ask.{Ask}
-use Rattle.tables.specs.declared.ask.Ask.TheVariants.{Pair}
+use Rattle.kinds.specs.declared.Ask.{Ask}
+use Rattle.kinds.specs.declared.Ask.TheVariants.{Pair, From}
 use Rattle.walk.specs.declared.question.Question.{Question}
 use Rattle.walk.specs.declared.strides.Strides.{Strides}
 use Rattle.walk.specs.Sets.{set_at}
@@ -13,9 +14,16 @@ use Rattle.walk.specs.Strides.{Reaches}
 abbrev pub PairHit : List StateSet → ℕ → ℕ → Type 0
 PairHit reached finals second = Meets (set_at reached second) finals
 
+-- some individual's set has an exit of it
+pub record FromHit (reached exits : List StateSet) : Type 0 where
+  pub to : ℕ
+  pub low : to < most_individuals
+  pub meets : Meets (set_at reached to) (set_at exits to)
+
 -- what the walk from the first individual reached makes the answer yes
-abbrev pub Hit : List StateSet → ℕ → Ask → Type 0
-Hit reached finals (Pair first second) = PairHit reached finals second.0
+abbrev pub Hit : List StateSet → Question → Ask → Type 0
+Hit reached q (Pair first second) = PairHit reached q.finals.0 second.0
+Hit reached q (From first) = FromHit reached q.exits.now.rows
 
 module _ (loops ways : List (List StateSet)) (facts : List ℕ) (question : Question) where
   -- strides lead from the first individual in the start state to the second in a final one
@@ -24,9 +32,18 @@ module _ (loops ways : List (List StateSet)) (facts : List ℕ) (question : Ques
     pub final : Has question.finals.0 state
     pub reaches : Reaches loops ways facts first question.start.0 second state
 
+  -- or to any individual in an exit of it
+  pub record FromAsked (first : ℕ) : Type 0 where
+    pub to : ℕ
+    pub state : ℕ
+    pub low : to < most_individuals
+    pub exit : Has (set_at question.exits.now.rows to) state
+    pub reaches : Reaches loops ways facts first question.start.0 to state
+
   -- the answer to an ask is yes
   abbrev pub Asked : Ask → Type 0
   Asked (Pair first second) = PairAsked first.0 second.0
+  Asked (From first) = FromAsked first.0
 
 abbrev pub YesBy : Strides → Question → Ask → Type 0
 YesBy s = Asked s.loops.now.rows s.ways.now s.hops.now.facts.numbers.now

@@ -6,6 +6,8 @@ pub mod Parts
 pub mod Asks
 pub mod Finals
 pub mod Known
+pub mod Onward
+pub mod Exits
 pub mod Meant
 -- What the functions keep.
 pub mod Courses

@@ -1,24 +1,29 @@
 -- What the tables of a walk, and the answers to asks, say of a collection (docs/RULES.md,
 -- section 6).
-use Rattle.std.specs.Prelude.{◌≡◌, ◌↔◌, Bool, Option, None, List, ℕ, ◌*◌, ◌<◌, ◌≤◌, length, slice_index_or}
+use Rattle.std.specs.Prelude.{◌≡◌, ◌↔◌, ◌⊎◌, Bool, Option, None, List, ℕ, ◌+◌, ◌*◌, ◌<◌, ◌≤◌, length, slice_index_or}
 use Rattle.kinds.specs.declared.Individual.{Individual}
 use Rattle.kinds.specs.declared.State.{State}
 use Rattle.kinds.specs.declared.Concept.{Concept}
+use Rattle.kinds.specs.declared.Concept.TheVariants.{Exists}
 use Rattle.kinds.specs.declared.Counts.{Counts}
-use Rattle.kinds.specs.Kinds.{most_individuals, most_states, most_roles, individual, signed, state, number_of, concept_of, IndividualDeclared, StateDeclared, ConceptDeclared}
+use Rattle.kinds.specs.Kinds.{most_individuals, most_states, most_roles, base, individual, signed, state, number_of, concept_of, IndividualDeclared, StateDeclared, ConceptDeclared}
 use Rattle.laws.specs.Member.{◌∈◌}
 use Rattle.meaning.specs.Collection.{Collection}
 use Rattle.meaning.specs.Lent.{Tables, collection}
 use Rattle.meaning.specs.Lite.{lite, StepDown}
+use Rattle.meaning.specs.Onward.{LeadsOn}
+use Rattle.meaning.specs.Orders.{ConceptLe}
 use Rattle.meaning.specs.Model.{IndividualHas}
-use Rattle.meaning.specs.Question.{Yes}
+use Rattle.meaning.specs.Asks.{IsYes}
 use Rattle.meaning.specs.Sheet.{Mark, Needed}
 use Rattle.meaning.specs.Walk.{IndividualsWalk}
-use Rattle.sets.specs.Bits.{Has, concept_width}
+use Rattle.sets.specs.Bits.{Has, concept_width, role_width}
 use Rattle.sets.specs.declared.states.StateSet.{StateSet}
 use Rattle.sets.specs.declared.concepts.ConceptSet.{ConceptSet}
-use Rattle.tables.specs.declared.ask.Ask.{Ask}
-use Rattle.tables.specs.Asks.{first_of, second_of, IsAskDeclared}
+use Rattle.kinds.specs.declared.Ask.{Ask}
+use Rattle.kinds.specs.Asks.{AskDeclared}
+use Rattle.walk.specs.declared.onward.Tree.{Tree}
+use Rattle.walk.specs.Exits.{AreExits}
 use Rattle.walk.specs.declared.part.Part.{Part}
 use Rattle.walk.specs.declared.question.Question.{Question}
 use Rattle.walk.specs.declared.strides.Strides.{Strides}
@@ -61,10 +66,30 @@ pub record TablesOf (𝓒 : Collection) (n : ℕ) (loops ways : List (List State
       → s < most_states
   pub way_at : WaysOf 𝓒 ways
 
+-- s is an exit of a: it is final, or for some B that a has the way leads on from it below a
+abbrev pub ExitOf : Collection → Individual → State → Type 0
+ExitOf 𝓒 a s =
+    (s ∈ 𝓒.finals)
+    ⊎ ((B : Concept) × IndividualHas 𝓒 a B × LeadsOn (lite 𝓒) (λ t. t ∈ 𝓒.finals) s B)
+
+-- exits as tables hold them; a state that is not declared is none
+pub record ExitsOf (𝓒 : Collection) (exits : List StateSet) : Type 0 where
+  pub to : (a s : ℕ) → a < most_individuals → Has (set_at exits a) s
+      → ExitOf 𝓒 (individual a) (state s)
+  pub from : (a s : ℕ) → a < most_individuals → StateDeclared 𝓒.counts (state s)
+      → ExitOf 𝓒 (individual a) (state s) → Has (set_at exits a) s
+
+-- the concepts below "has a neighbour" by each signed role, as rows hold them
+abbrev pub BelowOf : Collection → List ConceptSet → Type 0
+BelowOf 𝓒 below =
+    (R B : ℕ) → R < role_width → B < concept_width
+    → Has (concepts_at below (base + R)) B ↔ ConceptLe 𝓒 (concept_of B) (Exists (signed R))
+
 -- the question of a collection
 pub record QuestionOf (𝓒 : Collection) (q : Question) : Type 0 where
   pub start : q.start ≡ 𝓒.counts.start
   pub final : (u : State) → Has q.finals.0 u.0 ↔ (u ∈ 𝓒.finals)
+  pub exits : ExitsOf 𝓒 q.exits.now.rows
 
 -- the concepts of the individuals of a collection, and its sheet after n rounds, as rows hold them
 pub record ConceptsOf (𝓒 : Collection) (individuals : List ConceptSet) : Type 0 where
@@ -94,11 +119,21 @@ module _ (c : Counts) (t : Tables) where
       → (loops ways : List (List StateSet)) → AreLoops individuals sheet loops
       → WaysOf (collection c t) ways → TablesOf (collection c t) n loops ways
 
-  -- a question made from the table of finals is the collection's
+  -- exits made from its rows, with its closed sheet, are the collection's
+  abbrev pub ExitsMean : Type 0
+  ExitsMean =
+      (n : ℕ) → Needed (lite (collection c t)) n
+      → (individuals : List ConceptSet) → ConceptsOf (collection c t) individuals
+      → (tree : Tree) → BelowOf (collection c t) tree.below.now
+      → WaysOf (collection c t) tree.ways.now → SheetOf (collection c t) n tree.sheet.now
+      → AreFinals t.finals tree.finals.0
+      → (exits : List StateSet) → AreExits individuals tree exits → ExitsOf (collection c t) exits
+
+  -- a question made from the table of finals and such exits is the collection's
   abbrev pub QuestionMeans : Type 0
   QuestionMeans =
       (q : Question) → q.start ≡ c.start → AreFinals t.finals q.finals.0
-      → QuestionOf (collection c t) q
+      → ExitsOf (collection c t) q.exits.now.rows → QuestionOf (collection c t) q
 
   -- by such tables, with the closed sheet, strides lead exactly where the individuals' walk does
   abbrev pub WalkMeans : Type 0
@@ -109,12 +144,12 @@ module _ (c : Counts) (t : Tables) where
       → Reaches loops ways t.role-facts a.0 s.0 b.0 u.0
       ↔ IndividualsWalk (collection c t) a s b u
 
-  -- and the answer to a declared ask is yes exactly where the pair is
+  -- and the answer to a declared ask is yes exactly where it is yes in the canonical model
   abbrev pub YesMeans : Type 0
   YesMeans =
       (n : ℕ) → Needed (lite (collection c t)) n
       → (s : Strides) → s.hops.now.facts.numbers.now ≡ t.role-facts
       → TablesOf (collection c t) n s.loops.now.rows s.ways.now
       → (q : Question) → QuestionOf (collection c t) q
-      → (ask : Ask) → IsAskDeclared c ask
-      → YesBy s q ask ↔ Yes (collection c t) (first_of ask) (second_of ask)
+      → (ask : Ask) → AskDeclared c ask
+      → YesBy s q ask ↔ IsYes (collection c t) ask

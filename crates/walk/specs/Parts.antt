@@ -1,6 +1,6 @@
 -- A part of a row of asks: those from one on, as far as one call answers them.
 use Rattle.std.specs.Prelude.{List, ℕ, ◌+◌, ◌-◌, ◌/◌, min, length}
-use Rattle.tables.specs.declared.ask.Ask.{Ask}
+use Rattle.kinds.specs.declared.Ask.{Ask}
 use Rattle.tables.specs.Asks.{ask_width, read_ask}
 use Rattle.walk.specs.declared.part.Part.{Part}
 

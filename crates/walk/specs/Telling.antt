@@ -1,8 +1,8 @@
 -- The answers as they are made, none while an ask is open. A walk answers all open asks of its first
 -- individual.
 use Rattle.std.specs.Prelude.{◌≡◌, ◌⊎◌, ◌↔◌, Bool, IsTrue, Option, Some, None, List, ℕ, ◌<◌, ◌≤◌, length, slice_index_or}
-use Rattle.tables.specs.declared.ask.Ask.{Ask}
-use Rattle.tables.specs.Asks.{first_of}
+use Rattle.kinds.specs.declared.Ask.{Ask}
+use Rattle.kinds.specs.Asks.{first_of}
 use Rattle.walk.specs.declared.asks.Asking.{Asking}
 use Rattle.walk.specs.declared.asks.Told.{Told}
 use Rattle.walk.specs.declared.part.Part.{Part}
@@ -15,7 +15,7 @@ pub record IsTold (told : Told) (ask : Ask) (v : Option Bool) : Type 0 where
   pub first : (first_of ask).0 ≡ told.reach.now.first.0
   pub answer : Bool
   pub is : v ≡ Some answer
-  pub right : IsTrue answer ↔ Hit told.reach.now.sets told.question.finals.0 ask
+  pub right : IsTrue answer ↔ Hit told.reach.now.sets told.question ask
 
 -- some asks of the walk's first individual are answered
 pub record Tells (part : Part) (told : Told) (old new : List (Option Bool)) : Type 0 where

@@ -15,7 +15,7 @@ use kinds::State;
 /// What is asked, and for each ask the next one with the same first individual, which is a hint.
 #[derive(Clone, Copy)]
 pub struct Asking<'q> {
-    pub question: Question,
+    pub question: Question<'q>,
     pub part: Part<'q>,
     pub after: &'q After,
 }
@@ -23,7 +23,7 @@ pub struct Asking<'q> {
 // What one walk tells of a question.
 #[derive(Clone, Copy)]
 struct Told<'r> {
-    question: Question,
+    question: Question<'r>,
     reach: &'r Reach,
 }
 

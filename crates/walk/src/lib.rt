@@ -3,9 +3,11 @@
 
 mod asks;
 mod course;
+mod exits;
 mod hints;
 mod known;
 mod loops;
+mod onward;
 mod part;
 mod pivot;
 mod question;
@@ -14,8 +16,10 @@ pub mod theorems;
 mod walk;
 
 pub use course::Row;
+pub use exits::Exits;
 use kinds::Individual;
 pub use loops::{Loops, Sheet};
+pub use onward::Tree;
 pub use part::{Answers, PART};
 pub use question::Question;
 use sets::StateSet;

@@ -3,7 +3,8 @@
 ghost use Rattle.std.specs.Prelude.{◌≡◌, ◌+◌, ◌<◌, ◌≤◌, SomeIff};
 ghost use Rattle.walk.specs.Parts.{size_of, ask_in};
 
-use tables::{Ask, Table};
+use kinds::Ask;
+use tables::Table;
 
 /// The most asks that one call answers.
 pub const PART: usize = 256;

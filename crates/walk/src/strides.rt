@@ -15,8 +15,8 @@ use crate::part::{Answers, PART, Part};
 use crate::question::Question;
 use crate::walk::Guide;
 use hops::Hops;
-use kinds::{Individual, SignedRole, State};
-use tables::{Ask, Table};
+use kinds::{Ask, Individual, SignedRole, State};
+use tables::Table;
 
 /// For each signed role and each state, the states to which the role's ways lead.
 pub type Ways = [Row; SignedRole::NUMBERS];
@@ -48,7 +48,7 @@ impl<'s, 'a> Strides<'s, 'a> {
 
     /// The answer to one ask, by a walk of its own.
     pub fn answer(&self, question: Question, ask: Ask) -> bool
-        ensures { IsTrue result ↔ YesBy self.now question ask }
+        ensures { IsTrue result ↔ YesBy self.now question.entry ask }
     {
         let reached = self.walk(ask.first(), question.start);
         question.is_hit(&reached, ask)
@@ -58,7 +58,7 @@ impl<'s, 'a> Strides<'s, 'a> {
     pub fn answers(&self, question: Question, asks: Table<Ask>, from: usize) -> Answers
         ensures each { let t = asks.entry.numbers.now in
             (k : ℕ) → k < part_size t from
-            → IsAnswer self.now question (ask_of t from k) (slice_index_or result k None) }
+            → IsAnswer self.now question.entry (ask_of t from k) (slice_index_or result k None) }
         ensures rest { let t = asks.entry.numbers.now in
             (k : ℕ) → part_size t from ≤ k → slice_index_or result k None ≡ None }
     {

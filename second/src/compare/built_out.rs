@@ -2,16 +2,23 @@
 
 use super::dice::Dice;
 use super::expressions::{self, expressed};
-use super::generate::{small, Asked};
+use super::generate::{deep_end, small, Asked};
+use super::outputs::FROM;
 use super::parts::{Difference, Outcome};
 use super::tally::Tally;
 use super::{shown, text};
+use crate::ask::Ask;
 use crate::collection::Collection;
 use crate::desk::desk;
-use crate::library::{self, ask, Call};
+use crate::library::{self, ask, ask_from, Call};
 use crate::model::{known::Known, letter, Answer, Model, TooLarge};
-use crate::numbers::Individual;
 use std::collections::BTreeSet;
+
+/// What an ask of one individual can be: each number, and a yes where every pair from it is no.
+pub const MET: [&str; 5] = {
+    let [no, yes, contradiction, spent] = FROM;
+    [no, yes, contradiction, spent, "yes of one individual, to unnamed elements only"]
+};
 
 /// What the model and the sheet to the letter say of a whole case.
 struct Said {
@@ -29,15 +36,21 @@ struct Said {
 }
 
 pub fn model_part(mut dice: Dice, tally: &mut Tally) -> Outcome {
-    let asked = small(&mut dice);
-    let asked = expressed(&mut dice, asked, 5);
+    // Some more paths that end deep, and no expression in place of their questions.
+    let asked = match dice.percent(10) {
+        true => deep_end(&mut dice),
+        false => {
+            let asked = small(&mut dice);
+            expressed(&mut dice, asked, 5)
+        }
+    };
     let allowance = asked.allowance.unwrap_or(64);
     let known = Known::of(&asked.collection);
     let Ok(said) = say(&asked, &known, allowance) else {
         tally.skipped += 1;
         return Ok(());
     };
-    count(&said, tally);
+    count(&said, &asked.asks, tally);
     if asked.expression.is_some() {
         tally.kind("with an expression");
         if said.answers.iter().any(|answer| answer.0 == 1) {
@@ -49,7 +62,7 @@ pub fn model_part(mut dice: Dice, tally: &mut Tally) -> Outcome {
     let differs = |(expected, found): (String, String)| Difference { input: input.clone(), expected, found };
     library_agrees(&asked, allowance, &said).map_err(differs)?;
     if let Some(marks) = &asked.expression {
-        expressions::agrees(marks, &asked.collection, &said.answers).map_err(differs)?;
+        expressions::agrees(marks, &asked, &said.answers).map_err(differs)?;
     }
     let expected = desk_lines(&asked, &input, &said);
     let found = String::from_utf8_lossy(&desk(&input)).into_owned();
@@ -61,12 +74,29 @@ pub fn model_part(mut dice: Dice, tally: &mut Tally) -> Outcome {
     Ok(())
 }
 
-fn count(said: &Said, tally: &mut Tally) {
+fn count(said: &Said, asks: &[Ask], tally: &mut Tally) {
     tally.kind("small");
     tally.depth(said.depth);
     let numbers: BTreeSet<u8> = said.answers.iter().map(|answer| answer.0).collect();
     numbers.iter().for_each(|number| tally.number(*number));
+    met(said, asks).into_iter().for_each(|met| tally.met(met));
     said.answers.iter().take(1).filter(|answer| answer.0 < 2).for_each(|answer| tally.rounds(answer.1));
+}
+
+/// What the asks of one individual were, of those of `MET`.
+fn met(said: &Said, asks: &[Ask]) -> BTreeSet<&'static str> {
+    let answered = || asks.iter().zip(&said.answers).map(|(ask, answer)| (*ask, answer.0));
+    let by_pair = |first| {
+        answered().any(|(ask, number)| matches!(ask, Ask::Pair(..)) && ask.first() == first && number == 1)
+    };
+    let mut met = BTreeSet::new();
+    for (ask, number) in answered() {
+        if let Ask::From(first) = ask {
+            met.insert(MET[usize::from(number)]);
+            met.extend((number == 1 && !by_pair(first)).then_some(MET[4]));
+        }
+    }
+    met
 }
 
 fn say(asked: &Asked, known: &Known, allowance: u16) -> Result<Said, TooLarge> {
@@ -74,17 +104,13 @@ fn say(asked: &Asked, known: &Known, allowance: u16) -> Result<Said, TooLarge> {
     let sheets = letter::all_rounds(known);
     let needed = sheets.len() - 1;
     let worked = needed.min(allowance.into());
-    let mut answers = Vec::new();
-    for first in asked.collection.counts.all_individuals() {
-        for answer in model.answers(first)? {
-            answers.push(match answer {
-                Answer::Contradiction => (2, 0),
-                _ if needed > worked => (3, allowance),
-                Answer::Yes => (1, needed as u16),
-                Answer::No => (0, needed as u16),
-            });
-        }
-    }
+    let answered = |answer: Answer| match answer {
+        Answer::Contradiction => (2, 0),
+        _ if needed > worked => (3, allowance),
+        Answer::Yes => (1, needed as u16),
+        Answer::No => (0, needed as u16),
+    };
+    let answers = model.asked(&asked.asks)?.into_iter().map(answered).collect();
     let area = (!model.is_contradiction()).then(|| sheets[worked].clone());
     let added = if area.is_some() { letter::added(&sheets[..=worked]) } else { Vec::new() };
     let closed = match &area {
@@ -96,12 +122,10 @@ fn say(asked: &Asked, known: &Known, allowance: u16) -> Result<Said, TooLarge> {
     Ok(Said { answers, area, closed, added, depth: model.depth, marks_agree })
 }
 
-/// What the model answers to every pair of a collection.
-pub fn questioned(collection: &Collection) -> Result<Vec<Answer>, TooLarge> {
+/// What the model answers to these asks of a collection.
+pub fn questioned(collection: &Collection, asks: &[Ask]) -> Result<Vec<Answer>, TooLarge> {
     let known = Known::of(collection);
-    let model = Model::of(&known)?;
-    let answers = collection.counts.all_individuals().map(|first| model.answers(first));
-    Ok(answers.collect::<Result<Vec<_>, TooLarge>>()?.concat())
+    Model::of(&known)?.asked(asks)
 }
 
 fn marks(model: &Model) -> Vec<u8> {
@@ -114,7 +138,7 @@ fn marks(model: &Model) -> Vec<u8> {
     bytes
 }
 
-/// Every pair is asked of module `library`, with both areas.
+/// Each ask is put to module `library`, with both areas.
 fn library_agrees(asked: &Asked, allowance: u16, said: &Said) -> Result<(), (String, String)> {
     if !said.marks_agree {
         return Err(("the closed sheet to the letter".into(), "other loops by search".into()));
@@ -131,11 +155,14 @@ fn library_agrees(asked: &Asked, allowance: u16, said: &Said) -> Result<(), (Str
             format!("to the letter {expected:?}"),
         ));
     }
-    for (pair, answer) in asked.asks.iter().zip(&said.answers) {
+    for (one, answer) in asked.asks.iter().zip(&said.answers) {
         let (mut area, mut spare) = before.clone();
-        let found = ask(&call, [pair.0 .0.into(), pair.1 .0.into()], &mut area, &mut spare);
+        let found = match one {
+            Ask::Pair(first, second) => ask(&call, [first.0.into(), second.0.into()], &mut area, &mut spare),
+            Ask::From(first) => ask_from(&call, first.0.into(), &mut area, &mut spare),
+        };
         if found != *answer || (area, spare) != after {
-            return Err((format!("library {found:?} on {pair:?}, or an area"), format!("model {answer:?}")));
+            return Err((format!("library {found:?} on {one:?}, or an area"), format!("model {answer:?}")));
         }
     }
     Ok(())
@@ -143,15 +170,16 @@ fn library_agrees(asked: &Asked, allowance: u16, said: &Said) -> Result<(), (Str
 
 /// The output lines that the model makes, in the order in which the asks stand in the input.
 fn desk_lines(asked: &Asked, input: &[u8], said: &Said) -> String {
-    let written = |pair: &(Individual, Individual)| format!("0B{:02X}{:02X}", pair.0 .0, pair.1 .0);
+    let written = |ask: &Ask| String::from_utf8(text::line(&ask.frame())).expect("digits");
     let mut output = String::new();
     if !asked.asks.is_empty() {
         let rounds = said.added.iter().enumerate();
         output.extend(rounds.map(|(before, added)| format!("8A{:04X}{added:04X}\n", before + 1)));
     }
-    for line in String::from_utf8_lossy(input).lines().filter(|line| line.starts_with("0B")) {
+    let is_ask = |line: &&str| line.starts_with("0B") || line.starts_with("0E");
+    for line in String::from_utf8_lossy(input).lines().filter(is_ask) {
         let mut answers = asked.asks.iter().zip(&said.answers);
-        let (_, (number, count)) = answers.find(|(pair, _)| written(pair) == line).expect("it is asked");
+        let (_, (number, count)) = answers.find(|(ask, _)| written(ask) == line).expect("it is asked");
         output += &format!("8{}{number:02X}{count:04X}\n", &line[1..]);
     }
     output

@@ -1,14 +1,16 @@
-//! Library calls for the comparison, for a pair: sound ones, ones with several faults at once, and wild ones.
+//! Library calls for the comparison, for a pair and for one individual: sound ones, ones with several faults at once, and wild ones.
 
 use super::dice::Dice;
 use super::generate::{full, many_rounds, medium, small, Asked};
+use crate::ask::Ask;
 use crate::library::{Call, SHAPES};
 use crate::numbers::Individual;
 use crate::sheet::AREA;
 
-/// What is asked of a collection: a pair, or a row of pairs.
+/// What is asked of a collection: a pair, one individual, or a row of pairs.
 pub enum Asks {
     Pair([u16; 2]),
+    From(u16),
     Row(Row),
 }
 
@@ -24,6 +26,7 @@ impl Asks {
     fn numbers(&mut self) -> &mut [u16] {
         match self {
             Asks::Pair(pair) => pair,
+            Asks::From(first) => std::slice::from_mut(first),
             Asks::Row(row) => &mut row.pairs,
         }
     }
@@ -40,7 +43,17 @@ pub struct Lent {
     pub planted: Vec<u8>,
 }
 
+/// A pair is asked.
 pub fn lent(dice: &mut Dice) -> Lent {
+    lent_for(dice, |dice, asked| Asks::Pair(pair_of(dice, asked)))
+}
+
+/// One individual is asked.
+pub fn from_lent(dice: &mut Dice) -> Lent {
+    lent_for(dice, |dice, asked| Asks::From(pair_of(dice, asked)[0]))
+}
+
+fn lent_for(dice: &mut Dice, asks: impl Fn(&mut Dice, &Asked) -> Asks) -> Lent {
     let (kind, asked) = match dice.below(1_000) {
         0..=449 => ("small", small(dice)),
         450..=529 => ("medium", medium(dice)),
@@ -51,7 +64,7 @@ pub fn lent(dice: &mut Dice) -> Lent {
         _ => ("damaged", small(dice)),
     };
     let fills = [dice.below(256) as u8, dice.below(256) as u8];
-    let asks = Asks::Pair(pair_of(dice, &asked));
+    let asks = asks(dice, &asked);
     let call = call_of(dice, &asked);
     let mut lent = Lent { kind, call, asks, lengths: [AREA; 2], fills, planted: Vec::new() };
     match kind {
@@ -71,9 +84,13 @@ pub fn some_many_rounds(dice: &mut Dice) -> Asked {
 
 pub fn pair_of(dice: &mut Dice, asked: &Asked) -> [u16; 2] {
     // Where there are no individuals, no pair can be asked without fault.
-    let nobody = (Individual(0), Individual(0));
-    let (first, second) = if asked.asks.is_empty() { nobody } else { dice.pick(&asked.asks) };
-    [first.0.into(), second.0.into()]
+    let nobody = Ask::From(Individual(0));
+    let ask = if asked.asks.is_empty() { nobody } else { dice.pick(&asked.asks) };
+    let second = match ask {
+        Ask::Pair(_, second) => second,
+        Ask::From(first) => first,
+    };
+    [ask.first().0.into(), second.0.into()]
 }
 
 pub fn call_of(dice: &mut Dice, asked: &Asked) -> Call {
@@ -168,6 +185,10 @@ fn undeclared(dice: &mut Dice, call: &mut Call) {
 
 fn bad_pair(dice: &mut Dice, lent: &mut Lent) {
     let individuals = lent.call.counts[2];
+    if let Asks::From(first) = &mut lent.asks {
+        *first = at_least(dice, individuals);
+        return;
+    }
     for pair in lent.asks.numbers().chunks_exact_mut(2) {
         make_stranger(dice, individuals, pair);
     }

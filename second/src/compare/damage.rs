@@ -121,13 +121,19 @@ fn bad_characters(dice: &mut Dice) -> (Vec<u8>, Vec<u8>) {
     }
 }
 
-/// How many bytes a frame of each kind has, its kind included.
-const LENGTHS: [usize; 13] = [0, 6, 3, 3, 3, 3, 3, 4, 4, 4, 2, 3, 3];
+/// The kinds of frames that have one length.
+const KINDS: [usize; 13] = [1, 2, 3, 4, 5, 6, 7, 8, 9, 10, 11, 12, 14];
+
+/// How many bytes a frame of each kind has, its kind included; 0D may have any number.
+const LENGTHS: [usize; 15] = [0, 6, 3, 3, 3, 3, 3, 4, 4, 4, 2, 3, 3, 0, 2];
 
 fn bad_frame(dice: &mut Dice) -> (Vec<u8>, Vec<u8>) {
     let unknown = dice.percent(40);
-    let kind =
-        if unknown { dice.pick(&[0, 0x0E, 0x0F, 0x10, 0x1A, 0x81, 0x8B, 0xFF]) } else { dice.between(1, 12) };
+    let kind = if unknown {
+        dice.pick(&[0, 0x0F, 0x0F, 0x10, 0x1A, 0x81, 0x8B, 0x8E, 0xFF])
+    } else {
+        dice.pick(&KINDS)
+    };
     let length = loop {
         let length = dice.pick(&[1, 2, 3, 4, 5, 6, 7, 8, 31, 32]);
         if unknown || length != LENGTHS[kind] {
@@ -198,10 +204,10 @@ fn undeclared_role_fact(dice: &mut Dice, counts: &Counts) -> Vec<u8> {
 fn bad_ask(dice: &mut Dice, counts: &Counts) -> Vec<u8> {
     let stranger = over(dice, usize::from(counts.individuals));
     let other = if dice.percent(30) { stranger } else { 0 };
-    if dice.percent(50) {
-        line(&[0x0B, stranger, other])
-    } else {
-        line(&[0x0B, other, stranger])
+    match dice.below(3) {
+        0 => line(&[0x0B, stranger, other]),
+        1 => line(&[0x0B, other, stranger]),
+        _ => line(&[0x0E, stranger]),
     }
 }
 
@@ -248,8 +254,8 @@ fn bad_place(dice: &mut Dice) -> Damaged {
             Damaged { lines, at: later + 1, number: 11, also: Vec::new() }
         }
         4 => {
-            let first: &[u8] = dice.pick(&[&b"02FFFF"[..], b"07000000", b"0BFFFF", b"0A10"]);
-            let also = if first[1] == b'B' { 8 } else { 6 };
+            let first: &[u8] = dice.pick(&[&b"02FFFF"[..], b"07000000", b"0BFFFF", b"0EFF", b"0A10"]);
+            let also = if matches!(first[1], b'B' | b'E') { 8 } else { 6 };
             lines.insert(0, first.to_vec());
             Damaged { lines, at: 1, number: 11, also: vec![also] }
         }
@@ -272,10 +278,14 @@ fn one_too_many(dice: &mut Dice) -> Damaged {
         _ => 256,
     };
     let mut lines = vec![line(&[1, 2, 2, 2, 2, 0])];
+    // Asks of both kinds share their room.
+    let pairs = dice.pick(&[0, 50, 100]);
     for _ in 0..most {
         let [one, two, three] = [0; 3].map(|_| dice.below(2) as u8);
         lines.push(match kind {
-            2..=6 | 0x0B => line(&[kind, one, two]),
+            2..=6 => line(&[kind, one, two]),
+            0x0B if dice.percent(pairs) => line(&[kind, one, two]),
+            0x0B => line(&[0x0E, one]),
             7 => line(&[7, one, two, three]),
             8 => line(&[dice.pick(&[8, 9]), one, two, three]),
             _ => line(&[kind, one]),
@@ -287,6 +297,7 @@ fn one_too_many(dice: &mut Dice) -> Damaged {
         (8, 0) => (line(&[9, 0, 2, 0]), vec![6]),
         (0x0A, 0) => (line(&[0x0A, 2]), vec![6]),
         (0x0B, 0) => (line(&[0x0B, 0, 2]), vec![8]),
+        (0x0B, 1) => (line(&[0x0E, dice.pick(&[2, 0xFF])]), vec![8]),
         _ => (lines[1].clone(), Vec::new()),
     };
     let at = lines.len() + 1;

@@ -3,7 +3,7 @@
 use super::built_out::questioned;
 use super::dice::Dice;
 use super::generate::Asked;
-use crate::collection::{Collection, Counts, Step};
+use crate::collection::{Counts, Step};
 use crate::expression::automaton::Automaton;
 use crate::expression::words::{all_words, Derived};
 use crate::expression::{read, Expression, Letter, CLOSE, OPEN, OR, TIMES};
@@ -124,7 +124,7 @@ fn item(dice: &mut Dice, letters: &[u8], [marks, deep]: [usize; 2], row: &mut Ve
 
 /// Whether a file's expression, matched by derivatives, has the words of its automaton and the answers of the desk. The
 /// error is what was expected and what was found.
-pub fn agrees(marks: &[u8], collection: &Collection, answers: &[(u8, u16)]) -> Result<(), (String, String)> {
+pub fn agrees(marks: &[u8], asked: &Asked, answers: &[(u8, u16)]) -> Result<(), (String, String)> {
     let fails = |what: String| Err((what, "the automaton says something else".to_string()));
     let Ok(expression) = read::expression(marks) else { return fails("an expression".to_string()) };
     let automaton = Automaton::of(&expression);
@@ -134,7 +134,7 @@ pub fn agrees(marks: &[u8], collection: &Collection, answers: &[(u8, u16)]) -> R
     if let Some(word) = words.iter().find(|word| expression.has(word) != automaton.reads(word)) {
         return fails(format!("{word:?}, by derivatives"));
     }
-    match derived_answers(&expression, collection) {
+    match derived_answers(&expression, asked) {
         Some(Ok(derived)) if !same(&derived, answers) => {
             fails(format!("the derivatives' question: {derived:?}"))
         }
@@ -143,12 +143,9 @@ pub fn agrees(marks: &[u8], collection: &Collection, answers: &[(u8, u16)]) -> R
 }
 
 /// What the model answers to the same question as another automaton, that of the derivatives; None where that is too large.
-fn derived_answers(
-    expression: &Expression,
-    collection: &Collection,
-) -> Option<Result<Vec<Answer>, TooLarge>> {
+fn derived_answers(expression: &Expression, asked: &Asked) -> Option<Result<Vec<Answer>, TooLarge>> {
     let derived = Derived::of(expression, MOST_STATES.into())?;
-    let mut other = collection.clone();
+    let mut other = asked.collection.clone();
     other.counts.states = derived.states as u8;
     let step = |&(from, letter, to): &(usize, Letter, usize)| {
         let (from, to) = (State(from as u8), State(to as u8));
@@ -159,7 +156,7 @@ fn derived_answers(
     };
     other.steps = derived.steps.iter().map(step).collect();
     other.finals = derived.finals.iter().map(|state| State(*state as u8)).collect();
-    Some(questioned(&other))
+    Some(questioned(&other, &asked.asks))
 }
 
 /// A spent allowance says nothing of the answer.

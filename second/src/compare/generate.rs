@@ -2,13 +2,14 @@
 
 use super::dice::Dice;
 use super::throw::*;
+use crate::ask::Ask;
 use crate::collection::{Collection, Counts, Step};
 use crate::numbers::{Concept, Individual, Role, State};
 
 /// A collection with its asks and the allowance, None where the file is to have no frame 0C.
 pub struct Asked {
     pub collection: Collection,
-    pub asks: Vec<(Individual, Individual)>,
+    pub asks: Vec<Ask>,
     pub allowance: Option<u16>,
     /// The marks of a question typed as an expression; the steps and finals are then its automaton's.
     pub expression: Option<Vec<u8>>,
@@ -19,6 +20,7 @@ pub fn small(dice: &mut Dice) -> Asked {
     match dice.below(100) {
         0..=7 => return small_rings(dice),
         8..=15 => return deep_clash(dice),
+        16..=21 => return deep_end(dice),
         _ => {}
     }
     let roles = dice.pick(&[0, 1, 1, 1, 2, 2, 2, 2, 2, 3, 3]);
@@ -45,7 +47,7 @@ pub fn small(dice: &mut Dice) -> Asked {
         rings_of_steps(dice, &mut collection);
     }
     let allowance = if dice.percent(40) { None } else { Some(dice.below(5) as u16) };
-    let asks = all_pairs(&collection);
+    let asks = all_asks(&collection);
     Asked { collection, asks, allowance, expression: None }
 }
 
@@ -60,8 +62,59 @@ fn deep_clash(dice: &mut Dice) -> Asked {
         let deep = dice.pick(&row[1..]);
         exclusion_below(dice, &mut collection, deep, Concept(1));
     }
-    let asks = all_pairs(&collection);
+    let asks = all_asks(&collection);
     Asked { collection, asks, allowance: Some(dice.below(5) as u16), expression: None }
+}
+
+/// A question that goes down state by state and need not come back: most of its ends are unnamed, and many are deep.
+pub fn deep_end(dice: &mut Dice) -> Asked {
+    let (ring, few, many) = (dice.between(1, 3), dice.between(2, 6), dice.between(7, 12));
+    let states = dice.pick(&[few, many, many, many]);
+    let mut collection = Collection::empty(counts(dice, 2, ring, (1, 3), (states, states)));
+    collection.counts.start = State(0);
+    let amounts = Amounts {
+        rules: dice.below(2),
+        facts: dice.below(2),
+        role_facts: dice.below(2),
+        steps: dice.below(2),
+        finals: dice.pick(&[0, 0, 0, 0, 0, 1]),
+        ..Amounts::default()
+    };
+    throw_records(dice, &mut collection, &amounts);
+    let role = |number: usize| Role::forward((number % ring) as u8);
+    let (owner, last) = (Concept(0), State(states as u8 - 1));
+    collection.concept_facts.push((owner, Individual(0)));
+    collection.concept_rules.push((owner, role(0).neighbour()));
+    for number in 0..ring {
+        // Where a link lacks, the rows end there.
+        if dice.percent(92) {
+            let child = role(number).inverse().neighbour();
+            collection.concept_rules.push((child, role(number + 1).neighbour()));
+        }
+    }
+    // Down by the roles in their order, and sometimes a test on the way, which most of the elements pass.
+    let tested = Concept(1);
+    let passes = if dice.percent(80) { ring } else { dice.below(ring) };
+    let children = (0..passes).map(|number| role(number).inverse().neighbour());
+    collection.concept_rules.extend(children.map(|child| (child, tested)));
+    let (tests, mut deep) = (dice.pick(&[0, 20]), 0);
+    for number in 0..states - 1 {
+        let (from, to) = (State(number as u8), State(number as u8 + 1));
+        if deep > 0 && dice.percent(tests) {
+            collection.steps.push(Step::Test { from, name: tested, to });
+        } else {
+            collection.steps.push(Step::Role { from, role: role(deep), to });
+            deep += 1;
+        }
+    }
+    collection.finals.push(last);
+    // Loops on the way.
+    if dice.percent(40) {
+        rings_of_steps(dice, &mut collection);
+    }
+    let allowance = if dice.percent(60) { None } else { Some(dice.below(3) as u16) };
+    let asks = all_asks(&collection);
+    Asked { collection, asks, allowance, expression: None }
 }
 
 fn small_rings(dice: &mut Dice) -> Asked {
@@ -91,7 +144,7 @@ pub fn medium(dice: &mut Dice) -> Asked {
         _ => harmless_exclusions(dice, &mut collection, 20, 5),
     }
     let allowance = if dice.percent(60) { None } else { Some(dice.below(20) as u16) };
-    let asks = some_pairs(dice, &collection, 40);
+    let asks = some_asks(dice, &collection, 40);
     Asked { collection, asks, allowance, expression: None }
 }
 
@@ -128,7 +181,7 @@ pub fn full(dice: &mut Dice) -> Asked {
     }
     repeat_to_the_most(dice, &mut collection);
     let allowance = if dice.percent(80) { None } else { Some(dice.below(4) as u16) };
-    let asks = some_pairs(dice, &collection, 256);
+    let asks = some_asks(dice, &collection, 256);
     Asked { collection, asks, allowance, expression: None }
 }
 
@@ -141,7 +194,7 @@ fn full_rings(dice: &mut Dice) -> Asked {
     throw_facts(dice, &mut collection, &amounts);
     harmless_exclusions(dice, &mut collection, 512, 128);
     repeat_to_the_most(dice, &mut collection);
-    let asks = some_pairs(dice, &collection, 256);
+    let asks = some_asks(dice, &collection, 256);
     Asked { collection, asks, allowance, expression: None }
 }
 
@@ -178,7 +231,7 @@ pub fn many_rounds(dice: &mut Dice, down: usize, up: usize, ring: usize) -> Aske
         1 => Some(dice.between(64, 1_900) as u16),
         _ => Some(0xFFFF),
     };
-    let asks = all_pairs(&collection);
+    let asks = all_asks(&collection);
     Asked { collection, asks, allowance, expression: None }
 }
 
@@ -207,7 +260,7 @@ pub fn broad(dice: &mut Dice) -> Asked {
     let tests = ends.filter(|(from, to)| from != to && dice.percent(most_steps));
     collection.steps.extend(tests.map(|(from, to)| Step::Test { from, name: tested, to }));
     let allowance = if dice.percent(50) { None } else { Some(dice.below(4) as u16) };
-    let asks = some_pairs(dice, &collection, 12);
+    let asks = some_asks(dice, &collection, 12);
     Asked { collection, asks, allowance, expression: None }
 }
 
@@ -226,12 +279,19 @@ fn counts(
     Counts::new(names, roles, individuals, states, start).expect("counts in range")
 }
 
-fn all_pairs(collection: &Collection) -> Vec<(Individual, Individual)> {
+/// Every pair, and every individual alone.
+fn all_asks(collection: &Collection) -> Vec<Ask> {
     let people: Vec<Individual> = collection.counts.all_individuals().collect();
-    people.iter().flat_map(|&first| people.iter().map(move |&second| (first, second))).collect()
+    let pairs = people.iter().flat_map(|&first| people.iter().map(move |&second| Ask::Pair(first, second)));
+    pairs.chain(people.iter().map(|first| Ask::From(*first))).collect()
 }
 
-fn some_pairs(dice: &mut Dice, collection: &Collection, most: usize) -> Vec<(Individual, Individual)> {
+fn some_asks(dice: &mut Dice, collection: &Collection, most: usize) -> Vec<Ask> {
     let people: Vec<Individual> = collection.counts.all_individuals().collect();
-    (0..most).map(|_| (dice.pick(&people), dice.pick(&people))).collect()
+    let alone = dice.pick(&[0, 20, 50]);
+    let one = |dice: &mut Dice| match dice.percent(alone) {
+        true => Ask::From(dice.pick(&people)),
+        false => Ask::Pair(dice.pick(&people), dice.pick(&people)),
+    };
+    (0..most).map(|_| one(dice)).collect()
 }

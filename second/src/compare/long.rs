@@ -52,12 +52,13 @@ fn fault_after_the_fullest_file(dice: &mut Dice) -> Damaged {
         lines.push(bytes.to_vec());
         (number, also)
     };
-    let (number, also) = match dice.below(6) {
+    let (number, also) = match dice.below(7) {
         0 => next(b"0C0001", 11, vec![]),
         1 => next(b"01FFFFFFFFFF", 11, vec![4]),
         2 => next(b"07000000", 5, vec![]),
         3 => next(&[b'A'; 700_000], 9, vec![10]),
         4 => next(&[b'A'; 64], 10, vec![]),
+        5 => next(b"0EFF", 5, vec![8]),
         _ => next(b"0BFFFF", 5, vec![8]),
     };
     // What follows the faulty line is never looked at.

@@ -1,4 +1,4 @@
-//! `second compare`: thousands of cases from a seed, five parts, a histogram of what was hit, and the count at the end.
+//! `second compare`: thousands of cases from a seed, six parts, a histogram of what was hit, and the count at the end.
 
 mod built_out;
 mod calls;
@@ -47,6 +47,7 @@ const LIBRARY: u64 = 2;
 const MODEL: u64 = 3;
 const ROWS: u64 = 4;
 const TYPED: u64 = 5;
+const FROM: u64 = 6;
 const MOST_SHOWN: u64 = 5;
 
 /// What the desk program can answer with, in an answer or a refusal.
@@ -57,7 +58,7 @@ pub fn desk_met() -> Vec<&'static str> {
     [&[parts::SELF_DEALING], &outputs::MET[..]].concat()
 }
 
-/// What the library can answer a pair with.
+/// What the library can answer a pair or one individual with.
 const ANSWERS: [u8; 8] = [0, 1, 2, 3, 4, 5, 6, 8];
 
 /// How many passed and how many failed.
@@ -80,7 +81,14 @@ pub fn compare(options: &Options) -> (u64, u64) {
     through_drivers(options, &mut total, (TYPED, &typed::NUMBERS, &typed::MET), parts::typed_part);
     println!("e. modules library and desk against the built-out model, on small collections");
     let work = || |dice, tally: &mut Tally| built_out::model_part(dice, tally);
-    judge(&mut total, run(options, MODEL, work), &[0, 1, 2, 3], &shown::MET);
+    judge(
+        &mut total,
+        run(options, MODEL, work),
+        &[0, 1, 2, 3],
+        &[&shown::MET[..], &built_out::MET[..]].concat(),
+    );
+    println!("f. the library's call for one individual, likewise with both areas");
+    through_drivers(options, &mut total, (FROM, &ANSWERS, &[parts::SELF_DEALING]), parts::from_part);
     total
 }
 

@@ -1,6 +1,6 @@
 //! The parts of the comparison that run another program, each a case after the other.
 
-use super::calls::{lent, some_many_rounds, Asks, Lent};
+use super::calls::{from_lent, lent, some_many_rounds, Asks, Lent};
 use super::child::{run_desk, Driver, Words};
 use super::damage::{damaged, Damaged};
 use super::dice::Dice;
@@ -16,7 +16,7 @@ use super::typed::{self, typed};
 use crate::collection::Collection;
 use crate::desk::desk;
 use crate::desk::read::read;
-use crate::library::ask;
+use crate::library::{ask, ask_from};
 use std::collections::BTreeSet;
 
 /// What differed, with the input that shows it.
@@ -101,17 +101,27 @@ pub fn desk_part(words: &Words, mut dice: Dice, tally: &mut Tally) -> Outcome {
 /// Part (b): the library behind a driver against module `library`, with both areas and the bytes behind them.
 pub fn library_part(driver: &mut Driver, mut dice: Dice, tally: &mut Tally) -> Outcome {
     let lent = lent(&mut dice);
+    one_ask(driver, &lent, tally)
+}
+
+/// Part (f): likewise of one individual.
+pub fn from_part(driver: &mut Driver, mut dice: Dice, tally: &mut Tally) -> Outcome {
+    let lent = from_lent(&mut dice);
+    one_ask(driver, &lent, tally)
+}
+
+fn one_ask(driver: &mut Driver, lent: &Lent, tally: &mut Tally) -> Outcome {
     tally.kind(lent.kind);
-    let (answers, expected) = protocol::answer(&lent);
-    let (number, count) = answers.expect("a pair is always answered")[0];
+    let (answers, expected) = protocol::answer(lent);
+    let (number, count) = answers.expect("one ask is always answered")[0];
     tally.number(number);
     if number < 2 {
         tally.rounds(count);
     }
-    if number < 4 && deals_with_itself(&lent) {
+    if number < 4 && deals_with_itself(lent) {
         tally.met(SELF_DEALING);
     }
-    let request = protocol::request(&lent);
+    let request = protocol::request(lent);
     let differs = |expected, found| Difference { input: request.clone().into_bytes(), expected, found };
     if let Some(&first) = lent.planted.iter().min() {
         if number != first {
@@ -119,7 +129,7 @@ pub fn library_part(driver: &mut Driver, mut dice: Dice, tally: &mut Tally) -> O
         }
         lent.planted.iter().filter(|also| **also > first).for_each(|also| tally.order(first, *also));
     }
-    if number == 2 && number_without_exclusions(&lent) == 3 {
+    if number == 2 && number_without_exclusions(lent) == 3 {
         tally.order(2, 3);
     }
     replies(driver, request, expected)
@@ -180,12 +190,15 @@ fn replies(driver: &mut Driver, request: String, expected: String) -> Outcome {
     Err(Difference { input: request.into_bytes(), expected, found })
 }
 
-/// What a pair would be answered were there no exclusion to break.
+/// What a pair, or one individual, would be answered were there no exclusion to break.
 fn number_without_exclusions(lent: &Lent) -> u8 {
-    let Asks::Pair(pair) = lent.asks else { unreachable!("a row is not asked for it") };
     let mut call = lent.call.clone();
     call.tables[1].clear();
     call.tables[3].clear();
     let [mut area, mut spare] = lent.lengths.map(|length| vec![0; length]);
-    ask(&call, pair, &mut area, &mut spare).0
+    match lent.asks {
+        Asks::Pair(pair) => ask(&call, pair, &mut area, &mut spare).0,
+        Asks::From(first) => ask_from(&call, first, &mut area, &mut spare).0,
+        Asks::Row(_) => unreachable!("a row is not asked for it"),
+    }
 }

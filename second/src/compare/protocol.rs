@@ -2,7 +2,7 @@
 
 use super::calls::{Asks, Lent, Row};
 use super::typed::Typed;
-use crate::library::{ask, ask_all, made_of, Call, Made};
+use crate::library::{ask, ask_all, ask_from, made_of, Call, Made};
 
 /// Bytes behind each area that the call must not touch; they are filled with the complement of the area's fill. So it is
 /// behind the entries of a row.
@@ -19,6 +19,9 @@ pub const MOST_MADE: usize = 4_096;
 
 /// A line that asks for a row begins with it; it is no digit.
 const ROW: char = 'R';
+
+/// Likewise a line that asks of one individual whether a path leaves it.
+const ONE: char = 'L';
 
 /// Likewise a line that asks for the tables of an expression.
 const EXPRESSION: char = 'M';
@@ -38,6 +41,10 @@ pub fn request(lent: &Lent) -> String {
     line.extend(call.tables.iter().map(|table| counted(table)));
     match &lent.asks {
         Asks::Pair(pair) => line += &digits(pair),
+        Asks::From(first) => {
+            line.insert(0, ONE);
+            line += &digits(&[*first]);
+        }
         Asks::Row(row) => {
             line.insert(0, ROW);
             line += &counted(&row.pairs);
@@ -62,15 +69,16 @@ fn counted(numbers: &[u16]) -> String {
 
 /// None when the line isn't a request.
 pub fn read_request(line: &str) -> Option<Lent> {
-    let after = line.strip_prefix(ROW);
-    let mut digits = after.unwrap_or(line);
+    let kind = [ROW, ONE].into_iter().find(|kind| line.starts_with(*kind));
+    let mut digits = kind.map_or(line, |_| &line[1..]);
     let counts = take_numbers(&mut digits)?;
     let mut tables: [Vec<u16>; 8] = Default::default();
     for table in &mut tables {
         *table = take_counted(&mut digits)?;
     }
-    let mut asks = match after {
+    let mut asks = match kind {
         None => Asks::Pair(take_numbers(&mut digits)?),
+        Some(ONE) => Asks::From(take(&mut digits, 4)? as u16),
         Some(_) => Asks::Row(Row { pairs: take_counted(&mut digits)?, entries: [0; 2], fill: 0 }),
     };
     let [allowance] = take_numbers(&mut digits)?;
@@ -114,6 +122,10 @@ pub fn answer(lent: &Lent) -> (Option<Vec<(u8, u16)>>, String) {
     let (answers, told) = match &lent.asks {
         Asks::Pair(pair) => {
             let (number, count) = ask(&lent.call, *pair, &mut area, &mut spare);
+            (Some(vec![(number, count)]), format!("{number:02X}{count:04X}"))
+        }
+        Asks::From(first) => {
+            let (number, count) = ask_from(&lent.call, *first, &mut area, &mut spare);
             (Some(vec![(number, count)]), format!("{number:02X}{count:04X}"))
         }
         Asks::Row(row) => {

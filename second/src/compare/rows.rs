@@ -29,12 +29,12 @@ pub const MET: [&str; 16] = [
 
 pub fn row_lent(dice: &mut Dice) -> Lent {
     let (kind, asked) = match dice.below(1_000) {
-        0..=449 => ("small", small(dice)),
-        450..=509 => ("medium", medium(dice)),
-        510..=519 => ("full", full(dice)),
+        0..=509 => ("small", small(dice)),
+        510..=569 => ("medium", medium(dice)),
+        570..=579 => ("full", full(dice)),
         // few, since under an emulator each takes seconds
-        520..=521 => ("many rounds", some_many_rounds(dice)),
-        522..=559 => ("wild", small(dice)),
+        580..=581 => ("many rounds", some_many_rounds(dice)),
+        582..=619 => ("wild", small(dice)),
         _ => ("damaged", small(dice)),
     };
     let fills = [dice.below(256) as u8, dice.below(256) as u8];

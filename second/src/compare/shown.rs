@@ -1,6 +1,8 @@
 //! Whether what `explain` shows is so: its paths are paths of the canonical model, its clash is one.
 
 use super::parts::{has_equal_ends, SELF_DEALING};
+use crate::ask::Ask;
+use crate::element::Element;
 use crate::explain::clash::{Clash, ConceptSide, What};
 use crate::explain::path::{Move, Path};
 use crate::explain::{Asked, Behind, Explanation};
@@ -12,7 +14,12 @@ use crate::numbers::Concept;
 const MOST_STEPS: usize = 2_000;
 
 /// What a case can show, beside its answers.
-pub const MET: [&str; 3] = [SELF_DEALING, "a path by a self-dealing fact", "a clash by a self-dealing fact"];
+pub const MET: [&str; 4] = [
+    SELF_DEALING,
+    "a path by a self-dealing fact",
+    "a clash by a self-dealing fact",
+    "a path that ends more than 5 roles deep",
+];
 
 /// Which of `MET` it shows; the error is what was expected and what was found.
 pub fn agrees(input: &[u8], known: &Known) -> Result<Vec<&'static str>, (String, String)> {
@@ -24,7 +31,9 @@ pub fn agrees(input: &[u8], known: &Known) -> Result<Vec<&'static str>, (String,
         }
         match &asked.behind {
             Behind::Path(path) if asked.number != 1 || !leads(path, asked, known) => return fails("a path"),
-            Behind::Reached(_) if asked.number != 0 => return fails("a path for a yes"),
+            Behind::Reached(_) | Behind::Everywhere(..) if asked.number != 0 => {
+                return fails("a path for a yes")
+            }
             _ => {}
         }
     }
@@ -47,7 +56,13 @@ fn met(explained: &Explanation) -> Vec<&'static str> {
         What::OnPair { first, second, .. } => first == second,
         What::OnElement { .. } => false,
     });
-    let met = [has_equal_ends(&explained.file.collection), path, clash];
+    let deep = explained.asks.iter().any(|asked| match &asked.behind {
+        Behind::Path(path) if path.more == 0 => {
+            path.stands.last().is_some_and(|last| last.element.row.len() > 5)
+        }
+        _ => false,
+    });
+    let met = [has_equal_ends(&explained.file.collection), path, clash, deep];
     MET.into_iter().zip(met).filter(|(_, is_so)| *is_so).map(|(what, _)| what).collect()
 }
 
@@ -57,10 +72,13 @@ fn leads(path: &Path, asked: &Asked, known: &Known) -> bool {
     }
     let stands: Vec<_> = path.stands.iter().map(|stand| (stand.element.clone(), stand.state)).collect();
     let (Some(first), Some(last)) = (stands.first(), stands.last()) else { return false };
-    let bare = first.0.row.is_empty() && last.0.row.is_empty();
-    let ends = first.0.who == asked.first && last.0.who == asked.second;
+    let begins = first.0 == Element::named(asked.ask.first());
+    let ends = match asked.ask {
+        Ask::Pair(_, second) => last.0 == Element::named(second),
+        Ask::From(_) => true,
+    };
     let states = first.1 == known.collection.counts.start && known.collection.finals.contains(&last.1);
-    bare && ends && states && is_path(known, &stands)
+    begins && ends && states && is_path(known, &stands)
 }
 
 fn clashes(clash: &Clash, explained: &Explanation, known: &Known) -> bool {

@@ -27,7 +27,7 @@ pub fn lines(dice: &mut Dice, asked: &Asked) -> Vec<Vec<u8>> {
         lines.push(line(&[0x07, role.0 / 2, first.0, second.0]));
     }
     lines.extend(question(asked));
-    lines.extend(asked.asks.iter().map(|(first, second)| line(&[0x0B, first.0, second.0])));
+    lines.extend(asked.asks.iter().map(|ask| line(&ask.frame())));
     lines.extend(asked.allowance.map(|rounds| line(&[0x0C, (rounds >> 8) as u8, rounds as u8])));
     dice.shuffle(&mut lines);
     let counts = &collection.counts;

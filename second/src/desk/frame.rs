@@ -29,6 +29,8 @@ pub enum Frame {
     },
     Final(u8),
     Ask(u8, u8),
+    /// Of one individual.
+    AskFrom(u8),
     Allowance(u16),
     /// The marks of an expression; no number of them is the wrong length.
     Expression(Vec<u8>),
@@ -73,6 +75,7 @@ fn shaped(bytes: &[u8]) -> Option<Frame> {
         [0x0A, state] => Frame::Final(state),
         [0x0B, first, second] => Frame::Ask(first, second),
         [0x0C, high, low] => Frame::Allowance(u16::from_be_bytes([high, low])),
+        [0x0E, first] => Frame::AskFrom(first),
         [0x0D, ref marks @ ..] => Frame::Expression(marks.to_vec()),
         _ => return None,
     })

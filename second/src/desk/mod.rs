@@ -26,7 +26,8 @@ pub fn round_line(round: u16, added: u16) -> Vec<u8> {
     written(&[0x8A, high, low, more, less])
 }
 
-/// A line for each worked round, once; then 8B, first, second, answer, count (two bytes) for each ask, in the order asked.
+/// A line for each worked round, once; then one for each ask, in the order asked: 8B, first, second, or 8E, individual; and
+/// answer, count (two bytes).
 fn answers(file: &File) -> Vec<u8> {
     // Every ask reads the whole file, so the collection is prepared once; without an ask there is no need.
     if file.asks.is_empty() {
@@ -35,10 +36,9 @@ fn answers(file: &File) -> Vec<u8> {
     let mut prepared = Prepared::of(&file.collection, file.allowance());
     let rounds = (1..).zip(prepared.added().unwrap_or_default());
     let mut output: Vec<u8> = rounds.flat_map(|(round, added)| round_line(round, *added)).collect();
-    for &(first, second) in &file.asks {
-        let (number, count) = prepared.answer(first, second);
-        let [high, low] = count.to_be_bytes();
-        output.extend(written(&[0x8B, first.0, second.0, number, high, low]));
+    for &ask in &file.asks {
+        let (number, count) = prepared.answer(ask);
+        output.extend(written(&ask.answered(number, count)));
     }
     output
 }

@@ -2,18 +2,19 @@
 
 use super::frame::{frame, Frame};
 use super::question::{expression, question, Typed};
+use crate::ask::Ask;
 use crate::collection::{Collection, Counts};
-use crate::numbers::Individual;
 
 /// The allowance where the file has no frame 0C.
 pub const ALLOWANCE_WHEN_ABSENT: u16 = 64;
 
+/// Of both kinds together.
 const MOST_ASKS: usize = 256;
 
 /// A file read without fault. `lines` tells the line of every record, for those who explain.
 pub struct File {
     pub collection: Collection,
-    pub asks: Vec<(Individual, Individual)>,
+    pub asks: Vec<Ask>,
     pub allowance: Option<u16>,
     /// Where the question is typed as an expression; its steps and finals are in the collection.
     pub expression: Option<Typed>,
@@ -87,7 +88,7 @@ fn take(file: &mut File, frame: Frame, at: usize) -> Result<(), u8> {
             file.allowance = Some(rounds);
             Ok(())
         }
-        Frame::Ask(first, second) => ask(file, first, second, at),
+        Frame::Ask(..) | Frame::AskFrom(_) => ask(file, frame, at),
         Frame::ConceptRule(..) | Frame::ConceptExclusion(..) => concept_pair(file, frame, at),
         Frame::RoleRule(..) | Frame::RoleExclusion(..) => role_pair(file, frame, at),
         Frame::ConceptFact { .. } | Frame::RoleFact { .. } => fact(file, frame, at),
@@ -112,14 +113,17 @@ pub fn put<T>(
     Ok(())
 }
 
-fn ask(file: &mut File, first: u8, second: u8, at: usize) -> Result<(), u8> {
+fn ask(file: &mut File, frame: Frame, at: usize) -> Result<(), u8> {
     if file.asks.len() == MOST_ASKS {
         return Err(5);
     }
-    let counts = &file.collection.counts;
-    let first = counts.individual(first.into()).ok_or(8)?;
-    let second = counts.individual(second.into()).ok_or(8)?;
-    file.asks.push((first, second));
+    let declared = |who: u8| file.collection.counts.individual(who.into()).ok_or(8);
+    let ask = match frame {
+        Frame::Ask(first, second) => Ask::Pair(declared(first)?, declared(second)?),
+        Frame::AskFrom(first) => Ask::From(declared(first)?),
+        _ => unreachable!("only asks come here"),
+    };
+    file.asks.push(ask);
     file.lines.asks.push(at);
     Ok(())
 }

@@ -52,7 +52,7 @@ fn characters(line: &[u8]) -> String {
 }
 
 /// The kinds of frame from 01 on: what they are called and how many bytes of fields they have.
-const KINDS: [(&str, usize); 12] = [
+const KINDS: [(&str, usize); 14] = [
     ("the counts", 5),
     ("a concept rule", 2),
     ("a concept exclusion", 2),
@@ -65,6 +65,9 @@ const KINDS: [(&str, usize); 12] = [
     ("a final", 1),
     ("an ask", 2),
     ("the allowance", 2),
+    // Any number of marks is right.
+    ("an expression", 0),
+    ("an ask of one individual", 1),
 ];
 
 /// The frame's kind as it is called; None when it is unknown.
@@ -116,7 +119,7 @@ fn too_many(line: &[u8]) -> String {
         Ok(Frame::ConceptFact { .. }) => ("concept facts", 1_024),
         Ok(Frame::RoleFact { .. }) => ("role facts", 4_096),
         Ok(Frame::Final(_)) => ("finals", 16),
-        Ok(Frame::Ask(..)) => ("asks", 256),
+        Ok(Frame::Ask(..) | Frame::AskFrom(_)) => ("asks", 256),
         _ => ("steps of both kinds", 512),
     };
     format!("one frame too many: there are already {most} {table}")
@@ -144,6 +147,7 @@ fn undeclared(input: &[u8], line: &[u8]) -> String {
         Ok(Frame::TestStep { from, name: a, to }) => vec![state(from), name(a), state(to)],
         Ok(Frame::Final(a)) => vec![state(a)],
         Ok(Frame::Ask(first, second)) => vec![person(first), person(second)],
+        Ok(Frame::AskFrom(first)) => vec![person(first)],
         Ok(Frame::Expression(marks)) => {
             let letters = marks.iter().filter_map(|mark| Letter::of(*mark));
             letters

@@ -1,5 +1,6 @@
 //! What stands behind the desk's answers to a file, as data; module `print` makes text of it.
 
+pub mod below;
 pub mod chain;
 pub mod clash;
 pub mod fault;
@@ -8,18 +9,20 @@ pub mod people;
 pub mod rounds;
 pub mod walk;
 
+use crate::ask::Ask;
 use crate::desk::read::{read, File};
 use crate::desk::round_line;
-use crate::numbers::{Concept, Individual, State};
+use crate::numbers::{Concept, Individual};
 use crate::prepared::Prepared;
+use below::{spot, Below};
 use chain::Chains;
 use clash::{Clash, Places};
 use fault::Faulty;
-use path::{unfold, Path};
+use path::{unfold, Path, Spot};
 use people::Has;
 use rounds::Rounds;
 use std::collections::BTreeMap;
-use walk::{Ground, Walk};
+use walk::{Ground, Leg, Place, Walk};
 
 /// A path is shown up to so many steps.
 pub const MOST_STEPS: usize = 200;
@@ -35,8 +38,7 @@ pub struct Explanation {
 
 pub struct Asked {
     pub line: usize,
-    pub first: Individual,
-    pub second: Individual,
+    pub ask: Ask,
     pub number: u8,
     pub count: u16,
     pub behind: Behind,
@@ -45,7 +47,9 @@ pub struct Asked {
 pub enum Behind {
     Path(Path),
     /// Where the walk leads instead: individuals and states, in the order found.
-    Reached(Vec<(Individual, State)>),
+    Reached(Vec<Place>),
+    /// Of one individual: where any path leads, and below the individuals the first with each last signed role and state.
+    Everywhere(Vec<Place>, Vec<Spot>),
     /// Contradiction or a spent allowance: the clash or the rounds explain it.
     Nothing,
 }
@@ -77,18 +81,36 @@ fn asks(file: &File, rounds: &Rounds, most_steps: usize) -> Vec<Asked> {
     let ground = Ground::of(file, rounds);
     let mut walks: BTreeMap<Individual, Walk> = BTreeMap::new();
     let mut asked = Vec::new();
-    for (&(first, second), &line) in file.asks.iter().zip(&file.lines.asks) {
-        let (number, count) = prepared.answer(first, second);
+    for (&ask, &line) in file.asks.iter().zip(&file.lines.asks) {
+        let (number, count) = prepared.answer(ask);
         let behind = if number < 2 {
-            let walk = walks.entry(first).or_insert_with(|| ground.walk(first));
-            match walk.legs_to(second, &file.collection.finals) {
-                Some(legs) => Behind::Path(unfold(rounds, walk.start, &legs, most_steps)),
-                None => Behind::Reached(walk.reached.clone()),
+            let walk = walks.entry(ask.first()).or_insert_with(|| ground.walk(ask.first()));
+            match behind(&ground, walk, ask) {
+                Ok(legs) => Behind::Path(unfold(rounds, spot(walk.start), &legs, most_steps)),
+                Err(reached) => reached,
             }
         } else {
             Behind::Nothing
         };
-        asked.push(Asked { line, first, second, number, count, behind });
+        asked.push(Asked { line, ask, number, count, behind });
     }
     asked
+}
+
+/// The legs of a path, or where the walk leads instead. A path to an individual goes before one to an unnamed element.
+fn behind(ground: &Ground, walk: &Walk, ask: Ask) -> Result<Vec<(Spot, Leg)>, Behind> {
+    let finals = &ground.file.collection.finals;
+    let named = match ask {
+        Ask::Pair(_, second) => walk.legs_to(second, finals),
+        Ask::From(_) => walk.legs_to_any(finals),
+    };
+    if let Some(legs) = named {
+        return Ok(legs.into_iter().map(|(place, leg)| (spot(place), leg)).collect());
+    }
+    if let Ask::Pair(..) = ask {
+        return Err(Behind::Reached(walk.reached.clone()));
+    }
+    let below = Below::of(ground, walk);
+    let everywhere = || below.found.iter().map(|found| found.spot.clone()).collect();
+    below.legs_to_any(finals).ok_or_else(|| Behind::Everywhere(walk.reached.clone(), everywhere()))
 }

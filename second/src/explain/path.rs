@@ -1,7 +1,7 @@
 //! The path of an ask: the legs of its walk, with every mark in it unfolded into unnamed elements.
 
 use super::rounds::{Carried, Mark, Reason, Rounds};
-use super::walk::{Leg, Place};
+use super::walk::Leg;
 use crate::element::Element;
 use crate::numbers::{Concept, State};
 use std::collections::HashMap;
@@ -34,6 +34,9 @@ pub struct Stand {
     pub state: State,
 }
 
+/// Where a path stands.
+pub type Spot = (Element, State);
+
 pub struct Path {
     pub stands: Vec<Stand>,
     /// Steps beyond those shown.
@@ -48,9 +51,9 @@ enum Todo {
 
 /// Unfolds the legs of a walk, up to so many steps. A list of what is to be done stands in for recursion: a mark's
 /// path can be thousands of roles deep.
-pub fn unfold(rounds: &Rounds, start: Place, legs: &[(Place, Leg)], most: usize) -> Path {
-    let mut stands = vec![Stand { by: None, element: Element::named(start.0), state: start.1 }];
-    let mut todo: Vec<Todo> = legs.iter().rev().map(|&(to, leg)| first_todo(to, leg)).collect();
+pub fn unfold(rounds: &Rounds, start: Spot, legs: &[(Spot, Leg)], most: usize) -> Path {
+    let mut stands = vec![Stand { by: None, element: start.0, state: start.1 }];
+    let mut todo: Vec<Todo> = legs.iter().rev().map(|(to, leg)| first_todo(to.clone(), *leg)).collect();
     while stands.len() <= most {
         match todo.pop() {
             None => return Path { stands, more: 0 },
@@ -67,11 +70,11 @@ pub fn unfold(rounds: &Rounds, start: Place, legs: &[(Place, Leg)], most: usize)
     Path { stands, more }
 }
 
-fn first_todo((who, state): Place, leg: Leg) -> Todo {
-    let element = Element::named(who);
+fn first_todo((element, state): Spot, leg: Leg) -> Todo {
     match leg {
         Leg::Fact { step, line } => stand(Move::Fact { step, line }, element, state),
         Leg::Test { name, line } => stand(Move::Test { name, line }, element, state),
+        Leg::Down { step } => stand(Move::Down { step }, element, state),
         Leg::Loop(mark) => Todo::Loop(mark, element),
     }
 }

@@ -23,17 +23,21 @@ pub enum Leg {
     },
     /// Through unnamed elements and back.
     Loop(Mark),
+    /// To an unnamed element, and not back from there.
+    Down {
+        step: Carried,
+    },
 }
 
 pub type Place = (Individual, State);
 
 /// What every walk reads.
 pub struct Ground<'a> {
-    file: &'a File,
-    rounds: &'a Rounds,
+    pub file: &'a File,
+    pub rounds: &'a Rounds,
     orders: Orders,
-    people: People,
-    rules: Rules,
+    pub people: People,
+    pub rules: Rules,
     /// For each individual its facts: the other end, the role as seen from here, the line.
     facts: Vec<Vec<(Individual, Role, usize)>>,
 }
@@ -102,7 +106,7 @@ impl<'a> Ground<'a> {
     }
 
     /// A role step between these states on a role that the edge has.
-    fn step_along(&self, seen: Role, before: State, after: State) -> Carried {
+    pub fn step_along(&self, seen: Role, before: State, after: State) -> Carried {
         let steps = self.file.collection.steps.iter().zip(&self.file.lines.steps);
         let fits = |(step, &line): (&Step, &usize)| match *step {
             Step::Role { from, role, to } if (from, to) == (before, after) => {
@@ -143,14 +147,24 @@ impl Walk {
     /// The legs to the second individual in the first final state found there; None when there is no way.
     pub fn legs_to(&self, second: Individual, finals: &[State]) -> Option<Vec<(Place, Leg)>> {
         let end = self.reached.iter().find(|(who, state)| *who == second && finals.contains(state))?;
+        Some(self.legs_from_start(*end))
+    }
+
+    /// Likewise to any individual.
+    pub fn legs_to_any(&self, finals: &[State]) -> Option<Vec<(Place, Leg)>> {
+        let end = self.reached.iter().find(|(_, state)| finals.contains(state))?;
+        Some(self.legs_from_start(*end))
+    }
+
+    /// The legs to a place that was reached.
+    pub fn legs_from_start(&self, mut at: Place) -> Vec<(Place, Leg)> {
         let mut legs = Vec::new();
-        let mut at = *end;
         while at != self.start {
             let (before, leg) = self.legs[&at];
             legs.push((at, leg));
             at = before;
         }
         legs.reverse();
-        Some(legs)
+        legs
     }
 }

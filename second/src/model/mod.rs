@@ -10,6 +10,11 @@
 //! made of fact edges, tests at individuals and trips below them; with rows of at most k + 1 roles every trip is
 //! there. L(k, B) can only grow with k, so such a k is found at the latest after concepts × states × (states − 1).
 //!
+//! For a path to any element at all: with rows of at most d + k roles, what comes to elements whose rows have at most d is
+//! whole. Let F(d) be the pairs of the last role of such a row and a state in which a path comes to its element. What comes to
+//! a child comes from its parent, down by a step and by a loop there, and that depends on the parent's last role and state
+//! only. So where F(d + 1) brings no new pair, neither does F(d + 2), and all has been seen.
+//!
 //! For exclusions: when rows of k + 1 roles bring no last role that rows of at most k didn't have, no longer row
 //! does, and every kind of element and of ordered pair has been seen.
 
@@ -18,6 +23,7 @@ pub mod known;
 pub mod letter;
 mod tree;
 
+use crate::ask::Ask;
 use crate::collection::Collection;
 use crate::numbers::{Concept, Individual, Role, State};
 use known::Known;
@@ -58,8 +64,47 @@ impl<'a> Model<'a> {
         self.contradiction
     }
 
+    /// The answers to these asks.
+    pub fn asked(&self, asks: &[Ask]) -> Result<Vec<Answer>, TooLarge> {
+        let mut of_pairs: BTreeMap<Individual, Vec<Answer>> = BTreeMap::new();
+        let mut answers = Vec::new();
+        for ask in asks {
+            answers.push(match *ask {
+                Ask::From(first) => self.leaves(first)?,
+                Ask::Pair(first, second) => match of_pairs.get(&first) {
+                    Some(answers) => answers[second.at()],
+                    None => of_pairs.entry(first).or_insert(self.answers(first)?)[second.at()],
+                },
+            });
+        }
+        Ok(answers)
+    }
+
+    /// The answer for one individual and any element at all.
+    fn leaves(&self, first: Individual) -> Result<Answer, TooLarge> {
+        if self.contradiction {
+            return Ok(Answer::Contradiction);
+        }
+        let counts = &self.known.collection.counts;
+        let mut before: BTreeSet<(Role, State)> = BTreeSet::new();
+        for deep in 1.. {
+            let mut tree = Tree::of_individuals(self.known, deep + self.depth);
+            let reached = tree.reached((first.at(), counts.start))?;
+            if reached.iter().any(|(_, state)| self.known.collection.finals.contains(state)) {
+                return Ok(Answer::Yes);
+            }
+            let seen = reached.into_iter().filter(|(element, _)| tree.depth(*element) <= deep);
+            let last = seen.filter_map(|(element, state)| Some((tree.last(element)?.1, state))).collect();
+            if last == before {
+                break;
+            }
+            before = last;
+        }
+        Ok(Answer::No)
+    }
+
     /// The answers for one first individual and every second one.
-    pub fn answers(&self, first: Individual) -> Result<Vec<Answer>, TooLarge> {
+    fn answers(&self, first: Individual) -> Result<Vec<Answer>, TooLarge> {
         let collection = self.known.collection;
         let mut tree = Tree::of_individuals(self.known, self.depth + 1);
         let reached = tree.reached((first.at(), collection.counts.start))?;
@@ -75,10 +120,10 @@ impl<'a> Model<'a> {
     }
 }
 
-/// One pair asked of the model.
-pub fn ask(collection: &Collection, first: Individual, second: Individual) -> Result<Answer, TooLarge> {
+/// One ask put to the model.
+pub fn ask(collection: &Collection, ask: Ask) -> Result<Answer, TooLarge> {
     let known = Known::of(collection);
-    Ok(Model::of(&known)?.answers(first)?[second.at()])
+    Ok(Model::of(&known)?.asked(&[ask])?[0])
 }
 
 fn grow_until_unchanged(known: &Known) -> Result<(Loops, usize), TooLarge> {

@@ -58,6 +58,11 @@ impl<'a> Tree<'a> {
         self.elements[element].last
     }
 
+    /// How many signed roles its row has.
+    pub fn depth(&self, element: usize) -> usize {
+        self.elements[element].depth
+    }
+
     pub fn concepts(&self, element: usize) -> &'a BTreeSet<Concept> {
         let at = &self.elements[element];
         match (at.last, at.root) {

@@ -1,40 +1,43 @@
-//! The answers, the walk of the individuals and the paths.
+//! The answers, the walk of the individuals, what is come to below them, and the paths.
 
 use super::clash::clash;
 use super::rounds::step;
 use super::table::Table;
-use super::words::{counted, pair, states, Words};
-use crate::explain::path::{Move, Path};
+use super::words::{ask, counted, states, Words};
+use crate::ask::Ask;
+use crate::explain::below::{by_last_role, Before, Below, Found};
+use crate::explain::path::{Move, Path, Spot};
 use crate::explain::walk::{Ground, Leg, Place};
 use crate::explain::{Asked, Behind, Explanation};
 use crate::numbers::{Individual, State};
-use std::collections::BTreeSet;
+use std::collections::{BTreeMap, BTreeSet};
 
 const ANSWERS: [&str; 5] = ["Ask", "Answer", "Number", "Count", "The desk writes"];
 const WALK: [&str; 5] = ["Individual", "State", "Final", "Comes from", "By"];
+const BELOW: [&str; 5] = ["Element", "State", "Final", "Comes from", "By"];
 const PATH: [&str; 4] = ["Step", "Element", "State", "By"];
 
 /// Each ask's answer in words, its number and count, and the line of output.
 pub fn answers(explained: &Explanation) -> String {
     let mut table = Table::new(&ANSWERS);
     for asked in &explained.asks {
-        let Asked { first, second, number, count, .. } = asked;
-        let typed = format!("`8B{:02X}{:02X}{number:02X}{count:04X}`", first.0, second.0);
-        let words = in_words(asked);
-        table.row([pair(*first, *second), words, number.to_string(), count.to_string(), typed]);
+        let Asked { ask: asked_of, number, count, .. } = asked;
+        let bytes = asked_of.answered(*number, *count).into_iter();
+        let typed = format!("`{}`", bytes.map(|byte| format!("{byte:02X}")).collect::<String>());
+        table.row([ask(*asked_of), in_words(asked), number.to_string(), count.to_string(), typed]);
     }
     table.text()
 }
 
 pub fn answers_form(explained: &Explanation) -> String {
     let asks = explained.asks.iter();
-    Table::form(&ANSWERS, asks.map(|asked| vec![pair(asked.first, asked.second)])).text()
+    Table::form(&ANSWERS, asks.map(|asked| vec![ask(asked.ask)])).text()
 }
 
 /// A walk begins at the first individual of an ask, in the start state.
 pub fn walks_form(explained: &Explanation) -> String {
     let start = explained.file.collection.counts.start.0.to_string();
-    let firsts: BTreeSet<Individual> = explained.asks.iter().map(|asked| asked.first).collect();
+    let firsts: BTreeSet<Individual> = explained.asks.iter().map(|asked| asked.ask.first()).collect();
     let begin = |first: Individual| [vec![first.0.to_string(), start.clone()], Vec::new()];
     let forms: Vec<String> =
         firsts.into_iter().map(|first| Table::form(&WALK, begin(first)).text()).collect();
@@ -66,33 +69,65 @@ pub fn behind(explained: &Explanation, words: &Words) -> String {
 }
 
 fn behind_one(explained: &Explanation, asked: &Asked, words: &Words) -> String {
-    let asked_pair = pair(asked.first, asked.second);
+    let asked_pair = ask(asked.ask);
     match &asked.behind {
         Behind::Path(found) if found.stands.len() == 1 => {
             let state = found.stands[0].state.0;
             format!(
                 "{asked_pair}: the empty path. It stands at {} in state {state}, which is final.\n",
-                asked.first.0
+                asked.ask.first().0
             )
         }
         Behind::Path(found) => format!("{asked_pair}: the path.\n\n{}", path(found, words)),
-        Behind::Reached(places) => format!("{asked_pair}: {}\n", reached(explained, asked, places)),
+        Behind::Reached(places) => format!("{asked_pair}: {}\n", reached(explained, asked.ask, places)),
+        Behind::Everywhere(places, spots) => {
+            format!("{asked_pair}: {}\n", everywhere(explained, asked.ask, (places, spots), words))
+        }
         Behind::Nothing => format!("{asked_pair}: {}. The walk isn't worked.\n", in_words(asked)),
     }
 }
 
 /// In which states the walk comes to the second individual, none of them final.
-fn reached(explained: &Explanation, asked: &Asked, places: &[Place]) -> String {
+fn reached(explained: &Explanation, asked: Ask, places: &[Place]) -> String {
+    let Ask::Pair(first, second) = asked else { return String::new() };
     let collection = &explained.file.collection;
-    let there = places.iter().filter(|(who, _)| *who == asked.second).map(|(_, state)| *state);
+    let there = places.iter().filter(|(who, _)| *who == second).map(|(_, state)| *state);
     let there: BTreeSet<State> = there.collect();
-    let from = format!("from {} in state {} the walk", asked.first.0, collection.counts.start.0);
+    let from = format!("from {} in state {} the walk", first.0, collection.counts.start.0);
     if there.is_empty() {
-        return format!("{from} never comes to {}.", asked.second.0);
+        return format!("{from} never comes to {}.", second.0);
     }
     let finals = states(collection.finals.iter().copied());
     let there = states(there.into_iter());
-    format!("{from} comes to {} in these states only: {there}. Final: {finals}.", asked.second.0)
+    format!("{from} comes to {} in these states only: {there}. Final: {finals}.", second.0)
+}
+
+/// In which states any path comes to the individuals, and to what is below them, none of them final.
+fn everywhere(
+    explained: &Explanation,
+    asked: Ask,
+    (places, spots): (&[Place], &[Spot]),
+    words: &Words,
+) -> String {
+    let collection = &explained.file.collection;
+    let mut named: BTreeMap<Individual, BTreeSet<State>> = BTreeMap::new();
+    for (who, state) in places {
+        named.entry(*who).or_default().insert(*state);
+    }
+    let named =
+        named.into_iter().map(|(who, there)| format!("to {} in {}", who.0, states(there.into_iter())));
+    let unnamed = by_last_role(spots).into_iter();
+    let unnamed = unnamed.map(|(role, there)| {
+        format!("to rows that end in {} in {}", words.role(role), states(there.into_iter()))
+    });
+    let comes: Vec<String> = named.chain(unnamed).collect();
+    let finals = states(collection.finals.iter().copied());
+    let start = collection.counts.start.0;
+    let comes = comes.join("; ");
+    format!(
+        "from {} in state {start} paths come in these states only: {comes}. Final: {finals}.",
+        asked.first().0
+    )
 }
 
 fn path(path: &Path, words: &Words) -> String {
@@ -115,7 +150,7 @@ fn path(path: &Path, words: &Words) -> String {
 
 /// Where the walk from each first individual comes, in the order found.
 pub fn walks(explained: &Explanation, words: &Words) -> String {
-    let firsts: BTreeSet<Individual> = explained.asks.iter().map(|asked| asked.first).collect();
+    let firsts: BTreeSet<Individual> = explained.asks.iter().map(|asked| asked.ask.first()).collect();
     let ground = Ground::of(&explained.file, &explained.rounds);
     let mut text = String::new();
     for first in firsts {
@@ -135,6 +170,59 @@ pub fn walks(explained: &Explanation, words: &Words) -> String {
     text
 }
 
+/// The individuals that are asked whether a path leads to any element at all.
+fn asked_from(explained: &Explanation) -> BTreeSet<Individual> {
+    let from = |asked: &Asked| matches!(asked.ask, Ask::From(_)).then(|| asked.ask.first());
+    explained.asks.iter().filter_map(from).collect()
+}
+
+pub fn is_one_asked_from(explained: &Explanation) -> bool {
+    !asked_from(explained).is_empty()
+}
+
+const NO_ASK: &str = "No ask is of one individual.\n";
+
+/// Where paths from each individual that is asked of alone come below the individuals: of each last signed role and state the
+/// element found first.
+pub fn below(explained: &Explanation, words: &Words) -> String {
+    let ground = Ground::of(&explained.file, &explained.rounds);
+    let mut parts: Vec<String> = Vec::new();
+    for first in asked_from(explained) {
+        let walk = ground.walk(first);
+        let below = Below::of(&ground, &walk);
+        let mut table = Table::new(&BELOW);
+        for Found { spot: (element, state), from, leg } in &below.found {
+            let final_state = if explained.file.collection.finals.contains(state) { "yes" } else { "no" };
+            let from = match from {
+                Before::Walked(place) => standing(*place),
+                Before::Found(place) => {
+                    let (element, state) = &below.found[*place].spot;
+                    format!("{} in state {}", words.element(element), state.0)
+                }
+            };
+            let (name, by) = (words.element(element), leg_in_words(leg, words));
+            table.row([name, state.0.to_string(), final_state.to_string(), from, by]);
+        }
+        parts.push(match below.found.is_empty() {
+            true => format!("Below the individuals, from {}: no path comes there.\n", first.0),
+            false => format!("Below the individuals, from {}:\n\n{}", first.0, table.text()),
+        });
+    }
+    if parts.is_empty() {
+        return NO_ASK.to_string();
+    }
+    parts.join("\n")
+}
+
+pub fn below_form(explained: &Explanation) -> String {
+    let forms: Vec<String> =
+        asked_from(explained).iter().map(|_| Table::form(&BELOW, [Vec::new()]).text()).collect();
+    if forms.is_empty() {
+        return NO_ASK.to_string();
+    }
+    forms.join("\n")
+}
+
 fn standing((who, state): Place) -> String {
     format!("{} in state {}", who.0, state.0)
 }
@@ -144,5 +232,6 @@ fn leg_in_words(leg: &Leg, words: &Words) -> String {
         Leg::Fact { step: by, line } => format!("{}, along the fact on line {line}", step(by, words)),
         Leg::Test { name, line } => format!("test {} (line {line})", words.concept(*name)),
         Leg::Loop(mark) => format!("the mark {}", words.mark(*mark)),
+        Leg::Down { step: by } => format!("down by {}", step(by, words)),
     }
 }

@@ -1,10 +1,11 @@
 //! The figures of a file for a script: one line for each ask, parted by tabs.
 
 use super::rounds::{marks_after, marks_of_round_0, worked};
+use crate::ask::Ask;
 use crate::explain::Explanation;
 
-/// first, second, number, count, the marks of round 0, the marks that stand in the first area after the call, and those
-/// that each worked round added, parted by blanks, or a dash where there is none.
+/// first, second (a dash for an ask of one individual), number, count, the marks of round 0, the marks that stand in the first
+/// area after the call, and those that each worked round added, parted by blanks, or a dash where there is none.
 /// After a contradiction nothing is written there, and both counts of marks are 0.
 pub fn figures(explained: &Explanation) -> String {
     let (zero, standing, worked) = match explained.clash {
@@ -15,8 +16,11 @@ pub fn figures(explained: &Explanation) -> String {
     let added = if worked == 0 { "-".to_string() } else { added.collect::<Vec<String>>().join(" ") };
     let mut text = String::new();
     for asked in &explained.asks {
-        let (first, second) = (asked.first.0, asked.second.0);
-        let answer = format!("{first}\t{second}\t{}\t{}", asked.number, asked.count);
+        let second = match asked.ask {
+            Ask::Pair(_, second) => second.0.to_string(),
+            Ask::From(_) => "-".to_string(),
+        };
+        let answer = format!("{}\t{second}\t{}\t{}", asked.ask.first().0, asked.number, asked.count);
         text += &format!("{answer}\t{zero}\t{standing}\t{added}\n");
     }
     text

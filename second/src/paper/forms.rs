@@ -5,7 +5,7 @@ use super::{asks, exclusions, orders, question, records, rounds, tree, ways};
 use crate::explain::Explanation;
 
 /// Every form with its title, in the order of the work.
-pub const FORMS: [(&str, &str); 14] = [
+pub const FORMS: [(&str, &str); 15] = [
     ("records", "Step 1: the file"),
     ("numbers", "Step 1: the numbers"),
     ("orders", "Step 2: the orders"),
@@ -18,6 +18,7 @@ pub const FORMS: [(&str, &str); 14] = [
     ("sheets", "Step 6: the sheet, one for each round"),
     ("rounds", "Step 6: the marks of each round"),
     ("walks", "Step 7: the walk"),
+    ("below", "Step 7: below the individuals"),
     ("behind", "Step 8: the path"),
     ("answers", "Step 8: the answers"),
 ];
@@ -40,6 +41,7 @@ pub fn form(block: &str, input: &[u8], explained: &Explanation, words: &Words) -
         "sheets" => rounds::sheets_form(explained, words),
         "rounds" => rounds::rounds_form(),
         "walks" => asks::walks_form(explained),
+        "below" => asks::below_form(explained),
         "behind" => asks::path_form(),
         "answers" => asks::answers_form(explained),
         _ => return None,
@@ -48,7 +50,8 @@ pub fn form(block: &str, input: &[u8], explained: &Explanation, words: &Words) -
 
 /// All forms for a file, each with its title.
 pub fn all(input: &[u8], explained: &Explanation, words: &Words) -> String {
-    let titled = FORMS.iter().filter_map(|(block, title)| {
+    let needed = |block: &str| block != "below" || asks::is_one_asked_from(explained);
+    let titled = FORMS.iter().filter(|(block, _)| needed(block)).filter_map(|(block, title)| {
         let form = form(block, input, explained, words)?;
         Some(format!("## {title}\n\n{form}"))
     });

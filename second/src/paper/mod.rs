@@ -38,6 +38,7 @@ pub fn block(name: &str, input: &[u8], explained: &Explanation, words: &Words) -
         "sheets" => rounds::sheets(explained, words),
         "rounds" => rounds::rounds(explained, words),
         "walks" => asks::walks(explained, words),
+        "below" => asks::below(explained, words),
         "behind" => asks::behind(explained, words),
         "answers" => asks::answers(explained),
         "forms" => forms::all(input, explained, words),
@@ -110,6 +111,22 @@ mod tests {
             let filled = heads(block);
             assert!(filled.is_none() || filled == heads(&format!("empty-{block}")), "{block}");
         }
+    }
+
+    #[test]
+    fn an_ask_of_one_individual() {
+        let deed = B.replace("0A03", "0A02").replace("0B0000 0B0001", "0E00 0E01");
+        says("records", &deed, &["| 9 | `0E00` | ask 0 to any element |"]);
+        says("answers", &deed, &["| 1 to any element | no, 2 rounds | 0 | 2 | `8E01000002` |"]);
+        let down = "| 0·signs | 1 | no | 0 in state 0 | down by signs, 0 to 1 (line 5) |";
+        let mark = "| 0·signs | 2 | yes | 0·signs in state 1 | the mark (1, 2, ∃(signs backward)) |";
+        says("below", &deed, &[down, mark, "Below the individuals, from 1: no path comes there."]);
+        says("behind", &deed, &["0 to any element: the path.", "| 2 | 0·signs | 2 | test Deed (line 6) |"]);
+        says("behind", &deed, &["paths come in these states only: to 1 in 0. Final: 2."]);
+        says("forms", &deed, &["## Step 7: below the individuals"]);
+        says("below", B, &["No ask is of one individual."]);
+        assert!(!text("forms", B).contains("below the individuals"));
+        assert_eq!(text("figures", &deed), "0\t-\t1\t2\t24\t28\t2 2\n1\t-\t0\t2\t24\t28\t2 2\n");
     }
 
     const FACTS: &str = "010202030200 040002 030001 050103 060000 07000001 07010100 08000001 0A01 0B0001";

@@ -1,7 +1,8 @@
 //! The file line by line in words, and in what lines it differs from another file.
 
 use super::table::Table;
-use super::words::{pair, Words};
+use super::words::{ask, Words};
+use crate::ask::Ask;
 use crate::desk::frame::{frame, Frame};
 use crate::desk::read::lines;
 use crate::numbers::{Concept, Individual, Role};
@@ -70,7 +71,10 @@ fn in_words(line: &[u8], words: &Words) -> String {
             format!("test {} from state {from} to state {to}", concept(name))
         }
         Ok(Frame::Final(state)) => format!("state {state} is final"),
-        Ok(Frame::Ask(first, second)) => format!("ask {}", pair(Individual(first), Individual(second))),
+        Ok(Frame::Ask(first, second)) => {
+            format!("ask {}", ask(Ask::Pair(Individual(first), Individual(second))))
+        }
+        Ok(Frame::AskFrom(first)) => format!("ask {}", ask(Ask::From(Individual(first)))),
         Ok(Frame::Allowance(rounds)) => format!("allowance of rounds {rounds}"),
         Ok(Frame::Expression(marks)) => format!("expression {}", words.expression(&marks)),
         Err(number) => format!("faulty, number {number}"),

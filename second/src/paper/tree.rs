@@ -3,6 +3,7 @@
 use super::table::Table;
 use super::words::Words;
 use crate::element::Element;
+use crate::explain::below::spot;
 use crate::explain::clash::{Clash, What};
 use crate::explain::path::{unfold, Path};
 use crate::explain::walk::{Ground, Leg};
@@ -72,12 +73,17 @@ pub fn elements(clash: &Clash) -> Vec<&Element> {
 }
 
 fn depth_of_ask(explained: &Explanation, asked: &Asked) -> usize {
-    if let Behind::Path(path) = &asked.behind {
-        return deepest(path);
+    match &asked.behind {
+        Behind::Path(path) => return deepest(path),
+        Behind::Everywhere(_, spots) => {
+            return spots.iter().map(|(element, _)| element.row.len()).max().unwrap_or(0).max(1)
+        }
+        _ => {}
     }
-    let walk = Ground::of(&explained.file, &explained.rounds).walk(asked.first);
+    let walk = Ground::of(&explained.file, &explained.rounds).walk(asked.ask.first());
     let loops = walk.legs.iter().filter(|(_, (_, leg))| matches!(leg, Leg::Loop(_)));
-    let paths = loops.map(|(to, (from, leg))| unfold(&explained.rounds, *from, &[(*to, *leg)], MOST_STEPS));
+    let paths = loops
+        .map(|(to, (from, leg))| unfold(&explained.rounds, spot(*from), &[(spot(*to), *leg)], MOST_STEPS));
     paths.map(|path| deepest(&path)).max().unwrap_or(0).max(1)
 }
 

@@ -1,5 +1,6 @@
 //! How names, roles, elements and marks are written on the page and in the pictures.
 
+use crate::ask::Ask;
 use crate::element::Element;
 use crate::explain::chain::{Link, Rule};
 use crate::explain::rounds::Mark;
@@ -108,6 +109,14 @@ pub fn states(states: impl Iterator<Item = State>) -> String {
 /// `(0, 1)`, a pair of individuals.
 pub fn pair(first: Individual, second: Individual) -> String {
     format!("({}, {})", first.0, second.0)
+}
+
+/// `(0, 1)`, `0 to any element`.
+pub fn ask(ask: Ask) -> String {
+    match ask {
+        Ask::Pair(first, second) => pair(first, second),
+        Ask::From(first) => format!("{} to any element", first.0),
+    }
 }
 
 /// `1 round`, `2 rounds`; so for marks.

@@ -12,7 +12,7 @@ use crate::collection::Step;
 use crate::explain::{Asked, Behind, Explanation};
 use crate::paper::asks::in_words;
 use crate::paper::tree::{trees, Node, TooLarge};
-use crate::paper::words::{pair, states, Words};
+use crate::paper::words::{ask, states, Words};
 use lanes::{Lane, Stand};
 use place::Block;
 use scene::Scene;
@@ -98,7 +98,7 @@ fn beside(lanes: &[Lane], stands: &[Stand], at: usize, block: &Block) -> i32 {
 
 /// `(0, 0): yes, 2 rounds`, for each ask.
 fn answers(explained: &Explanation) -> Vec<String> {
-    let one = |asked: &Asked| format!("{}: {}", pair(asked.first, asked.second), in_words(asked));
+    let one = |asked: &Asked| format!("{}: {}", ask(asked.ask), in_words(asked));
     explained.asks.iter().map(one).collect()
 }
 
@@ -108,7 +108,10 @@ fn caption(scene: &Scene, trees: &[Node]) -> Vec<String> {
     let unnamed = trees.iter().any(|tree| !tree.children.is_empty());
     let edges = unnamed || !explained.file.collection.role_facts.is_empty();
     let alone = explained.file.collection.role_facts.iter().any(|(_, first, second)| first == second);
-    let no = explained.asks.iter().any(|asked| matches!(asked.behind, Behind::Reached(_)));
+    let no = explained
+        .asks
+        .iter()
+        .any(|asked| matches!(asked.behind, Behind::Reached(_) | Behind::Everywhere(..)));
     let parts = [
         (true, "Square boxes: individuals, with their concepts."),
         (unnamed, "Rounded boxes: unnamed elements, an individual followed by a row of signed roles."),
@@ -177,6 +180,7 @@ mod tests {
             "010202030600 020040 07010001 060001 07010102 08000201 08010002 08020103 08030204 09040005 0A04 0B0002",
             "010201010500 060000 060100 09000001 09010102 09020003 0A03 0B0000",
             "010002030100 050000 07010001 07000002 07010201 0A00 0B0000",
+            "010202020400 020040 024142 024340 060000 08000001 08010202 08020003 0A03 0E00 0B0000 0E01",
             "010202020300 07010000 07000001 08000201 08010002 0A02 0B0001 0B0000",
             "010202020300 07010000 07000001 08000201 08010002 0A02 050203 0B0001",
             "010203030600 060001 07010101 07000001 07000101 07020102 07010001 08000001 08010301 08010002 08020403 08030103 09030004 0A03 0A04 0B0002 0B0001",

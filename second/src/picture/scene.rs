@@ -127,8 +127,8 @@ fn path_of(asked: &Asked) -> Option<Vec<(Element, State)>> {
 }
 
 fn reached_of(asked: &Asked) -> Option<(Individual, &Vec<(Individual, State)>)> {
-    let Behind::Reached(places) = &asked.behind else { return None };
-    Some((asked.first, places))
+    let (Behind::Reached(places) | Behind::Everywhere(places, _)) = &asked.behind else { return None };
+    Some((asked.ask.first(), places))
 }
 
 /// The steps of the first path among the answers.

@@ -1,9 +1,11 @@
 //! The asks as text: the answer line, and the path as a row of elements and states.
 
 use super::names;
-use crate::explain::path::{Move, Path, Stand};
+use crate::ask::Ask;
+use crate::explain::below::by_last_role;
+use crate::explain::path::{Move, Path, Spot, Stand};
 use crate::explain::{Asked, Behind, Explanation};
-use crate::numbers::{Individual, State};
+use crate::numbers::{Individual, Role, State};
 use std::collections::{BTreeMap, BTreeSet};
 
 pub fn asks(explained: &Explanation) -> String {
@@ -18,11 +20,12 @@ pub fn asks(explained: &Explanation) -> String {
 }
 
 fn ask(asked: &Asked, explained: &Explanation) -> String {
-    let Asked { line, first, second, number, count, behind } = asked;
-    let mut text = format!(
-        "Line {line}: ({first}, {second}): 8B{:02X}{:02X}{number:02X}{count:04X}, ",
-        first.0, second.0
-    );
+    let Asked { line, ask, number, count, behind } = asked;
+    let written: String = ask.answered(*number, *count).iter().map(|byte| format!("{byte:02X}")).collect();
+    let mut text = match ask {
+        Ask::Pair(first, second) => format!("Line {line}: ({first}, {second}): {written}, "),
+        Ask::From(first) => format!("Line {line}: {first} to any element: {written}, "),
+    };
     match behind {
         Behind::Path(path) => {
             text += &format!("yes, {}\n{}", names::rounds((*count).into()), self::path(path))
@@ -30,7 +33,13 @@ fn ask(asked: &Asked, explained: &Explanation) -> String {
         Behind::Reached(places) => {
             let start = explained.file.collection.counts.start;
             text += &format!("no, {}\n", names::rounds((*count).into()));
-            text += &format!("  from ({first}, {start}) the walk reaches {}\n", reached(places));
+            text += &format!("  from ({}, {start}) the walk reaches {}\n", ask.first(), reached(places));
+        }
+        Behind::Everywhere(places, spots) => {
+            let start = explained.file.collection.counts.start;
+            text += &format!("no, {}\n", names::rounds((*count).into()));
+            text += &format!("  from ({}, {start}) paths come to {}\n", ask.first(), reached(places));
+            text += &format!("  and below the individuals {}\n", unnamed(spots));
         }
         Behind::Nothing if *number == 2 => text += "contradiction\n",
         Behind::Nothing => {
@@ -52,6 +61,18 @@ fn reached(places: &[(Individual, State)]) -> String {
     };
     let all: Vec<String> = by_person.iter().map(one).collect();
     all.join("; ")
+}
+
+/// The first element found with each last signed role stands for all that end so.
+fn unnamed(spots: &[Spot]) -> String {
+    if spots.is_empty() {
+        return "nowhere".to_string();
+    }
+    let one = |(role, states): (Role, BTreeSet<State>)| {
+        let states: Vec<String> = states.iter().map(State::to_string).collect();
+        format!("to rows that end in {role} in {}", states.join(", "))
+    };
+    by_last_role(spots).into_iter().map(one).collect::<Vec<String>>().join("; ")
 }
 
 fn path(path: &Path) -> String {

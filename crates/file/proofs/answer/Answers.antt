@@ -1,7 +1,7 @@
 use Rattle.std.proofs.Common.{arith, length-take}
 use Rattle.file.proofs.Served.{wrote}
 use Rattle.file.proofs.WritesLaws.{writes-once}
-use Rattle.file.proofs.Told.{listed, text-long, fault-told}
+use Rattle.file.proofs.Told.{listed, text-long, text-lines, fault-told}
 use Rattle.file.proofs.answer.Goals as goal
 
 pub unreachable-requires : goal.unreachable-requires
@@ -16,6 +16,9 @@ returns-clause-only c = λ out w. writes-once w (returns-clause-written c)
 pub returns-clause-long : goal.returns-clause-long
 returns-clause-long c = λ fs q s counts t.
     omega (arith, text-long (returns-clause-written c) fs q s counts t, length-take c.copy_found.result c.copy_found.new.text, c.copy_found.ensures.within)
+
+pub returns-clause-many : goal.returns-clause-many
+returns-clause-many c = λ fs q s counts t. text-lines (returns-clause-written c) fs q s counts t
 
 pub returns-clause-listed : goal.returns-clause-listed
 returns-clause-listed c = λ fs s. listed (returns-clause-written c) fs s

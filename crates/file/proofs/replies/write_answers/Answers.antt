@@ -1,7 +1,7 @@
-use Rattle.std.proofs.Common.{Iter, inl, inr, ⊎_elim, ap, ◌∙◌, arith}
+use Rattle.std.proofs.Common.{refl, Iter, inl, inr, ⊎_elim, ap, ◌∙◌, arith}
 use Rattle.std.specs.Slice.Iter.{iter_rest}
 use Rattle.kinds.specs.declared.Answer.{Answer}
-use Rattle.tables.specs.declared.ask.Ask.{Ask}
+use Rattle.kinds.specs.declared.Ask.{Ask}
 use Rattle.tables.specs.declared.table.Records.{Records}
 use Rattle.file.proofs.Each.{all_left, ask_in_bytes, answered_next, left_next, none_left}
 use Rattle.file.proofs.Turns.{passed_on, none_done, more_done, all_done, all_from}
@@ -18,8 +18,8 @@ loop-ask-init g c =
     rw (c.into_iter-ask-iterator.ensures.into_iter_gives)
     (record { question = worked.rounds.question; here = left; done = rw first (none_done _ _ worked.rounds) })
 
-pub answer-requires : goal.answer-requires
-answer-requires g c =
+pub put_answer-requires : goal.put_answer-requires
+put_answer-requires g c =
     let p = c.in-Some.ensures.steps in
     ask_in_bytes _ _ _ _ _ _ _ _ c.loop-ask.invariant.here p.0.0 p.0.1 p.1 c.requires c.loop-ask.invariant.done.is
 
@@ -27,8 +27,8 @@ pub loop-ask-preserved : goal.loop-ask-preserved
 loop-ask-preserved g c =
     let p = c.in-Some.ensures.steps in
     let v = c.loop-ask.invariant in
-    let line = answered_next _ _ _ _ _ _ _ _ v.here p.0.0 p.0.1 p.1 _ c.answer.ensures in
-    let done = more_done c.args.file.now v.question _ (λ out. g.T.Taker.takes c.args.to.now out c.put.new.self) _ _ line (λ x t. g.met.T.Taker.more _ _ _ x _ t c.in_ok-put.ensures.ok) v.done in
+    let line = answered_next _ _ _ _ _ _ _ _ v.here p.0.0 p.0.1 p.1 _ refl in
+    let done = more_done c.args.file.now v.question _ (λ out. g.T.Taker.takes c.args.to.now out c.put_answer.new.to) _ _ line (λ x t. g.met.T.Taker.more _ _ _ x _ t c.in_ok-put_answer.ensures.ok) v.done in
     record {
       question = v.question;
       here = left_next _ _ _ _ _ _ _ _ v.here p.0.0 p.0.1 p.1;
@@ -40,15 +40,15 @@ returns-in_err-work_out-clause-err g c =
     passed_on c.from_residual.result _ _ c.from_residual.ensures.1
     (all_from c.args.file.now _ _ (λ x y t. g.met.T.Taker.before _ _ x y _ t) 0 (omega arith) (none_done _ _ c.in_err-work_out.ensures.err))
 
-pub returns-in_err-put-clause-err : goal.returns-in_err-put-clause-err
-returns-in_err-put-clause-err g c =
+pub returns-in_err-put_answer-clause-err : goal.returns-in_err-put_answer-clause-err
+returns-in_err-put_answer-clause-err g c =
     let p = c.in-Some.ensures.steps in
     let v = c.loop-ask.invariant in
-    let line = answered_next _ _ _ _ _ _ _ _ v.here p.0.0 p.0.1 p.1 _ c.answer.ensures in
+    let line = answered_next _ _ _ _ _ _ _ _ v.here p.0.0 p.0.1 p.1 _ refl in
     let next = left_next _ _ _ _ _ _ _ _ v.here p.0.0 p.0.1 p.1 in
-    passed_on c.from_residual-in_err-put.result _ _ c.from_residual-in_err-put.ensures.1
+    passed_on c.from_residual-in_err-put_answer.result _ _ c.from_residual-in_err-put_answer.ensures.1
     (all_from c.args.file.now v.question _ (λ x y t. g.met.T.Taker.before _ _ x y _ t) _ (omega (arith, p.0.0.after, next.within))
-    (more_done c.args.file.now v.question _ _ _ _ line (λ x t. g.met.T.Taker.after _ _ _ x _ _ t c.in_err-put.ensures.err) v.done))
+    (more_done c.args.file.now v.question _ _ _ _ line (λ x t. g.met.T.Taker.after _ _ _ x _ _ t c.in_err-put_answer.ensures.err) v.done))
 
 pub returns-clause-ok : goal.returns-clause-ok
 returns-clause-ok g c =

@@ -9,4 +9,4 @@ pub returns-clause-one_answer : goal.returns-clause-one_answer
 returns-clause-one_answer g c = answer-once
 
 pub returns-clause-one_row : goal.returns-clause-one_row
-returns-clause-one_row g c p t area spare x y u v n = in-turn-once p t g.A.AnyPlace.tells g.B.AnyPlace.tells area spare n
+returns-clause-one_row g c p ask area spare x y u v n = in-turn-once p ask g.A.AnyPlace.tells g.B.AnyPlace.tells area spare n

@@ -46,7 +46,9 @@ returns-in-Needed-clause-found g c =
     let w = needed_of _ c.requires c.fill-3.new.self r _ _ (rw c.in-Needed.is at c.in_ok-ran.ensures.ended) in
     let paths =
     paths-right _ c.requires c.new-roles.result c.new-order.result c.new-roles.ensures q c.new-order.ensures.turned c.fill-3.new.self r _ w.0 c.run.new.self.sheet c.fill.new.self.individuals
-    (rw c.in-Needed.is at c.in_ok-ran.ensures.sheet).sheet c.fill.ensures.individuals _ c.fill-in-Needed.ensures c.fill-2.ensures (rw c.new-hops.ensures refl) c.new-question.ensures.start c.new-question.ensures.finals in
+    (rw c.in-Needed.is at c.in_ok-ran.ensures.sheet).sheet c.fill.ensures.individuals _ c.fill-in-Needed.ensures c.fill-2.ensures (rw c.new-hops.ensures refl)
+    c.new-tree.result c.new-tree.ensures.below c.new-tree.ensures.ways c.new-tree.ensures.sheet c.new-tree.ensures.finals
+    c.new-question.ensures.start c.new-question.ensures.finals c.new-question.ensures.exits in
     record { sane = λ k. fails c.clash.ensures c.if-clash.false (right.1 k); needed = w.0; allowed = w.1; paths = paths }
 
 pub returns-in-Needed-clause-first : goal.returns-in-Needed-clause-first

@@ -3,7 +3,7 @@ use Rattle.std.proofs.Common.{ap}
 use Rattle.meaning.specs.Model.{bare, grown, fact, child, parent, ahead, behind}
 use Rattle.meaning.proofs.Clash.{last}
 use Rattle.meaning.proofs.ModelLaws.{born, bare-declared, row-of, self-edges}
-use Rattle.meaning.proofs.StraightBack.{straight-back-contradiction, straight-back-yes}
+use Rattle.meaning.proofs.StraightBack.{straight-back-contradiction, straight-back-yes, straight-back-leaves}
 use Rattle.meaning.specs.Model.{individuals}
 use Rattle.meaning.proofs.model.elements.Goals as goal
 
@@ -19,4 +19,5 @@ returns c = record {
   neighbours_differ = λ 𝓒 x R S n e. n (ap (last 𝓒) e);
   lean_contradiction = straight-back-contradiction;
   lean_yes = straight-back-yes;
+  lean_leaves = straight-back-leaves;
 }

@@ -1,5 +1,6 @@
 -- Tables, question and answers are the collection's.
 use Rattle.walk.proofs.Mean.{loops-mean, tables-mean, question-mean, walk-mean, yes-mean}
+use Rattle.walk.proofs.ExitMean.{exits-mean}
 use Rattle.walk.proofs.theorems.meant.Goals as goal
 
 pub returns-clause-loops_mean : goal.returns-clause-loops_mean
@@ -7,6 +8,9 @@ returns-clause-loops_mean c counts t f = loops-mean counts t f.counts f.numbers
 
 pub returns-clause-tables_mean : goal.returns-clause-tables_mean
 returns-clause-tables_mean c counts t f = tables-mean counts t f.counts f.numbers
+
+pub returns-clause-exits_mean : goal.returns-clause-exits_mean
+returns-clause-exits_mean c counts t f = exits-mean counts t f.counts f.numbers
 
 pub returns-clause-question_means : goal.returns-clause-question_means
 returns-clause-question_means c counts t f = question-mean counts t f.counts f.numbers

@@ -1,0 +1,15 @@
+-- `live_to`: each turn puts in one state in which the way leads on.
+use Rattle.std.proofs.Common.{arith}
+use Rattle.sets.specs.Bits.{state_width}
+use Rattle.walk.specs.Onward.{IsLive}
+use Rattle.walk.proofs.SetLaws.{gathered_more, gathered_end}
+use Rattle.walk.proofs.OnwardLaws.{live_test}
+use Rattle.walk.proofs.onward.live_to.Goals as goal
+
+pub loop-t-preserved : goal.loop-t-preserved
+loop-t-preserved c =
+    gathered_more (IsLive c.args.tree.now.finals.0 c.args.now.now c.args.child) state_width _ _ _ _ (omega arith) c.loop-t.invariant c.with-out.ensures
+    (live_test _ _ _ _ _ c.loop-t-test.true c.goes.ensures)
+
+pub returns : goal.returns
+returns c = gathered_end (IsLive c.args.tree.now.finals.0 c.args.now.now c.args.child) _ _ (λ t w. let l = w.low in omega arith) c.loop-t.invariant
