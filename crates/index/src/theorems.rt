@@ -24,7 +24,8 @@ pub fn unique<A: AnyPlace, B: AnyPlace>()
         → Left p area spare x y → Left p area spare u v → (x ≡ u) × (y ≡ v) }
     ensures one_answer { (p : Preparation) (ask : Ask) (r q : Answer)
         → IsAnswer p ask r → IsAnswer p ask q → r ≡ q }
-    ensures one_row { (p : Preparation) (ask : ℕ → Ask) (area spare x y u v : List ℕ) (n : ℕ)
+    ensures one_row { (p : Preparation) (ask : ℕ → Ask)
+        (area spare x y u v : List ℕ) (n : ℕ)
         → InTurn p ask A.tells area spare n x y → InTurn p ask B.tells area spare n u v
         → (x ≡ u) × (y ≡ v) × ((k : ℕ) → k < n → SameAt A.tells B.tells k) }
 {}
@@ -41,5 +42,6 @@ pub fn told()
 pub fn settled()
     ensures one_needed { (p : Preparation) → AtMostOne (HasRounds p) }
     ensures one_reason { (p : Preparation) → AtMostOne (NoRounds p) }
-    ensures not_both { (p : Preparation) (n : ℕ) (r : Answer) → HasRounds p n → ¬ NoRounds p r }
+    ensures not_both { (p : Preparation) (n : ℕ) (r : Answer)
+        → HasRounds p n → ¬ NoRounds p r }
 {}
