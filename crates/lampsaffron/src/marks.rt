@@ -50,7 +50,8 @@ fn work_out<'a, 'b>(lent: &Lent, area: &mut [u8], spare: &mut [u8], row: &'b mut
     ensures number { let p = preparation lent.now (length area.old) (length spare.old) in
         MarksNumber p (length row.old.counts.now) result }
     ensures sheet { let p = preparation lent.now (length area.old) (length spare.old) in
-        HasSheet p → (n : ℕ) → RoundsNeeded p n → HoldsSheet p (min n p.allowance) area.new }
+        HasSheet p → (n : ℕ) → RoundsNeeded p n
+        → HoldsSheet p (min n p.allowance) area.new }
     ensures cleared { let p = preparation lent.now (length area.old) (length spare.old) in
         HasSheet p → spare.new ≡ zeros }
     ensures untouched { let p = preparation lent.now (length area.old) (length spare.old) in
