@@ -8,15 +8,25 @@ static const uint16_t rules[] = {0, 64, 65, 1}, facts[] = {0, 0};
 static const uint16_t steps[] = {0, 0, 0, 1, 1, 1, 1, 2, 0, 2, 1, 3}, finals[] = {3}, none[1];
 static uint8_t area[LAMPSAFFRON_AREA], spare[LAMPSAFFRON_AREA];
 
+/* Whether the mark (s, t, B) stands in the first area. */
+static int stands(unsigned s, unsigned t, unsigned concept) {
+    unsigned place = s * 2048 + t * 128 + concept;
+    return area[place / 8] >> (place % 8) & 1;
+}
+
 int main(void) {
     uint16_t count;
     for (uint16_t second = 0; second < 2; second++) {
         uint8_t number = lampsaffron_ask(2, 2, 2, 4, 0, rules, 4, none, 0, none, 0, none, 0,
             facts, 2, none, 0, steps, 12, finals, 1, 0, second, 64, area, sizeof area, spare, sizeof spare, &count);
         int marks = 0;
-        for (int i = 0; i < LAMPSAFFRON_AREA; i++) marks += area[i];
+        for (unsigned s = 0; s < 16; s++)
+            for (unsigned t = 0; t < 16; t++)
+                for (unsigned concept = 0; concept < 128; concept++) marks += stands(s, t, concept);
         printf("(0, %d): number %d, count %d, marks %d\n", second, number, count, marks);
     }
+    /* What the sheet says of Owner: a path leads from an owner in state 0 back to it in state 3, and none back in state 2. */
+    for (unsigned t = 2; t < 4; t++) printf("(0, %u, Owner): %s\n", t, stands(0, t, 0) ? "marked" : "not marked");
     /* Both pairs in one call, which works the collection out once. */
     static const uint16_t pairs[] = {0, 0, 0, 1};
     uint8_t numbers[2];

@@ -41,6 +41,15 @@ extern "C" {
     ) -> u8;
 }
 
+/// The bytes of each area.
+const AREA: usize = 4096;
+
+/// Whether the mark (s, t, B) stands in the first area.
+fn stands(area: &[u8], s: usize, t: usize, concept: usize) -> bool {
+    let place = s * 2048 + t * 128 + concept;
+    area[place / 8] >> (place % 8) & 1 == 1
+}
+
 fn main() {
     // Owner 0, Deed 1; signs 0, holds 1. Owner ≤ ∃signs; ∃(signs backward) ≤ Deed; Owner(0).
     let rules: [u16; 4] = [0, 64, 65, 1];
@@ -49,7 +58,7 @@ fn main() {
     let steps: [u16; 12] = [0, 0, 0, 1, 1, 1, 1, 2, 0, 2, 1, 3];
     let finals: [u16; 1] = [3];
     let none: [u16; 0] = [];
-    let (mut area, mut spare) = (vec![0u8; 32768], vec![0u8; 32768]);
+    let (mut area, mut spare) = ([0u8; AREA], [0u8; AREA]);
     for second in 0..2 {
         let mut count = 0u16;
         // Slices are never null, and the two areas and the count are apart: what the call asks of its pointers.
@@ -70,8 +79,14 @@ fn main() {
                 &mut count,
             )
         };
-        let marks: usize = area.iter().map(|&m| m as usize).sum();
+        let pairs = (0..16).flat_map(|s| (0..16).map(move |t| (s, t)));
+        let at = |(s, t)| (0..128).filter(|&concept| stands(&area, s, t, concept)).count();
+        let marks: usize = pairs.map(at).sum();
         println!("(0, {second}): number {number}, count {count}, marks {marks}");
+    }
+    // What the sheet says of Owner: a path leads from an owner in state 0 back to it in state 3, and none back in state 2.
+    for t in 2..4 {
+        println!("(0, {t}, Owner): {}", if stands(&area, 0, t, 0) { "marked" } else { "not marked" });
     }
     // Both pairs in one call, which works the collection out once.
     let pairs: [u16; 4] = [0, 0, 0, 1];

@@ -6,8 +6,9 @@
 #include <stddef.h>
 #include <stdint.h>
 
-/* The bytes of each of the two areas. */
-#define LAMPSAFFRON_AREA 32768
+/* The bytes of each of the two areas. The mark (s, t, B) has place p = s * 2048 + t * 128 + B, and stands at bit p % 8, counted from the
+   least, of byte p / 8. */
+#define LAMPSAFFRON_AREA 4096
 
 /* The most pairs of one row. */
 #define LAMPSAFFRON_PAIRS 256

@@ -6,7 +6,7 @@
 extern long read(int from, void *bytes, size_t most);
 extern long write(int to, const void *bytes, size_t length);
 
-enum { TABLES = 8, MOST_NUMBERS = 65535, MOST_AREA = 65536, MOST_ENTRIES = 1024, MOST_MADE = 4096, GUARD = 64 };
+enum { TABLES = 8, MOST_NUMBERS = 65535, MOST_AREA = 32768, MOST_ENTRIES = 1024, MOST_MADE = 4096, GUARD = 64 };
 
 /* The tables, and after them the pairs of a row. */
 enum { PAIRS = TABLES };

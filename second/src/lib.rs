@@ -1,5 +1,6 @@
 //! The second program: the rules (docs/RULES.md) worked once more, to be compared with the first.
 
+pub mod area;
 pub mod ask;
 pub mod below;
 pub mod clash;

@@ -1,6 +1,7 @@
 //! The library's calls: over lent tables, with both areas (docs/RULES.md, sections 3 and 7); what each round adds (section 6);
 //! from marks to tables (section 8).
 
+use crate::area::AREA;
 use crate::ask::Ask;
 use crate::collection::{Collection, Counts, Step};
 use crate::expression::automaton::Automaton;
@@ -8,7 +9,6 @@ use crate::expression::read::{expression, too_deep};
 use crate::expression::Letter;
 use crate::numbers::{Concept, Individual, Role, State, MOST_STATES};
 use crate::prepared::{Prepared, ALLOWANCE_SPENT, CONTRADICTION};
-use crate::sheet::AREA;
 
 /// How many numbers a record has and how many records there may be, in the order of docs/RULES.md, section 3.
 pub const SHAPES: [(usize, usize); 8] =
@@ -106,7 +106,7 @@ pub fn marks(call: &Call, room: usize, area: &mut [u8], spare: &mut [u8]) -> (u8
         Ok(collection) => collection,
     };
     let prepared = Prepared::of(&collection, call.allowance);
-    let (Some(added), Some(bytes)) = (prepared.added(), prepared.sheet_bytes()) else {
+    let (Some(added), Some(bytes)) = (prepared.added(), prepared.area()) else {
         return (CONTRADICTION, Vec::new());
     };
     area.copy_from_slice(&bytes);
@@ -124,7 +124,7 @@ fn ask_each(call: &Call, asks: &[Asked], area: &mut [u8], spare: &mut [u8]) -> V
     let answer = |asked: &Asked| {
         let Some(ask) = declared(&collection.counts, asked) else { return (8, 0) };
         let prepared = prepared.get_or_insert_with(|| Prepared::of(&collection, call.allowance));
-        if let Some(bytes) = prepared.sheet_bytes() {
+        if let Some(bytes) = prepared.area() {
             area.copy_from_slice(&bytes);
             spare.fill(0);
         }

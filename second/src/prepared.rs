@@ -1,5 +1,6 @@
 //! A sound collection prepared once, so that many asks can be put to it.
 
+use crate::area;
 use crate::ask::Ask;
 use crate::below::below;
 use crate::clash::contradiction;
@@ -74,7 +75,7 @@ impl<'a> Prepared<'a> {
     }
 
     /// The first area after 0, 1 and 3; None where the areas stay untouched.
-    pub fn sheet_bytes(&self) -> Option<Vec<u8>> {
-        self.closing.as_ref().map(|done| done.sheet.bytes())
+    pub fn area(&self) -> Option<Vec<u8>> {
+        self.closing.as_ref().map(|done| area::holding(done.sheet.marks()))
     }
 }

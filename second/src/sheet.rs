@@ -1,16 +1,21 @@
 //! The loop sheet, round by round; a row of 16 bits holds the marks (s, ·, B).
 
 use crate::collection::{Collection, Step};
-use crate::numbers::{Concept, Role};
+use crate::numbers::{Concept, Role, State};
 use crate::order::{marked, Orders};
-
-/// The bytes of one area.
-pub const AREA: usize = 32_768;
 
 /// One relation between states: bit t of entry s.
 pub type Relation = [u16; 16];
 
 const NOTHING: Relation = [0; 16];
+
+/// (s, t, B): a path leads from an element that has B in state s back to it in state t.
+#[derive(Clone, Copy, Debug, PartialEq, Eq, Hash, PartialOrd, Ord)]
+pub struct Mark {
+    pub from: State,
+    pub to: State,
+    pub concept: Concept,
+}
 
 #[derive(Clone, PartialEq, Eq)]
 pub struct Sheet {
@@ -122,7 +127,7 @@ impl Rules {
     /// Works rounds until the sheet stays as it is or the allowance is spent.
     pub fn close(&self, allowance: u16) -> Closing {
         let mut closing = Closing { added: Vec::new(), spent: false, sheet: self.round_zero() };
-        let mut standing = closing.sheet.marks();
+        let mut standing = closing.sheet.standing();
         loop {
             let next = self.round(&closing.sheet);
             // Finding that nothing changes isn't counted.
@@ -131,7 +136,7 @@ impl Rules {
                 return closing;
             }
             // A round keeps all marks, so it added as many as stand now and didn't before.
-            let then_standing = next.marks();
+            let then_standing = next.standing();
             closing.added.push(then_standing - standing);
             standing = then_standing;
             closing.sheet = next;
@@ -145,22 +150,18 @@ impl Sheet {
     }
 
     /// How many marks stand: 16 × 16 × 128 at most.
-    pub fn marks(&self) -> u16 {
+    fn standing(&self) -> u16 {
         let rows = self.loops.iter().flatten();
         rows.map(|row| row.count_ones() as u16).sum()
     }
 
-    /// The mark (s, t, B) at byte s×2,048 + t×128 + B.
-    pub fn bytes(&self) -> Vec<u8> {
-        let mut bytes = vec![0; AREA];
-        for (concept, relation) in self.loops.iter().enumerate() {
-            for (from, row) in relation.iter().enumerate() {
-                for to in marked(u128::from(*row)) {
-                    bytes[from * 2_048 + usize::from(to) * 128 + concept] = 1;
-                }
-            }
-        }
-        bytes
+    pub fn marks(&self) -> impl Iterator<Item = Mark> + '_ {
+        let concepts = (0..128).map(Concept);
+        let rows = concepts.flat_map(|concept| (0..16).map(move |from| (State(from), concept)));
+        rows.flat_map(|(from, concept)| {
+            let row = self.loops(concept)[from.at()];
+            marked(row.into()).map(move |to| Mark { from, to: State(to), concept })
+        })
     }
 }
 

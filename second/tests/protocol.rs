@@ -1,5 +1,6 @@
 //! PROTOCOL.md's four examples, read and answered as it is written there.
 
+use second::area::AREA;
 use second::compare::protocol::{answer, hash, read_request, reply, request};
 
 /// The lines of the document's code blocks, for a pair, a row, marks and one individual: the request, broken over several, and the reply.
@@ -60,7 +61,7 @@ fn a_row_that_does_not_fit_leaves_all_as_it_was() {
     let (line, _) = &examples()[1];
     // Two entries for the counts of three pairs.
     let lent = read_request(&line.replace("00030003AA", "00030002AA")).expect("a request");
-    let untouched = [hash(&[0; 32_768]), hash(&[0xFF; 32_768]), hash(&[0xFF; 64]), hash(&[0; 64])];
+    let untouched = [hash(&[0; AREA]), hash(&[0xFF; AREA]), hash(&[0xFF; 64]), hash(&[0; 64])];
     let behind = hash(&[0x55; 64]);
     let areas: String = untouched.iter().map(|hash| format!("{hash:016X}")).collect();
     let reply = format!("00AAAAAA{behind:016X}AAAAAAAA{behind:016X}{areas}");
@@ -95,7 +96,7 @@ fn what_is_no_request() {
     assert!(read_request(&format!("{line}0")).is_none());
     assert!(read_request(&line.to_lowercase()).is_none());
     // An area longer than a driver holds.
-    assert!(read_request(&line.replace("0000800000008000", "0001000100008000")).is_none());
+    assert!(read_request(&line.replace("0000100000001000", "0000800100001000")).is_none());
 }
 
 #[test]

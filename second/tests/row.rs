@@ -1,10 +1,10 @@
 //! A row of pairs is what asking each does, one after the other with the same two areas.
 
+use second::area::AREA;
 use second::ask::Ask;
 use second::compare::sample::sample;
 use second::desk::read::read;
 use second::library::{ask, ask_all, Call, PAIRS};
-use second::sheet::AREA;
 use std::collections::BTreeSet;
 
 /// Sound collections, each with an undeclared pair before its asks, after them and in the middle.

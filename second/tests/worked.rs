@@ -1,12 +1,11 @@
 //! Cases 1 to 21 and the collection with facts (docs/PAPER.md and cases/README.md), asked of the desk, the library and the built-out model.
 
+use second::area::{holding, standing, AREA};
 use second::ask::Ask;
 use second::desk::{desk, read::read};
 use second::library::{ask, ask_from, marks, Call};
 use second::model::{self, known::Known, letter, Answer, Model};
 use second::numbers::Individual;
-
-const AREA: usize = 32_768;
 
 /// Base collection B without its asks.
 const B: &str = "010202020400 020040 024101 060000 08000001 09010102 08020103 0A03";
@@ -56,7 +55,7 @@ fn agree(words: &str, (first, second): (u8, u8), (number, count): (u8, u16), add
         assert!(area.iter().all(|byte| *byte == 0x5A) && spare.iter().all(|byte| *byte == 0xA5));
     } else {
         let sheets = letter::all_rounds(&known);
-        assert_eq!(area, sheets[usize::from(count)]);
+        assert_eq!(area, holding(sheets[usize::from(count)].iter().copied()));
         assert_eq!(letter::added(&sheets[..=usize::from(count)]), added);
         assert!(spare.iter().all(|byte| *byte == 0));
         assert_eq!(number == 3, sheets.len() - 1 > usize::from(count));
@@ -104,7 +103,7 @@ fn the_whole_worked_input() {
 #[test]
 fn case_1_and_2_b() {
     let sheet = agree(B, (0, 0), (1, 2), &[2, 2]);
-    assert_eq!(sheet.iter().map(|byte| u32::from(*byte)).sum::<u32>(), 28);
+    assert_eq!(standing(&sheet), 28);
     agree(B, (0, 1), (0, 2), &[2, 2]);
 }
 
@@ -126,8 +125,13 @@ fn case_1_with_tables_written_by_hand() {
     };
     let (mut area, mut spare) = (vec![7; AREA], vec![7; AREA]);
     assert_eq!(ask(&call, [0, 0], &mut area, &mut spare), (1, 2));
-    // Owner goes down to its deed and comes back: (0, 3, Owner).
-    assert_eq!(area[3 * 128], 1);
+    // Owner and ∃signs go down to a deed and come back, (0, 3, 0) and (0, 3, 64): places 384 and 448.
+    assert_eq!(area[48..64], [1, 0, 0, 0, 0, 0, 0, 0, 1, 0, 0, 0, 0, 0, 0, 0]);
+    // Of the six concepts 0, 1 and 64 to 67 the four states lead to themselves: places 0, 2,176, 4,352 and 6,528 on.
+    for state in 0..4 {
+        let row: [u8; 16] = area[state * 272..][..16].try_into().expect("16 bytes");
+        assert_eq!(row, [0b11, 0, 0, 0, 0, 0, 0, 0, 0b1111, 0, 0, 0, 0, 0, 0, 0]);
+    }
 }
 
 #[test]
@@ -235,7 +239,7 @@ fn a_loop_on_the_way_down() {
 #[test]
 fn facts_walked_along_and_backward() {
     let sheet = agree(FACTS, (0, 2), (1, 3), &ADDED);
-    assert_eq!(sheet.iter().map(|byte| u32::from(*byte)).sum::<u32>(), 45);
+    assert_eq!(standing(&sheet), 45);
     agree(FACTS, (2, 0), (1, 3), &ADDED);
     agree(FACTS, (0, 0), (1, 3), &ADDED);
     agree(FACTS, (0, 1), (0, 3), &ADDED);
@@ -282,11 +286,11 @@ fn the_refusals_of_the_call_for_the_marks_of_rounds() {
 #[test]
 fn cases_13_to_16_an_edge_to_itself() {
     let sheet = agree(THIRTEEN, (0, 1), (1, 0), &[]);
-    assert_eq!(sheet.iter().map(|byte| u32::from(*byte)).sum::<u32>(), 18);
+    assert_eq!(standing(&sheet), 18);
     agree(THIRTEEN, (0, 0), (0, 0), &[]);
     agree(&format!("{THIRTEEN} 050203"), (0, 1), (2, 0), &[]);
     let sheet = agree(&format!("{B} 07010000 0C0001"), (0, 0), (3, 1), &[2]);
-    assert_eq!(sheet.iter().map(|byte| u32::from(*byte)).sum::<u32>(), 26);
+    assert_eq!(standing(&sheet), 26);
 }
 
 #[test]
@@ -313,12 +317,6 @@ fn marks_mean_what_the_rules_say() {
         let known = Known::of(&file.collection);
         let closed = letter::all_rounds(&known).pop().expect("at least round 0");
         let model = Model::of(&known).expect("a small model");
-        let mut marks = vec![0; AREA];
-        for (concept, pairs) in model.loops() {
-            for (from, to) in pairs {
-                marks[from.at() * 2_048 + to.at() * 128 + concept.at()] = 1;
-            }
-        }
-        assert_eq!(marks, closed);
+        assert_eq!(*model.loops(), closed);
     }
 }

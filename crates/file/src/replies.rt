@@ -12,13 +12,12 @@ ghost use Rattle.file.specs.Replying.{ask_count, RoundsAll, AnswersEach, Answers
 use crate::{MOST_TEXT, text};
 use expression::Automaton;
 use index::{Lent, Routes};
-use kinds::{Answer, Ask, MarkCount, RoundListener, Rounds};
+use kinds::{AREA, Answer, Ask, MarkCount, RoundListener, Rounds};
 use reading::{ASKS, Fault, File};
 use std::io;
 use streams::memory::Page;
 use streams::output::Gathered;
 use streams::{Sink, Taker};
-use tables::collection::AREA;
 
 // What takes the lines of rounds, as they are worked.
 #[derive(Drop)]

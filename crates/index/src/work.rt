@@ -10,10 +10,10 @@ use crate::routes::{Paths, Routes};
 use clash::Exclusions;
 use elements::Elements;
 use hops::Hops;
-use kinds::{RoundListener, Rounds};
+use kinds::{AREA, RoundListener, Rounds};
 use orders::{ConceptOrder, RoleOrder};
 use rules::Rows;
-use sheet::{AREA, Closing, Ran};
+use sheet::{Closing, Ran};
 use walk::{Question, Tree};
 
 // What is found of a collection that passed its tests.

@@ -135,6 +135,9 @@ impl State {
     }
 }
 
+// The bytes of a working area: a bit for each two states and each basic concept.
+pub const AREA: usize = State::PAIRS * Concept::NUMBERS / u8::BITS as usize;
+
 impl SignedRole {
     // A table has a place for each of so many signed roles, two for a role.
     pub const NUMBERS: usize = 2 * RoleName::MOST as usize;

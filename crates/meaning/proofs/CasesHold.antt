@@ -1,5 +1,5 @@
 -- The cases worked on paper hold: one test that the checker computes over the whole table, and what it means.
-use Rattle.std.specs.Prelude.{◌≡◌, refl, Bool, true, false, List, [], ◌∷◌, map, ℕ, zero, suc, ◌+◌, ◌<◌, T, eqb, length, get_or, slice_index}
+use Rattle.std.specs.Prelude.{◌≡◌, refl, Bool, true, false, List, [], ◌∷◌, map, ℕ, zero, suc, ◌+◌, ◌<◌, T, eqb, length, slice_index}
 use Rattle.std.proofs.Common.{arith}
 use Rattle.std.proofs.Math.Path.{sym}
 use Rattle.std.proofs.Math.Dec.{eqb→eq}
@@ -26,7 +26,7 @@ use Rattle.meaning.proofs.LiteTests.{role_base, role_le, concept_base, concept_l
 use Rattle.meaning.proofs.Reply.{declared_individuals, fact_types, end_types, is_typed, typed_to, individual_has, joins_by, fact_edge, follows, alive_by, alive_at, alive, clash_at, clash_under, concept_clash, clash_between, clash_below, role_clash, clash, marked, stride, walks, reaches_in, reaches, is_final, goes_on, out_from, leaves}
 use Rattle.meaning.proofs.OnwardTests.{goes_round, goes_to, goes_down, further, nodes, kept, onward_work}
 use Rattle.meaning.specs.Lent.{records, collection, Sound}
-use Rattle.meaning.specs.Layout.{place, area_length, Lays, Standing}
+use Rattle.meaning.specs.Layout.{place, area_length, bit_in, Lays, Standing}
 use Rattle.meaning.proofs.OutcomeExists.{outcome-exists, passes-all, sound-well-formed, holds-sheet}
 use Rattle.meaning.proofs.Calculate.{counts_fit, whole, shapes_ok, concepts_declared, roles_declared, concept_fact_declared, role_fact_declared, numbers_declared, numbers_ok, ask_ok, sound_answer, after_clash, after_rounds, sheet_area, area_after, spare_after}
 use Rattle.meaning.proofs.CalculateLaws.{sheet-lays, counts-test, shapes-test, numbers-test, ask-test}
@@ -118,7 +118,7 @@ module _ (𝓒 : Collection) (ok : WellFormed 𝓒) (n : ℕ) (x : List ℕ) (la
   sheet-marked : (q : Spots 𝓒) → T (lite_sheet 𝓒 n q.0.0 q.0.1 q.1) → T (spot_marked 𝓒 n q)
   sheet-marked q h = rw (lite-after 𝓒 ok.numbers n) h
 
-  stands-out : (p : ℕ) → p ∈ stands_at 𝓒 n → get_or x p 0 ≡ 1
+  stands-out : (p : ℕ) → p ∈ stands_at 𝓒 n → bit_in x p ≡ 1
   unfolding stands_at
   stands-out p m =
       let w = map-out (spot_place 𝓒) (select (places (lite 𝓒) (lite_tests 𝓒)) (spot_marked 𝓒 n)) m in
@@ -127,7 +127,7 @@ module _ (𝓒 : Collection) (ok : WellFormed 𝓒) (n : ℕ) (x : List ℕ) (la
       let k = lite-mark-out 𝓒 ok.numbers n q.0.0 q.0.1 q.1 (spot_out (lite 𝓒) (lite_tests 𝓒) q v.0) (marked-sheet q v.1) in
       (lays.marks p).1 (q.0.0, q.0.1, q.1, k, sym w.2)
 
-  stands-in : (p : ℕ) → get_or x p 0 ≡ 1 → p ∈ stands_at 𝓒 n
+  stands-in : (p : ℕ) → bit_in x p ≡ 1 → p ∈ stands_at 𝓒 n
   unfolding stands_at
   stands-in p e =
       let w = (lays.marks p).0 e in

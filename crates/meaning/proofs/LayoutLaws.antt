@@ -1,8 +1,10 @@
 -- The area that holds a sheet: it can be computed, and there is only one.
-use Rattle.std.specs.Prelude.{◌≡◌, refl, Bool, ◌↔◌, List, ℕ, zero, suc, ◌*◌, ◌/◌, ◌%◌, ◌≤◌, ◌<◌, T, ltb, length, get_or}
+use Rattle.std.specs.Prelude.{◌≡◌, refl, Bool, List, ℕ, zero, suc, ◌+◌, ◌*◌, ◌/◌, ◌%◌, ◌^◌, ◌≤◌, ◌<◌, T, ltb, length, get_or}
+use Rattle.std.specs.Int.{bit_at}
 use Rattle.std.proofs.Common.{sym, ap, ◌∙◌, arith, ltb→lt, lt→ltb, ext_get_or}
 use Rattle.std.proofs.Math.Decide.{dec_lt}
 use Rattle.std.proofs.Math.ListN.{get_or-eq_default}
+use Rattle.std.proofs.lemmas.Nat.Bits.{bit_at-lt, bit_at-suc, bit_at-zero, bit_at_lowest, same_from_bits_below}
 use Rattle.kinds.specs.declared.State.{State}
 use Rattle.kinds.specs.declared.Concept.{Concept}
 use Rattle.kinds.specs.declared.Concept.TheVariants.{Name, Exists}
@@ -11,16 +13,90 @@ use Rattle.kinds.specs.Kinds.{most_states, state, number_of, concept_of, number-
 use Rattle.laws.specs.Search.{and, and_left, and_right, and_both}
 use Rattle.laws.specs.Count.{bit, bit-one, bit-set, bit_is}
 use Rattle.laws.specs.Numbers.{numbered, length-numbered, get_d_numbered}
-use Rattle.meaning.specs.Layout.{concept_numbers, place, area_length, Lays}
+use Rattle.meaning.specs.Layout.{concept_numbers, place, place_count, byte_bits, area_length, bit_in, Packs, IsPlaceOf, Lays}
+
+-- bit j of byte i is at the place 8 × i + j
+pub byte_of_place : (i j : ℕ) → j < byte_bits → (byte_bits * i + j) / byte_bits ≡ i
+byte_of_place i j h = omega arith
+
+pub bit_of_place : (i j : ℕ) → j < byte_bits → (byte_bits * i + j) % byte_bits ≡ j
+bit_of_place i j h = omega arith
+
+-- nothing stands past the last byte
+pub bit_past : (area : List ℕ) (p : ℕ) → length area ≡ area_length → place_count ≤ p → bit_in area p ≡ 0
+bit_past area p e h = rw (get_or-eq_default area 0 {n = p / byte_bits} (omega (arith, e))) (bit_at-zero (p % byte_bits))
+
+pub same_bit : (a b : ℕ) → a < 2 → b < 2 → (a ≡ 1 → b ≡ 1) → (b ≡ 1 → a ≡ 1) → a ≡ b
+same_bit zero zero i j u v = refl
+same_bit zero (suc b) i j u v = let e : suc b ≡ 1 = omega arith in let g = v e in absurd (omega arith)
+same_bit (suc a) b i j u v = let e : suc a ≡ 1 = omega arith in let g = u e in omega arith
+
+-- two areas with the same at every place are equal
+pub same_areas : (x y : List ℕ) → length x ≡ area_length → length y ≡ area_length
+    → ((i : ℕ) → get_or x i 0 < 2 ^ byte_bits) → ((i : ℕ) → get_or y i 0 < 2 ^ byte_bits)
+    → ((p : ℕ) → bit_in x p ≡ bit_in y p) → x ≡ y
+same_areas x y e g small small' same = ext_get_or 0 x y (e ∙ sym g) (λ i l. same_from_bits_below byte_bits _ _ (small i) (small' i) (at i))
+  where
+    at : (i j : ℕ) → j < byte_bits → bit_at (get_or x i 0) j ≡ bit_at (get_or y i 0) j
+    at i j h = rw (byte_of_place i j h, bit_of_place i j h) at (same (byte_bits * i + j))
+
+-- LAW: two areas that have 1 at the same places are equal
+pub packs-once : (P : ℕ → Type 0) (x y : List ℕ) → Packs P x → Packs P y → x ≡ y
+packs-once P x y h k = same_areas x y h.long k.long h.bytes k.bytes (λ p. same_bit (bit_in x p) (bit_in y p) (bit_at-lt _ _) (bit_at-lt _ _) (λ e. (k.marks p).1 ((h.marks p).0 e)) (λ e. (h.marks p).1 ((k.marks p).0 e)))
 
 -- two areas that hold one sheet are equal
 pub lays-once : (f : State → State → Concept → Type 0) (x y : List ℕ) → Lays f x → Lays f y → x ≡ y
-lays-once f x y h k = ext_get_or 0 x y (h.long ∙ sym k.long) (λ p l. byte p (get_or x p 0) (get_or y p 0) (h.bits p) (k.bits p) (λ e. (k.marks p).1 ((h.marks p).0 e)) (λ e. (h.marks p).1 ((k.marks p).0 e)))
-  where
-    byte : (p a b : ℕ) → a ≤ 1 → b ≤ 1 → (a ≡ 1 → b ≡ 1) → (b ≡ 1 → a ≡ 1) → a ≡ b
-    byte p zero zero i j u v = refl
-    byte p zero (suc b) i j u v = let e : suc b ≡ 1 = omega arith in let g = v e in absurd (omega arith)
-    byte p (suc a) b i j u v = let e : suc a ≡ 1 = omega arith in let g = u e in omega arith
+lays-once f = packs-once (IsPlaceOf f)
+
+-- ---- an area from a test of its places
+
+-- the number whose bit i is b i, of n bits
+pub from_bits : ℕ → (ℕ → Bool) → ℕ
+from_bits zero b = 0
+from_bits (suc n) b = bit (b 0) + 2 * from_bits n (λ i. b (suc i))
+
+from_bits-fits : (n : ℕ) (b : ℕ → Bool) → from_bits n b < 2 ^ n
+unfolding from_bits
+from_bits-fits zero b = omega arith
+from_bits-fits (suc n) b = omega (arith, bit-one (b 0), from_bits-fits n (λ i. b (suc i)))
+
+bit_at-from_bits : (n : ℕ) (b : ℕ → Bool) (i : ℕ) → i < n → bit_at (from_bits n b) i ≡ bit (b i)
+unfolding from_bits
+bit_at-from_bits zero b i h = absurd (omega arith)
+bit_at-from_bits (suc n) b zero h =
+    let e : (bit (b 0) + 2 * from_bits n (λ i. b (suc i))) % 2 ≡ bit (b 0) = omega (arith, bit-one (b 0)) in
+    bit_at_lowest (from_bits (suc n) b) ∙ e
+bit_at-from_bits (suc n) b (suc i) h =
+    let e : (bit (b 0) + 2 * from_bits n (λ i. b (suc i))) / 2 ≡ from_bits n (λ i. b (suc i)) = omega (arith, bit-one (b 0)) in
+    bit_at-suc (from_bits (suc n) b) i ∙ rw e (bit_at-from_bits n (λ i. b (suc i)) i (omega arith))
+
+-- byte i of the area whose places are those that pass
+abbrev byte_from : (ℕ → Bool) → ℕ → ℕ
+byte_from b i = from_bits byte_bits (λ j. b (byte_bits * i + j))
+
+unfoldable pub packed : (ℕ → Bool) → List ℕ
+packed b = numbered (byte_from b) area_length
+
+module _ (b : ℕ → Bool) where
+  pub packed-long : length (packed b) ≡ area_length
+  unfolding packed
+  packed-long = length-numbered (byte_from b) area_length
+
+  packed_byte : (i : ℕ) → i < area_length → get_or (packed b) i 0 ≡ byte_from b i
+  unfolding packed
+  packed_byte i h = get_d_numbered (byte_from b) area_length i 0 h
+
+  pub packed-bytes : (i : ℕ) → get_or (packed b) i 0 < 2 ^ byte_bits
+  packed-bytes i = side (dec_lt i area_length)
+    where
+      side : Dec (i < area_length) → get_or (packed b) i 0 < 2 ^ byte_bits
+      side (yes l) = rw (packed_byte i l) (from_bits-fits byte_bits (λ j. b (byte_bits * i + j)))
+      side (no l) = let z = get_or-eq_default (packed b) 0 {n = i} (omega (arith, packed-long)) in omega (arith, z)
+
+  pub packed-bit : (p : ℕ) → p < place_count → bit_in (packed b) p ≡ bit (b p)
+  packed-bit p h =
+      let e : byte_bits * (p / byte_bits) + p % byte_bits ≡ p = omega arith in
+      rw (packed_byte (p / byte_bits) (omega arith)) (rw e at (bit_at-from_bits byte_bits (λ j. b (byte_bits * (p / byte_bits) + j)) (p % byte_bits) (omega arith)))
 
 -- the state, state and concept of a place
 abbrev pub state_of : ℕ → State
@@ -60,12 +136,9 @@ declared_mark c f s t B =
 unfoldable pub stands : Counts → (State → State → Concept → Bool) → ℕ → Bool
 stands c f p = declared_mark c f (state_of p) (next_of p) (concept_at p)
 
-abbrev pub byte_at : Counts → (State → State → Concept → Bool) → ℕ → ℕ
-byte_at c f p = bit (stands c f p)
-
 -- the area that holds the sheet f
-unfoldable pub image : Counts → (State → State → Concept → Bool) → List ℕ
-image c f = numbered (byte_at c f) area_length
+abbrev pub image : Counts → (State → State → Concept → Bool) → List ℕ
+image c f = packed (stands c f)
 
 module _ (c : Counts) (fit : CountsFit c) where
   number-below : (C : Concept) → ConceptDeclared c C → number_of C < concept_numbers
@@ -73,7 +146,7 @@ module _ (c : Counts) (fit : CountsFit c) where
   number-below (Name A) h = omega (arith, fit.names)
   number-below (Exists R) h = omega (arith, fit.roles)
 
-  place-below : (s t : State) (B : Concept) → StateDeclared c s → StateDeclared c t → ConceptDeclared c B → place s t B < area_length
+  place-below : (s t : State) (B : Concept) → StateDeclared c s → StateDeclared c t → ConceptDeclared c B → place s t B < place_count
   place-below s t B h k d = omega (arith, fit.states, number-below B d)
 
   state-of-place : (s t : State) (B : Concept) → StateDeclared c t → ConceptDeclared c B → state_of (place s t B) ≡ s
@@ -128,43 +201,22 @@ module _ (c : Counts) (fit : CountsFit c) where
     unfolding stands
     stands-out p h = declared-out (state_of p) (next_of p) (concept_at p) h
 
-    byte-in : (p : ℕ) → p < area_length → get_or (image c f) p 0 ≡ byte_at c f p
-    unfolding image
-    byte-in p h = get_d_numbered (byte_at c f) area_length p 0 h
-
-    image-long : length (image c f) ≡ area_length
-    unfolding image
-    image-long = length-numbered (byte_at c f) area_length
-
-    byte_past : (p : ℕ) → area_length ≤ p → get_or (image c f) p 0 ≡ 0
-    byte_past p h = get_or-eq_default (image c f) 0 (rw image-long h)
-
     -- the computed area holds the sheet
     pub image-lays : Lays F (image c f)
-    image-lays = record { long = image-long; bits = bits; marks = marks }
+    image-lays = record { long = packed-long (stands c f); bytes = packed-bytes (stands c f); marks = λ p. (to p (dec_lt p place_count), from p) }
       where
-        bits : (p : ℕ) → get_or (image c f) p 0 ≤ 1
-        bits p = side (dec_lt p area_length)
-          where
-            side : Dec (p < area_length) → get_or (image c f) p 0 ≤ 1
-            side (yes l) = rw (byte-in p l) (bit-one (stands c f p))
-            side (no l) = rw (byte_past p (omega arith)) (omega arith)
+        to : (p : ℕ) → Dec (p < place_count) → bit_in (image c f) p ≡ 1 → IsPlaceOf F p
+        to p (yes l) e = (state_of p, next_of p, concept_at p, stands-out p (bit_is (stands c f p) (rw (packed-bit (stands c f) p l) at e)), place_of p)
+        to p (no l) e = let z = bit_past (image c f) p (packed-long (stands c f)) (omega arith) in absurd (omega (arith, e, z))
 
-        marks : (p : ℕ) → (get_or (image c f) p 0 ≡ 1) ↔ ((s t : State) × (B : Concept) × F s t B × (place s t B ≡ p))
-        marks p = (to (dec_lt p area_length), from)
-          where
-            to : Dec (p < area_length) → get_or (image c f) p 0 ≡ 1 → (s t : State) × (B : Concept) × F s t B × (place s t B ≡ p)
-            to (yes l) e = (state_of p, next_of p, concept_at p, stands-out p (bit_is (stands c f p) (rw (byte-in p l) at e)), place_of p)
-            to (no l) e = let z = byte_past p (omega arith) in absurd (omega arith)
-
-            from : (s t : State) × (B : Concept) × F s t B × (place s t B ≡ p) → get_or (image c f) p 0 ≡ 1
-            from w =
-                let s = w.0 in
-                let t = w.1 in
-                let B = w.2 in
-                let d = declared s t B w.3 in
-                let l = place-below s t B d.0 d.1 d.2 in
-                rw (← w.4) (byte-in (place s t B) l ∙ bit-set (stands c f (place s t B)) (stands-in s t B w.3))
+        from : (p : ℕ) → IsPlaceOf F p → bit_in (image c f) p ≡ 1
+        from p w =
+            let s = w.0 in
+            let t = w.1 in
+            let B = w.2 in
+            let d = declared s t B w.3 in
+            let l = place-below s t B d.0 d.1 d.2 in
+            rw (← w.4) (packed-bit (stands c f) (place s t B) l ∙ bit-set (stands c f (place s t B)) (stands-in s t B w.3))
 
   -- two declared marks at one place are one
   pub place-once : (s t : State) (B : Concept) (s' t' : State) (B' : Concept)

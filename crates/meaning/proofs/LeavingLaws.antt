@@ -6,7 +6,7 @@ use Rattle.kinds.specs.declared.SignedRole.{SignedRole}
 use Rattle.kinds.specs.Kinds.{IndividualDeclared}
 use Rattle.laws.specs.Member.{◌∈◌}
 use Rattle.meaning.specs.Collection.{Collection, WellFormed}
-use Rattle.meaning.specs.Run.{Run, stop, one, carry}
+use Rattle.meaning.specs.Run.{stop, one, carry}
 use Rattle.meaning.specs.Tree.{Elem, root}
 use Rattle.meaning.specs.Model.{Roots, bare, grown_from, individuals, canonical}
 use Rattle.meaning.specs.Question.{PathIn, Yes}

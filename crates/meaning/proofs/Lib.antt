@@ -29,6 +29,7 @@ pub mod Reply
 pub mod ReplyLaws
 pub mod ClashLaws
 pub mod LayoutLaws
+pub mod BytesLaws
 pub mod AreaLaws
 pub mod MarksLaws
 pub mod LiteMarks

@@ -1,9 +1,8 @@
 -- How many marks the rounds of a collection make, and how many stand in the area that holds its sheet.
-use Rattle.std.specs.Prelude.{◌≡◌, refl, Bool, true, false, List, ◌∷◌, T, eqb, ℕ, zero, suc, ◌+◌, ◌*◌, ◌^◌, ◌≤◌, ◌<◌, length, slice_index, sum, map, leb}
+use Rattle.std.specs.Prelude.{◌≡◌, refl, Bool, true, false, List, ◌∷◌, T, eqb, ℕ, zero, suc, ◌+◌, ◌*◌, ◌^◌, ◌≤◌, ◌<◌, length, sum, map, leb}
 use Rattle.std.proofs.Common.{sym, ap, ◌∙◌, arith, eqb→eq, le→leb}
 use Rattle.std.proofs.Math.Dec.{eqb_refl}
 use Rattle.std.proofs.Math.Decide.{dec_lt}
-use Rattle.std.proofs.Math.ListN.{get_or-eq_default}
 use Rattle.std.proofs.Math.Nat.{mul-le-mul}
 use Rattle.std.proofs.lemmas.List.{length-map}
 use Rattle.kinds.specs.declared.State.{State}
@@ -22,13 +21,13 @@ use Rattle.meaning.specs.Collection.{Collection, WellFormed}
 use Rattle.meaning.specs.Sheet.{Needed}
 use Rattle.meaning.specs.Marks.{Stands, Adds, RoundCounts}
 use Rattle.meaning.specs.Lite.{signed_roles, valid_concepts, declared_states, lite}
-use Rattle.meaning.specs.Layout.{place, area_length, Lays, Ones, Standing}
+use Rattle.meaning.specs.Layout.{place, place_count, bit_in, Lays, Ones, Standing}
 use Rattle.meaning.specs.Demands.{most_rounds}
 use Rattle.meaning.specs.LawsOfSheet.{Marked}
 use Rattle.meaning.specs.LawsOfMarks.{Countable, first_marks}
 use Rattle.meaning.proofs.Declared.{concepts-count, states-count, lite-sane}
 use Rattle.meaning.proofs.LiteTests.{lite_tests, lite-decides}
-use Rattle.meaning.proofs.LayoutLaws.{place-once}
+use Rattle.meaning.proofs.LayoutLaws.{place-once, bit_past}
 use Rattle.meaning.proofs.RoundLaws.{marked-valid}
 use Rattle.meaning.proofs.MarksLaws.{adds-few, stands-sum, counts-make-sheet, counts-most}
 
@@ -116,21 +115,21 @@ module _ (𝓒 : Collection) (ok : WellFormed 𝓒) where
   -- THEOREM: and so many stand in an area that holds the sheet
   module _ (n : ℕ) (area : List ℕ) (lays : Lays (Marked 𝓒 n) area) where
     one_at : ℕ → Bool
-    one_at p = eqb (slice_index area p) 1
+    one_at p = eqb (bit_in area p) 1
 
     places : List ℕ
-    places = select (upto area_length 0) one_at
+    places = select (upto place_count 0) one_at
 
     ones : Ones area places
     unfolding places one_at
-    ones = record { rising = rising places (rises one_at area_length 0 0 (omega arith)); ones = λ p. (into p, λ i. eqb→eq (slice_index area p) 1 ((select-out (upto area_length 0) one_at i).1)) }
+    ones = record { rising = rising places (rises one_at place_count 0 0 (omega arith)); ones = λ p. (into p, λ i. eqb→eq (bit_in area p) 1 ((select-out (upto place_count 0) one_at i).1)) }
       where
-        into : (p : ℕ) → slice_index area p ≡ 1 → p ∈ places
-        into p e = side (dec_lt p area_length)
+        into : (p : ℕ) → bit_in area p ≡ 1 → p ∈ places
+        into p e = side (dec_lt p place_count)
           where
-            side : Dec (p < area_length) → p ∈ places
-            side (yes l) = select_in (upto area_length 0) one_at (upto-in area_length 0 p (omega arith) (omega arith)) (rw e (eqb_refl 1))
-            side (no g) = let z = get_or-eq_default area 0 {n = p} (omega (arith, lays.long)) in absurd (omega (arith, e, z))
+            side : Dec (p < place_count) → p ∈ places
+            side (yes l) = select_in (upto place_count 0) one_at (upto-in place_count 0 p (omega arith) (omega arith)) (rw e (eqb_refl 1))
+            side (no g) = let z = bit_past area p lays.long (omega arith) in absurd (omega (arith, e, z))
 
     mark_place : State × State × Concept → ℕ
     mark_place m = place m.0 m.1 m.2

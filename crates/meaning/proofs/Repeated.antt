@@ -90,7 +90,7 @@ module _ (c : Call) (t : Tables) (s : SameSets c t) where
   sheet-kept : (n : ℕ) (area : List ℕ) → Lays (Mark (lite (collection_of c)) n) area → Lays (Mark (lite (collection_of d)) n) area
   sheet-kept n area l = record {
     long = l.long;
-    bits = l.bits;
+    bytes = l.bytes;
     marks = λ p. (
       λ e. let w = (l.marks p).0 e in (w.0, w.1, w.2, (marks n w.0 w.1 w.2).0 w.3, w.4),
       λ w. (l.marks p).1 (w.0, w.1, w.2, (marks n w.0 w.1 w.2).1 w.3, w.4),

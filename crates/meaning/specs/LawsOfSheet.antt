@@ -1,6 +1,6 @@
 -- Laws of the loop sheet: of any rules' kind, then of a collection's, and of the area that holds
 -- it.
-use Rattle.std.specs.Prelude.{◌≡◌, ◌↔◌, List, ℕ, suc, ◌+◌, ◌*◌, ◌-◌, ◌≤◌, length, slice_index}
+use Rattle.std.specs.Prelude.{◌≡◌, ◌↔◌, List, ℕ, suc, ◌+◌, ◌*◌, ◌-◌, ◌≤◌, length}
 use Rattle.kinds.specs.declared.ConceptName.{ConceptName}
 use Rattle.kinds.specs.declared.State.{State}
 use Rattle.kinds.specs.declared.SignedRole.{SignedRole}
@@ -18,7 +18,7 @@ use Rattle.meaning.specs.Kind.{Kind, Sane}
 use Rattle.meaning.specs.Tests.{Tests, AreTestsOf}
 use Rattle.meaning.specs.Sheet.{Mark, Needed, Closed}
 use Rattle.meaning.specs.Lite.{valid_concepts, lite}
-use Rattle.meaning.specs.Layout.{place, Lays}
+use Rattle.meaning.specs.Layout.{place, bit_in, Lays}
 use Rattle.meaning.specs.Demands.{most_rounds}
 
 module _ (𝓚 : Kind) where
@@ -153,12 +153,12 @@ MostRounds = (c : Counts) → CountsFit c → most_rounds c ≤ 30720
 abbrev pub ConceptsCounted : Type 0
 ConceptsCounted = (c : Counts) → length (valid_concepts c) ≡ c.names + 2 * c.roles
 
--- at the place of a mark, byte s × 2,048 + t × 128 + B, an area that holds the sheet has 1, and
--- where there is none 0
+-- at the place of a mark, s × 2,048 + t × 128 + B, an area that holds the sheet has 1, and where
+-- there is none 0
 abbrev pub MarkIsOne : Type 0
 MarkIsOne = (𝓒 : Collection) → WellFormed 𝓒 → (n : ℕ) (area : List ℕ) → Lays (Marked 𝓒 n) area
     → (s t : State) (B : Concept) → Valid 𝓒 s t B
-    → (slice_index area (place s t B) ≡ 1) ↔ Marked 𝓒 n s t B
+    → (bit_in area (place s t B) ≡ 1) ↔ Marked 𝓒 n s t B
 
 -- there is such an area, and only one
 abbrev pub AreaThere : Type 0

@@ -1,7 +1,8 @@
 -- Where a mark stands in an area (docs/RULES.md, section 6): a place for each state, state and
--- concept, one byte to a place.
+-- concept, one bit to a place.
 -- The sheet itself knows nothing of it.
-use Rattle.std.specs.Prelude.{◌≡◌, ◌↔◌, List, ℕ, ◌+◌, ◌*◌, ◌≤◌, length, slice_index, replicate}
+use Rattle.std.specs.Prelude.{◌≡◌, ◌↔◌, List, ℕ, ◌+◌, ◌*◌, ◌/◌, ◌%◌, ◌^◌, ◌<◌, length, slice_index, replicate}
+use Rattle.std.specs.Int.{bit_at}
 use Rattle.kinds.specs.declared.State.{State}
 use Rattle.kinds.specs.declared.Concept.{Concept}
 use Rattle.kinds.specs.Kinds.{most_states, most_roles, base, number_of}
@@ -12,20 +13,38 @@ use Rattle.laws.specs.Select.{Rising}
 abbrev pub concept_numbers : ℕ
 concept_numbers = base + 2 * most_roles
 
--- the byte at which the mark (s, t, B) stands: s × 2,048 + t × 128 + B
+-- the place of the mark (s, t, B): s × 2,048 + t × 128 + B
 abbrev pub place : State → State → Concept → ℕ
 place s t B = s.0 * (most_states * concept_numbers) + t.0 * concept_numbers + number_of B
 
--- the bytes of an area: 32,768
+-- so many places there are: 32,768
+abbrev pub place_count : ℕ
+place_count = most_states * (most_states * concept_numbers)
+
+abbrev pub byte_bits : ℕ
+byte_bits = 8
+
+-- the bytes of an area: 4,096
 abbrev pub area_length : ℕ
-area_length = most_states * (most_states * concept_numbers)
+area_length = place_count / byte_bits
+
+-- what stands at place p of an area: bit p mod 8, counted from the least, of byte p div 8
+abbrev pub bit_in : List ℕ → ℕ → ℕ
+bit_in area p = bit_at (slice_index area (p / byte_bits)) (p % byte_bits)
+
+-- an area has 1 at each place of P, and 0 at every other
+pub record Packs (P : ℕ → Type 0) (area : List ℕ) : Type 0 where
+  pub long : length area ≡ area_length
+  pub bytes : (i : ℕ) → slice_index area i < 2 ^ byte_bits
+  pub marks : (p : ℕ) → (bit_in area p ≡ 1) ↔ P p
+
+-- p is the place of a mark of the sheet f
+abbrev pub IsPlaceOf : (State → State → Concept → Type 0) → ℕ → Type 0
+IsPlaceOf f p = (s t : State) × (B : Concept) × f s t B × (place s t B ≡ p)
 
 -- the area holds the sheet f: 1 at the place of each mark, and 0 at every other place
-pub record Lays (f : State → State → Concept → Type 0) (area : List ℕ) : Type 0 where
-  pub long : length area ≡ area_length
-  pub bits : (p : ℕ) → slice_index area p ≤ 1
-  pub marks : (p : ℕ)
-      → (slice_index area p ≡ 1) ↔ ((s t : State) × (B : Concept) × f s t B × (place s t B ≡ p))
+abbrev pub Lays : (State → State → Concept → Type 0) → List ℕ → Type 0
+Lays f = Packs (IsPlaceOf f)
 
 abbrev pub zeros : List ℕ
 zeros = replicate area_length 0
@@ -33,7 +52,7 @@ zeros = replicate area_length 0
 -- the places of an area that hold 1, each once
 pub record Ones (area places : List ℕ) : Type 0 where
   pub rising : Rising places
-  pub ones : (p : ℕ) → (slice_index area p ≡ 1) ↔ (p ∈ places)
+  pub ones : (p : ℕ) → (bit_in area p ≡ 1) ↔ (p ∈ places)
 
 -- m marks stand in an area
 abbrev pub Standing : List ℕ → ℕ → Type 0

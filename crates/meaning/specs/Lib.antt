@@ -33,6 +33,7 @@ pub mod Tests
 pub mod LawsOfOrders
 pub mod LawsOfModel
 pub mod LawsOfSheet
+pub mod Bytes
 pub mod LawsOfLeaving
 pub mod LawsOfMarks
 pub mod LawsOfGrowth

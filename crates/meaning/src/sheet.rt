@@ -1,5 +1,7 @@
 // Laws of the loop sheet. What holds for a type that names any rules' kind, or any sheet of one,
 // holds of every kind and every sheet.
+ghost use Rattle.kinds.specs.declared.State.{State};
+ghost use Rattle.kinds.specs.declared.Concept.{Concept};
 ghost use Rattle.meaning.specs.Kind.{Kind};
 ghost use Rattle.meaning.specs.LawsOfSheet.{MarksStay, RoundsOnce, SheetStays, SheetClosed};
 ghost use Rattle.meaning.specs.LawsOfSheet.{SheetLeast, MarkIsPath, RoundsBound};
@@ -8,6 +10,9 @@ ghost use Rattle.meaning.specs.LawsOfSheet.{RoundMeets, RoundHangs, RoundAdds, M
 ghost use Rattle.meaning.specs.LawsOfSheet.{RoundsSuffice, RoundsAtMost, MostRounds};
 ghost use Rattle.meaning.specs.LawsOfSheet.{ConceptsCounted, MarkIsOne};
 ghost use Rattle.meaning.specs.LawsOfSheet.{AreaThere, AreaOnce};
+ghost use Rattle.meaning.specs.Bytes.{OneSheetSamePlaces, BytesToBits, BitsToBytes};
+ghost use Rattle.meaning.specs.Bytes.{SameAfterRounds, BitsOnce, BytesOnce};
+ghost use Rattle.meaning.specs.Bytes.{BitsThere, BytesThere};
 ghost use Rattle.meaning.specs.LawsOfMarks.{StandsOnce, AddsOnce, CountsOnce};
 ghost use Rattle.meaning.specs.LawsOfMarks.{StandsThere, CountsThere, CountsMakeSheet};
 ghost use Rattle.meaning.specs.LawsOfMarks.{AddsSome, AddsNone, SumAtMost, CountsAtMost};
@@ -26,6 +31,11 @@ pub trait AnySheet {
     ghost kind: { Kind };
 
     ghost marks: { kind.State → kind.State → kind.Concept → Type 0 };
+}
+
+// A type that names a sheet of states and concepts: any.
+pub trait AnyMarks {
+    ghost marks: { State → State → Concept → Type 0 };
 }
 
 // The rounds of any kind.
@@ -68,6 +78,22 @@ pub fn area()
     ensures one { MarkIsOne }
     ensures area_there { AreaThere }
     ensures area_once { AreaOnce }
+{}
+
+// One byte to a place and one bit to a place hold the same marks,
+pub fn any_packed<F: AnyMarks>()
+    ensures same_places { OneSheetSamePlaces F.marks }
+    ensures to_bits { BytesToBits F.marks }
+    ensures to_bytes { BitsToBytes F.marks }
+{}
+
+// after every round, and each determines the other.
+pub fn packed()
+    ensures after_rounds { SameAfterRounds }
+    ensures bits_once { BitsOnce }
+    ensures bytes_once { BytesOnce }
+    ensures bits_there { BitsThere }
+    ensures bytes_there { BytesThere }
 {}
 
 // How many marks the rounds of any kind make.

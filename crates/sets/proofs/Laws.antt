@@ -8,6 +8,7 @@ use Rattle.std.specs.Int.{bit_at}
 use Rattle.std.specs.Int.RustNames.{bit_or, bit_and, count_ones}
 use Rattle.std.proofs.Common.{sym, ◌∙◌, ap, inl, inr, ⊎_elim, arith, rules}
 use Rattle.std.proofs.Math.Decide.{ℕ_discrete, dec_lt}
+use Rattle.std.proofs.Math.ListN.{get_or-eq_default}
 use Rattle.std.proofs.Math.Nat.{mod-eq_of_lt, pow-suc}
 use Rattle.std.proofs.Math.Pow.{pow-lt}
 use Rattle.std.proofs.lemmas.Nat.{pow_pos, pow-add, ones_cat, and_le_l, and_le_r, shr-shr}
@@ -466,6 +467,10 @@ bytes_at zero a n j h = absurd (omega arith)
 bytes_at (suc m) a n zero h = let e : a + 0 ≡ a = omega arith in rw e refl
 bytes_at (suc m) a n (suc j) h = let e : suc a + j ≡ a + suc j = omega arith in let s = bytes_at m (suc a) n j (omega arith) in rw e at s
 
+bytes_long : (a m n : ℕ) → length (bytes_low_first a m n) ≡ m
+bytes_long a zero n = refl
+bytes_long a (suc m) n = let e = bytes_long (suc a) m n in omega (arith, e)
+
 power : (j : ℕ) → 256 ^ j ≡ 2 ^ (8 * j)
 power zero = refl
 power (suc j) = let e : 8 * suc j ≡ 8 * j + 8 = omega arith in rw (e, pow-add 2 (8 * j) 8, pow-suc 256 j, power j) refl
@@ -474,8 +479,12 @@ low_byte : (x i : ℕ) → i < 8 → bit_at (x % 256) i ≡ bit_at x i
 low_byte x i h = let e : x / 256 * 2 ^ 8 + x % 256 ≡ x = omega arith in let c = bit_at_cat_low (x / 256) 8 (x % 256) i h in sym (rw e at c)
 
 pub is_bytes : (m n : ℕ) → IsBytesOf (8 * m) n (bytes_low_first 0 m n)
-is_bytes m n = record { bit = λ k h. let e = same k h in (λ p. sym e ∙ p, λ p. e ∙ p) }
+is_bytes m n = record { long = let e : 8 * m / 8 ≡ m = omega arith in rw e (bytes_long 0 m n); small = λ i. small i (dec_lt i m); bit = λ k h. let e = same k h in (λ p. sym e ∙ p, λ p. e ∙ p) }
   where
+    small : (i : ℕ) → Dec (i < m) → get_or (bytes_low_first 0 m n) i 0 < 2 ^ 8
+    small i (yes l) = rw (bytes_at m 0 n i l, byte_is (0 + i) n) (omega arith)
+    small i (no l) = let z = get_or-eq_default (bytes_low_first 0 m n) 0 {n = i} (omega (arith, bytes_long 0 m n)) in omega (arith, z)
+
     same : (k : ℕ) → k < 8 * m → bit_at (get_or (bytes_low_first 0 m n) (k / 8) 0) (k % 8) ≡ bit_at n k
     same k h =
         let e : 8 * (k / 8) + k % 8 ≡ k = omega arith in

@@ -1,5 +1,5 @@
 -- The contracts of `sets` leave one answer: a set is known by its members, rows of sets by what they relate.
-use Rattle.std.specs.Prelude.{ℕ, ◌≡◌, ◌≢◌, ◌<◌, ◌+◌, ◌*◌, ◌^◌, ◌/◌, ◌%◌, ◌↔◌, true, List, length, get_or}
+use Rattle.std.specs.Prelude.{ℕ, ◌≡◌, ◌≢◌, ◌<◌, ◌+◌, ◌*◌, ◌^◌, ◌/◌, ◌%◌, ◌↔◌, true, List, get_or}
 use Rattle.std.specs.Int.{bit_at}
 use Rattle.std.proofs.Common.{sym, ap, ◌∙◌, arith, rules, ext_get_or}
 use Rattle.std.proofs.Math.Decide.{ℕ_discrete, dec_lt}
@@ -34,16 +34,15 @@ first-once w n j k r s p q =
     same (no l) (no g) = omega arith
 
 -- THEOREM: one row of bytes holds a set
-pub bytes-once : (m n : ℕ) (a b : List ℕ) → IsBytesOf (8 * m) n a → IsBytesOf (8 * m) n b → length a ≡ m → length b ≡ m
-    → ((k : ℕ) → k < m → (get_or a k 0 < 2 ^ 8) × (get_or b k 0 < 2 ^ 8)) → a ≡ b
-bytes-once m n a b p q la lb small = ext_get_or 0 a b (la ∙ sym lb) (λ k h. byte k (omega (arith, la)))
+pub bytes-once : (m n : ℕ) (a b : List ℕ) → IsBytesOf (8 * m) n a → IsBytesOf (8 * m) n b → a ≡ b
+bytes-once m n a b p q = ext_get_or 0 a b (p.long ∙ sym q.long) (λ k h. byte k (omega (arith, p.long)))
   where
     byte : (k : ℕ) → k < m → get_or a k 0 ≡ get_or b k 0
-    byte k h = same_from_bits _ _ (λ i. same_bit _ _ (bit_at-lt (get_or a k 0) i) (bit_at-lt (get_or b k 0) i) (λ x. bit i a b p q (small k h).0 x, λ x. bit i b a q p (small k h).1 x))
+    byte k h = same_from_bits _ _ (λ i. same_bit _ _ (bit_at-lt (get_or a k 0) i) (bit_at-lt (get_or b k 0) i) (λ x. bit i a b p q x, λ x. bit i b a q p x))
       where
-        bit : (i : ℕ) (c d : List ℕ) → IsBytesOf (8 * m) n c → IsBytesOf (8 * m) n d → get_or c k 0 < 2 ^ 8 → Has (get_or c k 0) i → Has (get_or d k 0) i
-        bit i c d s t l x =
-            let li = past 8 (get_or c k 0) i l x in
+        bit : (i : ℕ) (c d : List ℕ) → IsBytesOf (8 * m) n c → IsBytesOf (8 * m) n d → Has (get_or c k 0) i → Has (get_or d k 0) i
+        bit i c d s t x =
+            let li = past 8 (get_or c k 0) i (s.small k) x in
             let e : (8 * k + i) / 8 ≡ k = omega arith in
             let f : (8 * k + i) % 8 ≡ i = omega arith in
             let u = rw (e, f) at (s.bit (8 * k + i) (omega arith)) in

@@ -1,6 +1,6 @@
 -- A set of small numbers, as the bits of a number: k is in it when bit k is 1.
 -- A set stands for a row of a relation in the same way.
-use Rattle.std.specs.Prelude.{ℕ, ◌≡◌, ◌≢◌, ◌<◌, ◌≤◌, ◌+◌, ◌-◌, ◌*◌, ◌/◌, ◌%◌, ◌↔◌, ◌⊎◌, Bool, true, nat_eq, List, filter, slice_index, Option, MatchOption}
+use Rattle.std.specs.Prelude.{ℕ, ◌≡◌, ◌≢◌, ◌<◌, ◌≤◌, ◌+◌, ◌-◌, ◌*◌, ◌/◌, ◌%◌, ◌^◌, ◌↔◌, ◌⊎◌, Bool, true, nat_eq, List, length, filter, slice_index, Option, MatchOption}
 use Rattle.std.specs.List.{range_with_len}
 use Rattle.std.specs.Int.{bit_at}
 use Rattle.kinds.specs.Kinds.{base, most_roles}
@@ -87,6 +87,8 @@ Takes w number n r m = MatchOption r (IsEmpty n × (m ≡ n)) (λ x. TakesFirst 
 unfoldable pub members : ℕ → ℕ → List ℕ
 members w n = filter (has n) (range_with_len 0 w)
 
--- bit k of n is bit k % 8 of byte k / 8
+-- the bytes of a set of width w: bit k of n is bit k % 8 of byte k / 8
 pub record IsBytesOf (w n : ℕ) (bytes : List ℕ) : Type 0 where
+  pub long : length bytes ≡ w / 8
+  pub small : (i : ℕ) → slice_index bytes i < 2 ^ 8
   pub bit : (k : ℕ) → k < w → Has (slice_index bytes (k / 8)) (k % 8) ↔ Has n k

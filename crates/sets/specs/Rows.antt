@@ -40,7 +40,3 @@ ConceptRows h = Fits (λ (s : ConceptSet). s.0) no_concepts h concept_width
 
 abbrev pub RoleRows : ℕ → List RoleSet → Type 0
 RoleRows h = Fits (λ (s : RoleSet). s.0) no_roles h role_width
-
--- so many bytes
-abbrev pub Bytes : ℕ → List ℕ → Type 0
-Bytes m = Fits (λ (x : ℕ). x) 0 m 8

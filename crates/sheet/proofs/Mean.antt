@@ -21,7 +21,7 @@ use Rattle.rules.specs.declared.rows.Rows.{Rows}
 use Rattle.rules.specs.Rows.{kind_of}
 use Rattle.rules.specs.RowsOf.{RowsOf}
 use Rattle.rules.proofs.Same.{mark_to, mark_from}
-use Rattle.sheet.specs.Sheets.{place}
+use Rattle.sheet.specs.Areas.{IsPlaceOf}
 use Rattle.sheet.specs.Meant.{NeededMeans, AreaMeans, CountsMean}
 
 module _ (𝓒 : Collection) (fit : CountsFit 𝓒.counts) (rows : Rows) (r : RowsOf 𝓒 rows) where
@@ -63,14 +63,14 @@ module _ (𝓒 : Collection) (fit : CountsFit 𝓒.counts) (rows : Rows) (r : Ro
 
   -- THEOREM: and an area that has the rows' marks has the collection's sheet
   pub same_lays : AreaMeans 𝓒 rows
-  same_lays n area l = record { long = l.long; bits = l.bits; marks = λ p. (λ e. to p ((l.marks p).0 e), λ w. (l.marks p).1 (from p w)) }
+  same_lays n area l = record { long = l.long; bytes = l.bytes; marks = λ p. (λ e. to p ((l.marks p).0 e), λ w. (l.marks p).1 (from p w)) }
     where
-      to : (p : ℕ) → (s t B : ℕ) × Mark K n s t B × (place s t B ≡ p) → (s t : State) × (B : Concept) × Mark L n s t B × (layout.place s t B ≡ p)
+      to : (p : ℕ) → IsPlaceOf (Mark K n) p → layout.IsPlaceOf (Mark L n) p
       to p (s, t, B, m, e) =
           let b = number-concept B in
           (state s, state t, concept_of B, mark_to 𝓒 rows r n s t B m, rw b (omega (arith, e)))
 
-      from : (p : ℕ) → (s t : State) × (B : Concept) × Mark L n s t B × (layout.place s t B ≡ p) → (s t B : ℕ) × Mark K n s t B × (place s t B ≡ p)
+      from : (p : ℕ) → layout.IsPlaceOf (Mark L n) p → IsPlaceOf (Mark K n) p
       from p (s, t, B, m, e) = (s.0, t.0, number_of B, mark_back n s t B m, omega (arith, e))
 
   -- a mark of the rows, as one of the collection

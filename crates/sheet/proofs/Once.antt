@@ -1,7 +1,6 @@
 -- The contracts of `sheet` leave one answer each: the end of rounds, the sheet and what comes next, the count of a round, every byte of an area.
-use Rattle.std.specs.Prelude.{◌≡◌, refl, ◌↔◌, Bool, true, false, List, ℕ, ◌*◌, ◌/◌, ◌%◌, ◌<◌, ◌≤◌}
-use Rattle.std.proofs.Common.{sym, ◌∙◌, ap, arith, ext_get_or}
-use Rattle.std.proofs.Math.Decide.{ℕ_discrete}
+use Rattle.std.specs.Prelude.{◌≡◌, refl, ◌↔◌, Bool, true, false, List, ℕ, ◌*◌, ◌/◌, ◌%◌, ◌<◌}
+use Rattle.std.proofs.Common.{sym, ◌∙◌, ap, arith}
 use Rattle.kinds.specs.Kinds.{most_states}
 use Rattle.meaning.specs.Sheet.{Mark}
 use Rattle.meaning.proofs.SheetLaws.{rounds-unique}
@@ -16,8 +15,8 @@ use Rattle.sheet.specs.declared.allowed.Ran.TheVariants.{Needed}
 use Rattle.meaning.specs.Marks.{Added}
 use Rattle.sheet.specs.Sheets.{Holds}
 use Rattle.sheet.specs.Ends.{Ended, needed, spent, rounds_made}
-use Rattle.meaning.specs.Layout.{area_length}
-use Rattle.sheet.specs.Areas.{LaysRows, LaysMarks}
+use Rattle.meaning.proofs.LayoutLaws.{packs-once}
+use Rattle.sheet.specs.Areas.{IsPlaceIn, LaysRows, IsPlaceOf, LaysMarks}
 use Rattle.sheet.specs.Meant.{IsSheet, HasRound, SameRound, Closes}
 
 module _ (rows : Rows) (allowance : ℕ) where
@@ -51,23 +50,12 @@ module _ (rows : Rows) (n : ℕ) where
     next = holds_once (Added (kind_of rows) n) v.next.marks.rows w.next.marks.rows a.round.next b.round.next a.next b.next;
   }
 
-bit_once : (a b : ℕ) → a ≤ 1 → b ≤ 1 → (a ≡ 1) ↔ (b ≡ 1) → a ≡ b
-bit_once a b la lb s = side (ℕ_discrete a 1)
-  where
-    side : Dec (a ≡ 1) → a ≡ b
-    side (yes e) = e ∙ sym (s.0 e)
-    side (no ne) = let n : b ≡ 1 → ⊥ = λ e. ne (s.1 e) in omega arith
-
 -- THEOREM: every byte of an area is given by the marks
 pub lays_once : (f : ℕ → ℕ → ℕ → Type 0) (v w : List ℕ) → LaysMarks f v → LaysMarks f w → v ≡ w
-lays_once f v w a b =
-    ext_get_or 0 v w (a.long ∙ sym b.long) (λ p h. bit_once _ _ (a.bits p) (b.bits p) (λ e. (b.marks p).1 ((a.marks p).0 e), λ e. (a.marks p).1 ((b.marks p).0 e)))
+lays_once f = packs-once (IsPlaceOf f)
 
 pub rows_lay_once : (sheet : List ConceptSet) (v w : List ℕ) → LaysRows sheet v → LaysRows sheet w → v ≡ w
-rows_lay_once sheet v w a b =
-    ext_get_or 0 v w (a.long ∙ sym b.long) (λ p h.
-    let l : p < area_length = omega (arith, a.long) in
-    bit_once _ _ (a.bits p) (b.bits p) (λ e. (b.marks p l).1 ((a.marks p l).0 e), λ e. (a.marks p l).1 ((b.marks p l).0 e)))
+rows_lay_once sheet = packs-once (IsPlaceIn sheet)
 
 -- THEOREM: what rounds answer, and leave in both areas, is given by what it is called with
 pub runs_once : (rows : Rows) (allowance : ℕ) (r q : Ran) (x y u v : List ℕ) → Closes rows allowance r x y → Closes rows allowance q u v

@@ -1,30 +1,22 @@
--- Where a mark stands in an area: a byte to a place.
-use Rattle.std.specs.Prelude.{◌≡◌, ◌↔◌, ◌⊎◌, List, ℕ, ◌+◌, ◌/◌, ◌%◌, ◌<◌, ◌≤◌, length, slice_index}
-use Rattle.meaning.specs.Layout.{area_length}
+-- What an area holds of a sheet of rows: its marks, each at its place, and nothing else.
+use Rattle.std.specs.Prelude.{◌≡◌, List, ℕ, ◌/◌, ◌%◌, ◌<◌}
+use Rattle.meaning.specs.Layout.{place_count, Packs}
 use Rattle.sets.specs.declared.concepts.ConceptSet.{ConceptSet}
 use Rattle.rules.specs.Rows.{most_concepts, At}
 use Rattle.sheet.specs.Sheets.{place}
 
+-- p is the place of a concept of the rows
+abbrev pub IsPlaceIn : List ConceptSet → ℕ → Type 0
+IsPlaceIn sheet p = (p < place_count) × At sheet (p / most_concepts) (p % most_concepts)
+
 -- 1 at the place of each concept of the rows, and 0 at every other
-pub record LaysRows (sheet : List ConceptSet) (area : List ℕ) : Type 0 where
-  pub long : length area ≡ area_length
-  pub bits : (p : ℕ) → slice_index area p ≤ 1
-  pub marks : (p : ℕ) → p < area_length → (slice_index area p ≡ 1)
-      ↔ At sheet (p / most_concepts) (p % most_concepts)
+abbrev pub LaysRows : List ConceptSet → List ℕ → Type 0
+LaysRows sheet = Packs (IsPlaceIn sheet)
+
+-- p is the place of a mark of f
+abbrev pub IsPlaceOf : (ℕ → ℕ → ℕ → Type 0) → ℕ → Type 0
+IsPlaceOf f p = (s t B : ℕ) × f s t B × (place s t B ≡ p)
 
 -- 1 at the place of each mark, and 0 at every other
-pub record LaysMarks (f : ℕ → ℕ → ℕ → Type 0) (area : List ℕ) : Type 0 where
-  pub long : length area ≡ area_length
-  pub bits : (p : ℕ) → slice_index area p ≤ 1
-  pub marks : (p : ℕ) → (slice_index area p ≡ 1) ↔ ((s t B : ℕ) × f s t B × (place s t B ≡ p))
-
--- the bits of a byte of a set
-abbrev pub byte_bits : ℕ
-byte_bits = 8
-
--- of n places from one on, 1 where P and else 0; all others as they were
-pub record Laid (P : ℕ → Type 0) (at n : ℕ) (old new : List ℕ) : Type 0 where
-  pub long : length new ≡ length old
-  pub bits : (j : ℕ) → j < n → slice_index new (at + j) ≤ 1
-  pub marks : (j : ℕ) → j < n → (slice_index new (at + j) ≡ 1) ↔ P j
-  pub rest : (p : ℕ) → p < at ⊎ at + n ≤ p → slice_index new p ≡ slice_index old p
+abbrev pub LaysMarks : (ℕ → ℕ → ℕ → Type 0) → List ℕ → Type 0
+LaysMarks f = Packs (IsPlaceOf f)

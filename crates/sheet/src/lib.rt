@@ -12,7 +12,7 @@ mod settling;
 pub mod theorems;
 
 pub use allowed::Ran;
-pub use areas::{AREA, lay};
+pub use areas::lay;
 pub use closing::Closing;
 pub use fresh::{Fresh, Marks};
 use kinds::State;

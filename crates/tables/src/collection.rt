@@ -3,7 +3,7 @@ ghost use Rattle.std.specs.Prelude.{◌≡◌, ◌↔◌, IsTrue, IsOk};
 
 use crate::records::{ConceptFact, ConceptPair, RoleFact, RolePair, Step, StepKind};
 use crate::table::Table;
-use kinds::{Answer, Concept, Counts, State};
+use kinds::{AREA, Answer, Counts, State};
 
 // What is declared, and the eight tables, as a call lends them: nothing is known of a number before `check`.
 #[derive(Clone, Copy)]
@@ -61,9 +61,6 @@ pub const ROLE_FACTS: usize = 4096;
 pub const STEPS: usize = 512;
 
 pub const FINALS: usize = 16;
-
-// The bytes of an area: one for each two states and each basic concept.
-pub const AREA: usize = State::PAIRS * Concept::NUMBERS;
 
 impl<'a> Collection<'a> {
     ghost use Rattle.kinds.specs.Kinds.{CountsFit};

@@ -7,6 +7,7 @@ use super::outputs::FROM;
 use super::parts::{Difference, Outcome};
 use super::tally::Tally;
 use super::{shown, text};
+use crate::area::{self, AREA};
 use crate::ask::Ask;
 use crate::collection::Collection;
 use crate::desk::desk;
@@ -111,14 +112,14 @@ fn say(asked: &Asked, known: &Known, allowance: u16) -> Result<Said, TooLarge> {
         Answer::No => (0, needed as u16),
     };
     let answers = model.asked(&asked.asks)?.into_iter().map(answered).collect();
-    let area = (!model.is_contradiction()).then(|| sheets[worked].clone());
+    let area = (!model.is_contradiction()).then(|| area::holding(sheets[worked].iter().copied()));
     let added = if area.is_some() { letter::added(&sheets[..=worked]) } else { Vec::new() };
     let closed = match &area {
         None => 2,
         Some(_) if needed > worked => 3,
         Some(_) => 0,
     };
-    let marks_agree = marks(&model) == sheets[needed];
+    let marks_agree = *model.loops() == sheets[needed];
     Ok(Said { answers, area, closed, added, depth: model.depth, marks_agree })
 }
 
@@ -128,23 +129,13 @@ pub fn questioned(collection: &Collection, asks: &[Ask]) -> Result<Vec<Answer>, 
     Model::of(&known)?.asked(asks)
 }
 
-fn marks(model: &Model) -> Vec<u8> {
-    let mut bytes = vec![0; letter::AREA];
-    for (concept, pairs) in model.loops() {
-        for (from, to) in pairs {
-            bytes[from.at() * 2_048 + to.at() * 128 + concept.at()] = 1;
-        }
-    }
-    bytes
-}
-
 /// Each ask is put to module `library`, with both areas.
 fn library_agrees(asked: &Asked, allowance: u16, said: &Said) -> Result<(), (String, String)> {
     if !said.marks_agree {
         return Err(("the closed sheet to the letter".into(), "other loops by search".into()));
     }
-    let before = (vec![0xAA; letter::AREA], vec![0x55; letter::AREA]);
-    let after = said.area.clone().map_or(before.clone(), |sheet| (sheet, vec![0; letter::AREA]));
+    let before = (vec![0xAA; AREA], vec![0x55; AREA]);
+    let after = said.area.clone().map_or(before.clone(), |sheet| (sheet, vec![0; AREA]));
     let call = Call::of(&asked.collection, allowance);
     let (mut area, mut spare) = before.clone();
     let told = library::marks(&call, allowance.into(), &mut area, &mut spare);

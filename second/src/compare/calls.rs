@@ -2,10 +2,11 @@
 
 use super::dice::Dice;
 use super::generate::{full, many_rounds, medium, small, Asked};
+use super::protocol::MOST_AREA;
+use crate::area::AREA;
 use crate::ask::Ask;
 use crate::library::{Call, SHAPES};
 use crate::numbers::Individual;
-use crate::sheet::AREA;
 
 /// What is asked of a collection: a pair, one individual, or a row of pairs.
 pub enum Asks {
@@ -145,7 +146,7 @@ fn bad_shape(dice: &mut Dice, lent: &mut Lent) {
         1 => numbers.resize(width * (most + 1), 0),
         2 => numbers.resize(dice.between(width * most + 1, 65_535), 0),
         _ => {
-            let length = dice.pick(&[0, 1, 16_384, 32_767, 32_769, 65_536]);
+            let length = dice.pick(&[0, 1, AREA / 2, AREA - 1, AREA + 1, 2 * AREA, MOST_AREA]);
             lent.lengths[dice.below(2)] = length;
         }
     }

@@ -2,14 +2,15 @@
 
 use super::calls::{Asks, Lent, Row};
 use super::typed::Typed;
+use crate::area::AREA;
 use crate::library::{ask, ask_all, ask_from, made_of, Call, Made};
 
 /// Bytes behind each area that the call must not touch; they are filled with the complement of the area's fill. So it is
 /// behind the entries of a row.
 pub const GUARD: usize = 64;
 
-/// The longest area that is lent.
-pub const MOST_AREA: usize = 65_536;
+/// The longest area that is lent: as long as a byte for each mark would need it.
+pub const MOST_AREA: usize = 8 * AREA;
 
 /// The most entries that are lent for a row's numbers, and for its counts.
 pub const MOST_ENTRIES: usize = 1_024;

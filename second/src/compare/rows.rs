@@ -4,8 +4,8 @@ use super::calls::{call_of, make_stranger, make_wild, pair_of, plant, some_many_
 use super::dice::Dice;
 use super::generate::{full, medium, small, Asked};
 use super::parts::SELF_DEALING;
+use crate::area::AREA;
 use crate::library::PAIRS;
-use crate::sheet::AREA;
 
 /// What a row can be, beside the numbers it is answered with; 8 is an undeclared pair.
 pub const MET: [&str; 16] = [

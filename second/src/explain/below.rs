@@ -1,11 +1,11 @@
 //! Where a walk comes below the individuals: of each last signed role and state the element found first, with its leg.
 
 use super::path::Spot;
-use super::rounds::Mark;
 use super::walk::{Ground, Leg, Place, Walk};
 use crate::element::Element;
 use crate::numbers::{Concept, Role, State};
 use crate::order::marked;
+use crate::sheet::Mark;
 use std::collections::{BTreeMap, BTreeSet, HashSet};
 
 pub struct Below<'a> {

@@ -1,9 +1,10 @@
 //! The path of an ask: the legs of its walk, with every mark in it unfolded into unnamed elements.
 
-use super::rounds::{Carried, Mark, Reason, Rounds};
+use super::rounds::{Carried, Reason, Rounds};
 use super::walk::Leg;
 use crate::element::Element;
 use crate::numbers::{Concept, State};
+use crate::sheet::Mark;
 use std::collections::HashMap;
 
 /// How a path came to where it stands.

@@ -4,15 +4,8 @@ use crate::collection::Step;
 use crate::desk::read::File;
 use crate::numbers::{Concept, Role, State};
 use crate::order::{marked, Orders};
-use crate::sheet::{Rules, Sheet};
+use crate::sheet::{Mark, Rules, Sheet};
 use std::collections::HashMap;
-
-#[derive(Clone, Copy, Debug, PartialEq, Eq, Hash, PartialOrd, Ord)]
-pub struct Mark {
-    pub from: State,
-    pub to: State,
-    pub concept: Concept,
-}
 
 /// A role step of the question with its line.
 #[derive(Clone, Copy, Debug, PartialEq, Eq)]

@@ -1,12 +1,12 @@
 //! The walk of the individuals once more, now with the leg by which each place was first reached.
 
-use super::rounds::{Carried, Mark, Rounds};
+use super::rounds::{Carried, Rounds};
 use crate::collection::Step;
 use crate::desk::read::File;
 use crate::numbers::{Concept, Individual, Role, State};
 use crate::order::{marked, Orders};
 use crate::people::People;
-use crate::sheet::Rules;
+use crate::sheet::{Mark, Rules};
 use std::collections::{HashMap, VecDeque};
 
 /// One move of the walk between individuals.

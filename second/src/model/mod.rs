@@ -25,7 +25,8 @@ mod tree;
 
 use crate::ask::Ask;
 use crate::collection::Collection;
-use crate::numbers::{Concept, Individual, Role, State};
+use crate::numbers::{Individual, Role, State};
+use crate::sheet::Mark;
 use known::Known;
 use std::collections::{BTreeMap, BTreeSet};
 pub use tree::TooLarge;
@@ -38,13 +39,13 @@ pub enum Answer {
     Contradiction,
 }
 
-/// The loops of each concept's tree: pairs of states.
-pub type Loops = BTreeMap<Concept, BTreeSet<(State, State)>>;
+/// The loops of each concept's tree, or a sheet to the letter.
+pub type Marks = BTreeSet<Mark>;
 
 pub struct Model<'a> {
     known: &'a Known<'a>,
     contradiction: bool,
-    loops: Loops,
+    loops: Marks,
     /// The depth from which on the loops no longer change.
     pub depth: usize,
 }
@@ -55,8 +56,8 @@ impl<'a> Model<'a> {
         Ok(Model { known, contradiction: contradiction(known)?, loops, depth })
     }
 
-    /// The meaning of the closed sheet's marks.
-    pub fn loops(&self) -> &Loops {
+    /// The marks of the closed sheet, by their meaning.
+    pub fn loops(&self) -> &Marks {
         &self.loops
     }
 
@@ -126,7 +127,7 @@ pub fn ask(collection: &Collection, ask: Ask) -> Result<Answer, TooLarge> {
     Ok(Model::of(&known)?.asked(&[ask])?[0])
 }
 
-fn grow_until_unchanged(known: &Known) -> Result<(Loops, usize), TooLarge> {
+fn grow_until_unchanged(known: &Known) -> Result<(Marks, usize), TooLarge> {
     let mut depth = 0;
     let mut loops = loops_cut_at(known, depth)?;
     loop {
@@ -139,15 +140,15 @@ fn grow_until_unchanged(known: &Known) -> Result<(Loops, usize), TooLarge> {
     }
 }
 
-fn loops_cut_at(known: &Known, cut: usize) -> Result<Loops, TooLarge> {
+fn loops_cut_at(known: &Known, cut: usize) -> Result<Marks, TooLarge> {
     let counts = &known.collection.counts;
-    let mut loops = Loops::new();
+    let mut loops = Marks::new();
     for concept in counts.all_concepts() {
         let mut tree = Tree::of_concept(known, concept, cut);
-        let pairs = loops.entry(concept).or_default();
         for from in counts.all_states() {
             let reached = tree.reached((0, from))?;
-            pairs.extend(reached.iter().filter(|stand| stand.0 == 0).map(|&(_, to)| (from, to)));
+            let back = reached.iter().filter(|stand| stand.0 == 0);
+            loops.extend(back.map(|&(_, to)| Mark { from, to, concept }));
         }
     }
     Ok(loops)

@@ -29,6 +29,7 @@ pub fn figures(explained: &Explanation) -> String {
 #[cfg(test)]
 mod tests {
     use super::*;
+    use crate::area::standing;
     use crate::explain::MOST_STEPS;
     use crate::prepared::Prepared;
 
@@ -52,8 +53,7 @@ mod tests {
         for allowance in 0..4 {
             let explained = explained(&format!("{B} 0C{allowance:04X}"));
             let prepared = Prepared::of(&explained.file.collection, allowance);
-            let area = prepared.sheet_bytes().expect("no contradiction");
-            let standing = area.iter().filter(|byte| **byte == 1).count();
+            let standing = standing(&prepared.area().expect("no contradiction"));
             assert_eq!(marks_after(&explained, worked(&explained)), standing);
             let added = prepared.added().expect("no contradiction").iter().map(|added| usize::from(*added));
             assert_eq!(marks_of_round_0(&explained) + added.sum::<usize>(), standing);

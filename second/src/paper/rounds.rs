@@ -3,9 +3,10 @@
 use super::table::Table;
 use super::words::{counted, Words};
 use crate::explain::path::{halves, inner};
-use crate::explain::rounds::{Carried, Mark, Reason};
+use crate::explain::rounds::{Carried, Reason};
 use crate::explain::Explanation;
 use crate::numbers::{Concept, State};
+use crate::sheet::Mark;
 
 const ROUNDS: [&str; 6] = ["Round", "Added", "Rule", "Because", "Marks after the round", "The desk writes"];
 

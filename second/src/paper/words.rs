@@ -3,9 +3,9 @@
 use crate::ask::Ask;
 use crate::element::Element;
 use crate::explain::chain::{Link, Rule};
-use crate::explain::rounds::Mark;
 use crate::expression::in_words;
 use crate::numbers::{Concept, Individual, Role, State};
+use crate::sheet::Mark;
 
 /// The words for names and roles, from number 0 on; a number without a word is written as `explain` writes it.
 #[derive(Default)]

@@ -8,9 +8,10 @@ use crate::collection::Step;
 use crate::desk::fault_line;
 use crate::explain::fault::Faulty;
 use crate::explain::path::{halves, inner};
-use crate::explain::rounds::{Mark, Reason};
+use crate::explain::rounds::Reason;
 use crate::explain::Explanation;
 use crate::expression::in_words;
+use crate::sheet::Mark;
 use std::fmt::Display;
 
 const NOTATION: &str = "NOTATION

@@ -3,8 +3,9 @@
 use crate::element::Element;
 use crate::explain::chain::{Link, Rule};
 use crate::explain::people::{Has, Source};
-use crate::explain::rounds::{Carried, Mark};
+use crate::explain::rounds::Carried;
 use crate::numbers::{Concept, Individual, Role, State};
+use crate::sheet::Mark;
 use std::fmt::{Display, Formatter, Result};
 
 impl Display for Role {

@@ -9,4 +9,4 @@ pub returns-clause-one_first : goal.returns-clause-one_first
 returns-clause-one_first g c = first-once
 
 pub returns-clause-one_row_of_bytes : goal.returns-clause-one_row_of_bytes
-returns-clause-one_row_of_bytes g c m n a b p q = bytes-once m n a b p.1 q.1 p.0.long q.0.long (λ k h. (p.0.small k h, q.0.small k h))
+returns-clause-one_row_of_bytes g c = bytes-once
