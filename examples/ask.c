@@ -2,9 +2,9 @@
 #include <stdio.h>
 #include "lampsaffron.h"
 
-/* Owner 0, Deed 1; signs 0, holds 1. Owner <= has signs; has signs backward <= Deed; Owner(0).
+/* Owner 0, Deed 1; signs 0, holds 1. Owner <= has signs; has signs backward <= Deed; Owner(0), by deed 4711.
    The question: signs, test Deed, signs backward. */
-static const uint16_t rules[] = {0, 64, 65, 1}, facts[] = {0, 0};
+static const uint16_t rules[] = {0, 64, 65, 1}, facts[] = {0, 0, 4711};
 static const uint16_t steps[] = {0, 0, 0, 1, 1, 1, 1, 2, 0, 2, 1, 3}, finals[] = {3}, none[1];
 static uint8_t area[LAMPSAFFRON_AREA], spare[LAMPSAFFRON_AREA];
 
@@ -18,7 +18,7 @@ int main(void) {
     uint16_t count;
     for (uint16_t second = 0; second < 2; second++) {
         uint8_t number = lampsaffron_ask(2, 2, 2, 4, 0, rules, 4, none, 0, none, 0, none, 0,
-            facts, 2, none, 0, steps, 12, finals, 1, 0, second, 64, area, sizeof area, spare, sizeof spare, &count);
+            facts, 3, none, 0, steps, 12, finals, 1, 0, second, 64, area, sizeof area, spare, sizeof spare, &count);
         int marks = 0;
         for (unsigned s = 0; s < 16; s++)
             for (unsigned t = 0; t < 16; t++)
@@ -32,7 +32,7 @@ int main(void) {
     uint8_t numbers[2];
     uint16_t counts[2];
     if (!lampsaffron_ask_all(2, 2, 2, 4, 0, rules, 4, none, 0, none, 0, none, 0,
-            facts, 2, none, 0, steps, 12, finals, 1, pairs, 4, 64, area, sizeof area, spare, sizeof spare,
+            facts, 3, none, 0, steps, 12, finals, 1, pairs, 4, 64, area, sizeof area, spare, sizeof spare,
             numbers, 2, counts, 2)) return 1;
     for (int k = 0; k < 2; k++)
         printf("(%d, %d) in a row: number %d, count %d\n", pairs[2 * k], pairs[2 * k + 1], numbers[k], counts[k]);
@@ -43,7 +43,7 @@ int main(void) {
     if (lampsaffron_expression(marks_typed, 3, made_steps, LAMPSAFFRON_STEPS, made_finals, LAMPSAFFRON_FINALS,
             &states, &steps_used, &finals_used)) return 1;
     uint8_t number = lampsaffron_ask(2, 2, 2, states, 0, rules, 4, none, 0, none, 0, none, 0,
-        facts, 2, none, 0, made_steps, steps_used, made_finals, finals_used, 0, 0, 64, area, sizeof area, spare, sizeof spare, &count);
+        facts, 3, none, 0, made_steps, steps_used, made_finals, finals_used, 0, 0, 64, area, sizeof area, spare, sizeof spare, &count);
     printf("(0, 0) by an expression of %d states: number %d, count %d\n", states, number, count);
     return 0;
 }

@@ -51,9 +51,9 @@ fn stands(area: &[u8], s: usize, t: usize, concept: usize) -> bool {
 }
 
 fn main() {
-    // Owner 0, Deed 1; signs 0, holds 1. Owner ≤ ∃signs; ∃(signs backward) ≤ Deed; Owner(0).
+    // Owner 0, Deed 1; signs 0, holds 1. Owner ≤ ∃signs; ∃(signs backward) ≤ Deed; Owner(0), by deed 4711.
     let rules: [u16; 4] = [0, 64, 65, 1];
-    let facts: [u16; 2] = [0, 0];
+    let facts: [u16; 3] = [0, 0, 4711];
     // The question: signs, test Deed, signs backward.
     let steps: [u16; 12] = [0, 0, 0, 1, 1, 1, 1, 2, 0, 2, 1, 3];
     let finals: [u16; 1] = [3];

@@ -33,6 +33,9 @@ enum lampsaffron_number {
 };
 
 /* Each table is a pointer to its 16-bit numbers, record after record, and how many numbers there are (not how many records).
+   A rule and an exclusion have 2 numbers: left, right; a concept fact 3: name, individual, deed number; a role fact 4: role name, first, second,
+   deed number; a step 4: kind, state, signed role or name, state; a final 1. A deed number is 0 where none is noted; each is allowed, and nothing
+   that comes back depends on it.
    A pointer must not be null, even where its count is 0; no area may overlap anything else that is passed.
    Returns the number; *count gets its count. After 0, 1 and 3 the first area holds the sheet and the second zeros;
    after all else both are as they came. Every value of every number is answered. */

@@ -18,6 +18,24 @@ pub enum Step {
     Test { from: State, name: Concept, to: State },
 }
 
+/// A name typed of an individual.
+#[derive(Clone, Copy, Debug, PartialEq, Eq)]
+pub struct ConceptFact {
+    pub name: Concept,
+    pub who: Individual,
+    pub deed: Deed,
+}
+
+/// A role typed of two individuals, which may be one.
+#[derive(Clone, Copy, Debug, PartialEq, Eq)]
+pub struct RoleFact {
+    /// Always a forward one: facts are typed on role names.
+    pub role: Role,
+    pub first: Individual,
+    pub second: Individual,
+    pub deed: Deed,
+}
+
 #[derive(Clone, Debug, PartialEq, Eq)]
 pub struct Collection {
     pub counts: Counts,
@@ -25,9 +43,8 @@ pub struct Collection {
     pub concept_exclusions: Vec<(Concept, Concept)>,
     pub role_rules: Vec<(Role, Role)>,
     pub role_exclusions: Vec<(Role, Role)>,
-    pub concept_facts: Vec<(Concept, Individual)>,
-    /// The role is always a forward one: facts are typed on role names.
-    pub role_facts: Vec<(Role, Individual, Individual)>,
+    pub concept_facts: Vec<ConceptFact>,
+    pub role_facts: Vec<RoleFact>,
     pub steps: Vec<Step>,
     pub finals: Vec<State>,
 }
@@ -108,5 +125,15 @@ impl Collection {
             steps: Vec::new(),
             finals: Vec::new(),
         }
+    }
+
+    /// The deed numbers of all facts, those of names first.
+    pub fn deeds(&self) -> impl Iterator<Item = Deed> + '_ {
+        let names = self.concept_facts.iter().map(|fact| fact.deed);
+        names.chain(self.role_facts.iter().map(|fact| fact.deed))
+    }
+
+    pub fn notes_a_deed(&self) -> bool {
+        self.deeds().any(|deed| deed != Deed::NONE_NOTED)
     }
 }

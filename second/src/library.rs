@@ -3,16 +3,20 @@
 
 use crate::area::AREA;
 use crate::ask::Ask;
-use crate::collection::{Collection, Counts, Step};
+use crate::collection::{Collection, ConceptFact, Counts, RoleFact, Step};
 use crate::expression::automaton::Automaton;
 use crate::expression::read::{expression, too_deep};
 use crate::expression::Letter;
-use crate::numbers::{Concept, Individual, Role, State, MOST_STATES};
+use crate::numbers::{Concept, Deed, Role, State, MOST_STATES};
 use crate::prepared::{Prepared, ALLOWANCE_SPENT, CONTRADICTION};
 
 /// How many numbers a record has and how many records there may be, in the order of docs/RULES.md, section 3.
 pub const SHAPES: [(usize, usize); 8] =
-    [(2, 512), (2, 512), (2, 128), (2, 128), (2, 1_024), (3, 4_096), (4, 512), (1, 16)];
+    [(2, 512), (2, 512), (2, 128), (2, 128), (3, 1_024), (4, 4_096), (4, 512), (1, 16)];
+
+/// The places of both tables of facts; the last number of their records is a deed number.
+pub const CONCEPT_FACTS: usize = 4;
+pub const ROLE_FACTS: usize = 5;
 
 /// The most pairs of one row.
 pub const PAIRS: usize = 256;
@@ -39,8 +43,8 @@ impl Call {
             concepts(&collection.concept_exclusions),
             roles(&collection.role_rules),
             roles(&collection.role_exclusions),
-            flat(&collection.concept_facts, |fact| vec![fact.0 .0, fact.1 .0]),
-            flat(&collection.role_facts, |fact| vec![fact.0 .0 / 2, fact.1 .0, fact.2 .0]),
+            collection.concept_facts.iter().flat_map(concept_fact_numbers).collect(),
+            collection.role_facts.iter().flat_map(role_fact_numbers).collect(),
             step_numbers(&collection.steps),
             final_numbers(&collection.finals),
         ];
@@ -50,6 +54,14 @@ impl Call {
 
 fn flat<T>(table: &[T], record: impl Fn(&T) -> Vec<u8>) -> Vec<u16> {
     table.iter().flat_map(record).map(u16::from).collect()
+}
+
+fn concept_fact_numbers(fact: &ConceptFact) -> [u16; 3] {
+    [fact.name.0.into(), fact.who.0.into(), fact.deed.0]
+}
+
+fn role_fact_numbers(fact: &RoleFact) -> [u16; 4] {
+    [u16::from(fact.role.0 / 2), fact.first.0.into(), fact.second.0.into(), fact.deed.0]
 }
 
 fn step_numbers(steps: &[Step]) -> Vec<u16> {
@@ -164,11 +176,8 @@ fn records(counts: Counts, tables: &[Vec<u16>; 8]) -> Option<Collection> {
         concept_exclusions: concept_pairs(&counts, exclusions)?,
         role_rules: role_pairs(&counts, role_rules)?,
         role_exclusions: role_pairs(&counts, role_exclusions)?,
-        concept_facts: facts
-            .chunks(2)
-            .map(|record| Some((counts.name(record[0])?, counts.individual(record[1])?)))
-            .collect::<Option<_>>()?,
-        role_facts: role_facts.chunks(3).map(|record| role_fact(&counts, record)).collect::<Option<_>>()?,
+        concept_facts: facts.chunks(3).map(|record| concept_fact(&counts, record)).collect::<Option<_>>()?,
+        role_facts: role_facts.chunks(4).map(|record| role_fact(&counts, record)).collect::<Option<_>>()?,
         steps: steps.chunks(4).map(|record| step(&counts, record)).collect::<Option<_>>()?,
         finals: finals.iter().map(|&state| counts.state(state)).collect::<Option<_>>()?,
     })
@@ -184,9 +193,15 @@ fn role_pairs(counts: &Counts, table: &[u16]) -> Option<Vec<(Role, Role)>> {
     table.chunks(2).map(pair).collect()
 }
 
-fn role_fact(counts: &Counts, record: &[u16]) -> Option<(Role, Individual, Individual)> {
+fn concept_fact(counts: &Counts, record: &[u16]) -> Option<ConceptFact> {
+    let (name, who) = (counts.name(record[0])?, counts.individual(record[1])?);
+    Some(ConceptFact { name, who, deed: Deed(record[2]) })
+}
+
+fn role_fact(counts: &Counts, record: &[u16]) -> Option<RoleFact> {
     let role = counts.role_name(record[0])?;
-    Some((role, counts.individual(record[1])?, counts.individual(record[2])?))
+    let (first, second) = (counts.individual(record[1])?, counts.individual(record[2])?);
+    Some(RoleFact { role, first, second, deed: Deed(record[3]) })
 }
 
 fn step(counts: &Counts, record: &[u16]) -> Option<Step> {

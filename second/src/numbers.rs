@@ -22,6 +22,14 @@ pub struct Individual(pub u8);
 #[derive(Clone, Copy, Debug, PartialEq, Eq, PartialOrd, Ord, Hash)]
 pub struct State(pub u8);
 
+/// The number of the deed by which a fact is known. Each is allowed, and no answer depends on it.
+#[derive(Clone, Copy, Debug, PartialEq, Eq, PartialOrd, Ord, Hash)]
+pub struct Deed(pub u16);
+
+impl Deed {
+    pub const NONE_NOTED: Deed = Deed(0);
+}
+
 impl Role {
     pub fn forward(name: u8) -> Role {
         Role(2 * name)

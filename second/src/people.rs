@@ -1,6 +1,6 @@
 //! The named part of the canonical model: each individual's concepts and the fact edges.
 
-use crate::collection::Collection;
+use crate::collection::{Collection, ConceptFact, RoleFact};
 use crate::numbers::{Individual, Role};
 use crate::order::Orders;
 
@@ -16,10 +16,10 @@ impl People {
         let count = usize::from(collection.counts.individuals);
         let mut concepts = vec![0u128; count];
         let mut edges = vec![Vec::new(); count];
-        for &(name, who) in &collection.concept_facts {
+        for &ConceptFact { name, who, .. } in &collection.concept_facts {
             concepts[who.at()] |= orders.concepts_above(name);
         }
-        for &(role, first, second) in &collection.role_facts {
+        for &RoleFact { role, first, second, .. } in &collection.role_facts {
             for (here, there, seen) in [(first, second, role), (second, first, role.inverse())] {
                 concepts[here.at()] |= orders.concepts_above(seen.neighbour());
                 edges[here.at()].push((there, seen));

@@ -43,7 +43,7 @@ fn one_individual_with_its_path() {
     );
     says(
         &text,
-        &["(i0·r0, q2)  by the test A1? (line 6)\nLine 10: i1 to any element: 8E01000002, no, 2 rounds"],
+        &["(i0·r0, q2)  by the test A1? (line 6); rests on deed none noted, line 4\nLine 10: i1 to any element: 8E01000002, no, 2 rounds"],
     );
     says(&text, &["from (i1, q0) paths come to i1 in q0\n  and below the individuals nowhere"]);
     // A state that nothing leads to is final.
@@ -68,7 +68,13 @@ fn case_6_and_7_with_their_clashes() {
 #[test]
 fn case_13_and_15_an_edge_to_itself() {
     let text = explained("010202020300 07010000 07000001 08000201 08010002 0A02 0B0001");
-    says(&text, &["(i0, q0)\n  (i0, q1)  by q0 –r1→ q1", "along the fact on line 2\n  (i1, q2)"]);
+    says(
+        &text,
+        &[
+            "(i0, q0)\n  (i0, q1)  by q0 –r1→ q1",
+            "along the fact on line 2; rests on deed none noted, line 2\n  (i1, q2)",
+        ],
+    );
     let text = explained("010202020300 050203 07010000 07000001 08000201 08010002 0A02 0B0001");
     says(&text, &["the pair (i0, i0) has r1 and r1⁻, which line 2 excludes."]);
     says(&text, &["they have r1⁻: line 3 joins it to itself by r1⁻"]);

@@ -116,7 +116,7 @@ fn case_1_with_tables_written_by_hand() {
             vec![],
             vec![],
             vec![],
-            vec![0, 0],
+            vec![0, 0, 4_711],
             vec![],
             vec![0, 0, 0, 1, 1, 1, 1, 2, 0, 2, 1, 3],
             vec![3],
@@ -263,7 +263,7 @@ fn case_12_in_the_library() {
     let mut number = |call: &Call, second| ask(call, [254, second], &mut area, &mut spare).0;
     assert_eq!(number(&call, 254), 0);
     assert_eq!(number(&call, 255), 8);
-    call.tables[4] = vec![0, 255];
+    call.tables[4] = vec![0, 255, 0];
     assert_eq!(number(&call, 255), 6);
     call.counts[3] = 17;
     assert_eq!(number(&call, 255), 4);
@@ -276,7 +276,7 @@ fn the_refusals_of_the_call_for_the_marks_of_rounds() {
     assert_eq!(number(&call, 3, AREA), 0);
     assert_eq!(number(&call, 2, AREA), 5);
     assert_eq!(number(&call, 3, AREA - 1), 5);
-    call.tables[4] = vec![0, 255];
+    call.tables[4] = vec![0, 255, 0];
     assert_eq!(number(&call, 3, AREA), 6);
     assert_eq!(number(&call, 2, AREA), 5);
     call.counts[3] = 17;

@@ -111,7 +111,7 @@ fn word(input: &[u8], at: usize) -> u64 {
     u64::from_le_bytes(input[at..at + 8].try_into().expect("eight characters"))
 }
 
-/// The characters of a line by its kind; 0 where there is no such kind after the first line.
+/// The characters of a line by its kind, without a deed number; 0 where there is no such kind after the first line.
 const LENGTHS: [u8; 256] = {
     let mut lengths = [0; 256];
     let mut kind = 2;
@@ -126,6 +126,19 @@ const LENGTHS: [u8; 256] = {
     lengths[14] = 4;
     lengths
 };
+
+/// The characters of a deed number, which may end a fact. It is looked at for its digits only: no answer depends on it.
+const DEED: usize = 4;
+
+/// Behind a deed number that stands there; the same place where none does.
+#[inline(always)]
+fn behind_deed(input: &[u8], at: usize) -> usize {
+    if no_digit(word(input, at)) << (64 - 8 * DEED) == 0 {
+        at + DEED
+    } else {
+        at
+    }
+}
 
 /// Room for reading eight characters at once behind the last line, and the end that line may lack.
 pub const BEHIND: usize = 16;
@@ -185,7 +198,8 @@ fn broken_line(from_here: &[u8]) -> u8 {
         [b'0', low @ b'A'..=b'E'] => LENGTHS[usize::from(low - b'A' + 10)],
         _ => 0,
     };
-    if line.len() == usize::from(wanted) {
+    let by_a_deed = matches!(line[..2], [b'0', b'6' | b'7']) && line.len() == usize::from(wanted) + DEED;
+    if line.len() == usize::from(wanted) || by_a_deed {
         11
     } else {
         10
@@ -209,10 +223,17 @@ fn other_lines(input: &[u8], end: usize, file: &mut File, line: &mut u16) -> Res
         let bytes = bytes(characters);
         let (kind, x, y, z) = (bytes as u8, (bytes >> 16) as u8, (bytes >> 32) as u8, (bytes >> 48) as u8);
         let length = usize::from(LENGTHS[usize::from(kind)]);
-        if length == 0 || no_digit(characters) << (64 - 8 * length) != 0 || input[at + length] != b'\n' {
+        if length == 0 || no_digit(characters) << (64 - 8 * length) != 0 {
             return Err(broken_line(&input[at..end]));
         }
-        at += length + 1;
+        let mut behind = at + length;
+        if matches!(kind, 6 | 7) && input[behind] != b'\n' {
+            behind = behind_deed(input, behind);
+        }
+        if input[behind] != b'\n' {
+            return Err(broken_line(&input[at..end]));
+        }
+        at = behind + 1;
         match kind {
             2 => {
                 put(&mut rules, 512, file.has_concept(x) && file.has_concept(y))?;

@@ -159,3 +159,53 @@ fn an_empty_input_and_an_empty_line() {
     assert_eq!(desk(Vec::new()), b"8F00010B\n");
     assert_eq!(desk(b"\n".to_vec()), b"8F000109\n");
 }
+
+#[test]
+fn facts_by_deeds_and_without_them() {
+    let b = output(&format!("{B} 0B0000 0B0001"));
+    for fact in ["0600000000", "0600001267", "060000FFFF", "060000 060000FFFF 0600000001"] {
+        assert_eq!(output(&format!("{} 0B0000 0B0001", B.replace("060000", fact))), b, "{fact}");
+    }
+    // The name's bearer and the ends are where they were: the last bytes are the deed's.
+    asked(&B.replace("060000", "0600010000"), (0, 0), (0, 2), &[2, 2]);
+    asked(&B.replace("060000", "0600010202"), (1, 1), (1, 2), &[2, 2]);
+    let joined = "010001020200 070000010100 08000001 0A01";
+    asked(joined, (0, 1), (1, 0), &[]);
+    asked(joined, (1, 0), (0, 0), &[]);
+    // Not declared, with a deed number or without.
+    assert_eq!(output("010202020400 0602000000"), "8F000206\n");
+    assert_eq!(output("010202020400 070000020000"), "8F000206\n");
+}
+
+#[test]
+fn facts_of_other_lengths() {
+    for line in
+        ["0600", "06000000", "060000000000", "06000000000000", "070000", "0700000000", "07000000000000"]
+    {
+        assert_eq!(output(&format!("010202020400 {line}")), "8F00020A\n", "{line}");
+        assert_eq!(output(line), "8F00010A\n", "{line}");
+        assert_eq!(
+            String::from_utf8(desk(format!("010202020400\n{line}").into())).expect("text"),
+            "8F00020A\n"
+        );
+    }
+    for line in ["060000126", "0600001g67", "060000ffff", "07000001000", "0700000112 7"] {
+        assert_eq!(
+            String::from_utf8(desk(format!("010202020400\n{line}\n").into())).expect("text"),
+            "8F000209\n"
+        );
+    }
+    // A fact on line 1 is out of place, whichever its length.
+    for line in ["060000", "0600001267", "07000001", "070000011267"] {
+        assert_eq!(output(line), "8F00010B\n", "{line}");
+    }
+    // No other frame has a deed number.
+    assert_eq!(output("010202020400 0200401267"), "8F00020A\n");
+    assert_eq!(output("010202020400 080000011267"), "8F00020A\n");
+    // The last line may lack its end.
+    let ends = format!("{} 0B0000 060000", B.replace(" 060000", ""));
+    for deed in ["", "1267"] {
+        let written = desk(format!("{}{deed}", ends.replace(' ', "\n")).into_bytes());
+        assert_eq!(String::from_utf8(written).expect("text"), "8A00010002\n8A00020002\n8B0000010002\n");
+    }
+}

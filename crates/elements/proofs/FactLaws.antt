@@ -10,7 +10,7 @@ use Rattle.kinds.specs.Kinds.{most_names, base, concept_name, role_name, individ
 use Rattle.laws.specs.Gains.{Either}
 use Rattle.laws.specs.Member.{◌∈◌}
 use Rattle.laws.specs.Numbers.{numbered-in, numbered-out}
-use Rattle.meaning.specs.Lent.{records, role_fact_width, concept_fact, role_fact}
+use Rattle.meaning.specs.Lent.{records, concept_fact_width, role_fact_width, concept_fact, role_fact}
 use Rattle.tables.specs.declared.records.ConceptFact.{ConceptFact}
 use Rattle.tables.specs.declared.records.RoleFact.{RoleFact}
 use Rattle.sets.specs.Bits.{IsUnion, concept_width}
@@ -60,23 +60,23 @@ module _ (m : ℕ → ℕ → Bool) (above : List ConceptSet) where
 module _ (cf rf : List ℕ) (order : ℕ → ℕ → Bool) where
   concept-in : (i j : ℕ) → ConceptListed cf order i j → Shown cf rf order (individual i) j
   unfolding records
-  concept-in i j (k, h, w) = named (concept_name (get_or cf (2 * k + 0) 0)) (rw (← w.own) at (numbered-in (concept_fact cf) (length cf / 2) k h)) w.has-row w.marked
+  concept-in i j (k, h, w) = named (concept_name (get_or cf (concept_fact_width * k + 0) 0)) (rw (← w.own) at (numbered-in (concept_fact cf) (length cf / concept_fact_width) k h)) w.has-row w.marked
 
   role-in : (i j : ℕ) → RoleListed rf order i j → Shown cf rf order (individual i) j
   unfolding records
   role-in i j (k, h, w) = side w.marked
     where
       r : RoleName
-      r = role_name (get_or rf (3 * k + 0) 0)
+      r = role_name (get_or rf (role_fact_width * k + 0) 0)
 
       a : Individual
-      a = individual (get_or rf (3 * k + 1) 0)
+      a = individual (get_or rf (role_fact_width * k + 1) 0)
 
       b : Individual
-      b = individual (get_or rf (3 * k + 2) 0)
+      b = individual (get_or rf (role_fact_width * k + 2) 0)
 
       fact : (r, a, b) ∈ records role_fact_width role_fact rf
-      fact = numbered-in (role_fact rf) (length rf / 3) k h
+      fact = numbered-in (role_fact rf) (length rf / role_fact_width) k h
 
       side : ((i ≡ a.0) × (order (base + 2 * r.0) j ≡ true)) ⊎ ((i ≡ b.0) × (order (base + 2 * r.0 + 1) j ≡ true)) → Shown cf rf order (individual i) j
       side (inl (e, p)) = subst (λ (x : ℕ). Shown cf rf order (individual x) j) (sym e) (first r b fact w.has-rows p)
@@ -85,21 +85,21 @@ module _ (cf rf : List ℕ) (order : ℕ → ℕ → Bool) where
   shown-out : (i j : ℕ) → Shown cf rf order (individual i) j → Either (ConceptListed cf order) (RoleListed rf order) i j
   unfolding records
   shown-out i j (named A m h p) =
-      let w = numbered-out (concept_fact cf) (length cf / 2) m in
-      let e : A.0 ≡ get_or cf (2 * w.0 + 0) 0 = ap (λ (x : ConceptName × Individual). x.0.0) w.2 in
-      let f : i ≡ get_or cf (2 * w.0 + 1) 0 = ap (λ (x : ConceptName × Individual). x.1.0) w.2 in
+      let w = numbered-out (concept_fact cf) (length cf / concept_fact_width) m in
+      let e : A.0 ≡ get_or cf (concept_fact_width * w.0 + 0) 0 = ap (λ (x : ConceptName × Individual). x.0.0) w.2 in
+      let f : i ≡ get_or cf (concept_fact_width * w.0 + 1) 0 = ap (λ (x : ConceptName × Individual). x.1.0) w.2 in
       inl (w.0, w.1, record { has-row = rw e at h; own = f; marked = rw e at p })
   shown-out i j (first r b m h p) =
-      let w = numbered-out (role_fact rf) (length rf / 3) m in
-      let e : r.0 ≡ get_or rf (3 * w.0 + 0) 0 = ap (λ (x : RoleName × Individual × Individual). x.0.0) w.2 in
-      let f : i ≡ get_or rf (3 * w.0 + 1) 0 = ap (λ (x : RoleName × Individual × Individual). x.1.0) w.2 in
-      let d : b.0 ≡ get_or rf (3 * w.0 + 2) 0 = ap (λ (x : RoleName × Individual × Individual). x.2.0) w.2 in
+      let w = numbered-out (role_fact rf) (length rf / role_fact_width) m in
+      let e : r.0 ≡ get_or rf (role_fact_width * w.0 + 0) 0 = ap (λ (x : RoleName × Individual × Individual). x.0.0) w.2 in
+      let f : i ≡ get_or rf (role_fact_width * w.0 + 1) 0 = ap (λ (x : RoleName × Individual × Individual). x.1.0) w.2 in
+      let d : b.0 ≡ get_or rf (role_fact_width * w.0 + 2) 0 = ap (λ (x : RoleName × Individual × Individual). x.2.0) w.2 in
       inr (w.0, w.1, record { has-rows = record { role = rw e at h.role; first = rw f at h.first; second = rw d at h.second }; marked = inl (f, rw e at p) })
   shown-out i j (second r b m h p) =
-      let w = numbered-out (role_fact rf) (length rf / 3) m in
-      let e : r.0 ≡ get_or rf (3 * w.0 + 0) 0 = ap (λ (x : RoleName × Individual × Individual). x.0.0) w.2 in
-      let f : b.0 ≡ get_or rf (3 * w.0 + 1) 0 = ap (λ (x : RoleName × Individual × Individual). x.1.0) w.2 in
-      let d : i ≡ get_or rf (3 * w.0 + 2) 0 = ap (λ (x : RoleName × Individual × Individual). x.2.0) w.2 in
+      let w = numbered-out (role_fact rf) (length rf / role_fact_width) m in
+      let e : r.0 ≡ get_or rf (role_fact_width * w.0 + 0) 0 = ap (λ (x : RoleName × Individual × Individual). x.0.0) w.2 in
+      let f : b.0 ≡ get_or rf (role_fact_width * w.0 + 1) 0 = ap (λ (x : RoleName × Individual × Individual). x.1.0) w.2 in
+      let d : i ≡ get_or rf (role_fact_width * w.0 + 2) 0 = ap (λ (x : RoleName × Individual × Individual). x.2.0) w.2 in
       inr (w.0, w.1, record { has-rows = record { role = rw e at h.role; first = rw f at h.first; second = rw d at h.second }; marked = inr (d, rw e at p) })
 
   -- from no mark, the two tables come to the definition

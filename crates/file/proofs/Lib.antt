@@ -1,5 +1,6 @@
 -- Theorems: an input writes one text, what stands on its lines, and what is demanded of them.
 pub mod WritesLaws
+pub mod DeedLaws
 pub mod Listed
 pub mod Lined
 pub mod Told

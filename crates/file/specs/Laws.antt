@@ -12,6 +12,7 @@ use Rattle.frames.specs.declared.Frame.{Frame}
 use Rattle.reading.specs.declared.Refusal.{Refusal}
 use Rattle.tables.specs.Asks.{read_ask}
 use Rattle.reading.specs.Tables.{asks, entries, table, rounds_allowed}
+use Rattle.reading.specs.Deeds.{SameLine, InStep}
 use Rattle.file.specs.declared.TheConstants.{MOST_TEXT}
 use Rattle.file.specs.Writes.{IsSound, IsAsking, IsFaulty, collection_read, Writes}
 use Rattle.file.specs.Serves.{Serves}
@@ -30,6 +31,12 @@ TextFits = (input text : List ℕ) → Writes input text → length text ≤ MOS
 abbrev pub StartWrites : Type 0
 StartWrites = (input : List ℕ) (n : ℕ) → 467155 ≤ n → (text : List ℕ)
     → Writes (take n input) text ↔ Writes input text
+
+-- no deed number does: two inputs whose lines are one by one the same, sound or not, or facts that
+-- differ only in their deed numbers, typed or left out, write the same
+abbrev pub WritesWithoutDeeds : Type 0
+WritesWithoutDeeds = (input other : List ℕ) → InStep SameLine (lines input) (lines other)
+    → (text : List ℕ) → Writes input text ↔ Writes other text
 
 -- a text has a line for each ask at its end, and line k of those is an answer to ask k
 pub record AnswersEachAsk (fs : List Frame) (text : List ℕ) : Type 0 where

@@ -1,13 +1,15 @@
 // Laws of what an input writes. The functions here have nothing to do: each clause is a law.
 ghost use Rattle.file.specs.Laws.{WritesOnce, TextFits, StartWrites, WrittenOnce, ServedOnce};
+ghost use Rattle.file.specs.Laws.{WritesWithoutDeeds};
 ghost use Rattle.file.specs.Laws.{AsksAnswered, RoundsAreTold, NoRoundTold, FaultTold, FaultsNear};
 ghost use Rattle.file.specs.Demands.{LinesSayAsModel, LinesSayOfExpression, LinesGrow, LinesReturn, RoundsSuffice};
 
-// One text, within its room; a start of the input decides it.
+// One text, within its room; a start of the input decides it, and no deed number does.
 pub fn text()
     ensures once { WritesOnce }
     ensures fits { TextFits }
     ensures start { StartWrites }
+    ensures deeds { WritesWithoutDeeds }
     ensures written_once { WrittenOnce }
     ensures served_once { ServedOnce }
 {}

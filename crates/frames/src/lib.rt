@@ -1,13 +1,15 @@
 // A line of the desk's input becomes a frame: one named kind with its own numbers, each of its kind from here on.
 #![tactic(auto)]
 
-ghost use Rattle.std.specs.Prelude.{ℕ, ◌+◌, ◌-◌, ◌*◌, ◌<◌, ◌↔◌, ◌≡◌, IsTrue};
-ghost use Rattle.kinds.specs.Kinds.{concept_name, role_name, individual, state, signed, concept_of};
+ghost use Rattle.std.specs.Prelude.{ℕ, ◌+◌, ◌-◌, ◌*◌, ◌^◌, ◌<◌, ◌↔◌, ◌≡◌, IsTrue};
+ghost use Rattle.kinds.specs.Kinds.{concept_name, role_name, individual, state, signed, deed_number, concept_of};
 ghost use Rattle.frames.specs.Digits.{digit_of, bytes, byte_of, LineOk};
-ghost use Rattle.frames.specs.Frames.{frame_length, marks_of, frame_by, HasLength, FrameOf};
+ghost use Rattle.frames.specs.Frames.{frame_length, two_bytes, marks_of, frame_by, NotesDeed, HasLength, FrameOf};
 ghost use Rattle.frames.specs.Reader.{Advanced};
 
-use kinds::{Concept, ConceptName, Counts, Individual, RoleName, Rounds, SignedRole, State};
+use kinds::{
+    Concept, ConceptName, Counts, DeedNumber, Individual, RoleName, Rounds, SignedRole, State,
+};
 use marks::Marks;
 use sound::SoundLine;
 
@@ -23,8 +25,8 @@ pub enum Frame {
     ConceptExclusion(Concept, Concept),
     RoleRule(SignedRole, SignedRole),
     RoleExclusion(SignedRole, SignedRole),
-    ConceptFact(ConceptName, Individual),
-    RoleFact(RoleName, Individual, Individual),
+    ConceptFact(ConceptName, Individual, DeedNumber),
+    RoleFact(RoleName, Individual, Individual, DeedNumber),
     RoleStep(State, SignedRole, State),
     TestStep(State, ConceptName, State),
     Final(State),
@@ -47,8 +49,16 @@ pub const BASE: u8 = 16;
 // A byte is below it.
 const BYTE: u16 = 256;
 
-// The bytes of a frame of each kind, the kind's own byte among them; 0 where there is no such kind.
+// The bytes of a frame of each kind, the kind's own byte among them and a deed number not; 0 where there is no such kind.
 const LENGTHS: [usize; 15] = [0, 6, 3, 3, 3, 3, 3, 4, 4, 4, 2, 3, 3, 0, 2];
+
+// The kinds whose frame may end in a deed number.
+const CONCEPT_FACT: u16 = 6;
+
+const ROLE_FACT: u16 = 7;
+
+// The bytes of a deed number.
+const DEED: usize = 2;
 
 // The kind whose frame may have any length.
 const EXPRESSION: u16 = 13;
@@ -78,6 +88,25 @@ impl<'a> Reader<'a> {
         let byte = self.line.byte_at(self.at);
         self.at += 1;
         byte
+    }
+
+    // A number of two bytes, high byte first. Past the line's end both are 0.
+    #[tactic(auto, using(crate::proofs::Bytes::byte_small))]
+    fn number(&mut self) -> u16
+        requires sound { LineOk self.old.line.now }
+        requires inside { self.old.at < 63 }
+        ensures { result ≡ two_bytes (byte_of self.old.line.now) self.old.at }
+    {
+        BYTE * self.byte() + self.byte()
+    }
+
+    // The deed number that ends a fact; where the line ends before it, 0.
+    fn deed(&mut self) -> DeedNumber
+        requires sound { LineOk self.old.line.now }
+        requires inside { self.old.at < 63 }
+        ensures { result ≡ deed_number (two_bytes (byte_of self.old.line.now) self.old.at) }
+    {
+        DeedNumber(self.number())
     }
 
     // A field of one byte, as what it stands for.
@@ -158,12 +187,21 @@ fn frame_length(kind: u16) -> usize
     }
 }
 
+// Whether a line is a fact's, with a deed number at its end.
+#[tactic(auto, using(crate::proofs::Lengths::length_small))]
+fn notes_deed(line: &SoundLine, kind: u16) -> bool
+    requires { kind ≡ byte_of line.now 0 }
+    ensures { IsTrue result ↔ NotesDeed line.now }
+{
+    (kind == CONCEPT_FACT || kind == ROLE_FACT) && line.bytes() == frame_length(kind) + DEED
+}
+
 // Whether a line has the length of its kind.
 fn has_length(line: &SoundLine, kind: u16) -> bool
     requires { kind ≡ byte_of line.now 0 }
     ensures { IsTrue result ↔ HasLength line.now }
 {
-    kind == EXPRESSION || line.bytes() == frame_length(kind)
+    kind == EXPRESSION || line.bytes() == frame_length(kind) || notes_deed(line, kind)
 }
 
 // The bytes of a line after its kind.
@@ -199,13 +237,18 @@ fn frame_of(kind: u16, reader: &mut Reader) -> Result<Frame, Misread>
         3 => Frame::ConceptExclusion(reader.field(), reader.field()),
         4 => Frame::RoleRule(reader.field(), reader.field()),
         5 => Frame::RoleExclusion(reader.field(), reader.field()),
-        6 => Frame::ConceptFact(reader.field(), reader.field()),
-        7 => Frame::RoleFact(reader.field(), reader.field(), reader.field()),
+        CONCEPT_FACT => Frame::ConceptFact(reader.field(), reader.field(), reader.deed()),
+        ROLE_FACT => Frame::RoleFact(
+            reader.field(),
+            reader.field(),
+            reader.field(),
+            reader.deed(),
+        ),
         8 => Frame::RoleStep(reader.field(), reader.field(), reader.field()),
         9 => Frame::TestStep(reader.field(), reader.field(), reader.field()),
         10 => Frame::Final(reader.field()),
         11 => Frame::Ask(reader.field(), reader.field()),
-        12 => Frame::Allowance(BYTE * reader.byte() + reader.byte()),
+        12 => Frame::Allowance(reader.number()),
         EXPRESSION => Frame::Expression(marks_in(reader.line)),
         14 => Frame::AskFrom(reader.field()),
         _ => return Err(Misread::BadFrame),

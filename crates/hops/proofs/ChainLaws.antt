@@ -4,6 +4,7 @@ use Rattle.std.proofs.Common.{sym, ◌∙◌, ap, arith, length-set, get_or-set_
 use Rattle.std.proofs.Math.Decide.{ℕ_discrete}
 use Rattle.std.proofs.lemmas.List.{length-replicate, get_or-replicate}
 use Rattle.kinds.specs.Kinds.{most_individuals, most_roles}
+use Rattle.meaning.specs.Lent.{role_fact_width}
 use Rattle.tables.specs.declared.records.RoleFact.{RoleFact}
 use Rattle.tables.specs.Records.{read_role_fact}
 use Rattle.hops.specs.Chains.{hops, no_hop, source, IsHopFrom, IsFirst, Begins, Follows}
@@ -86,13 +87,13 @@ module _ (facts : List ℕ) where
     at p q e = ap (λ (x : ℕ). get_or facts x 0) e
 
     -- its numbers, as hop h = 2 × k or 2 × k + 1 tells them
-    role_at : (h : ℕ) → h / 2 ≡ k → fact.role.0 ≡ get_or facts (3 * (h / 2)) 0
+    role_at : (h : ℕ) → h / 2 ≡ k → fact.role.0 ≡ get_or facts (role_fact_width * (h / 2)) 0
     role_at h e = ap (λ (f : RoleFact). f.role.0) is ∙ at _ _ (omega arith)
 
-    first_at : (p : ℕ) → p ≡ 3 * k + 1 → fact.first.0 ≡ get_or facts p 0
+    first_at : (p : ℕ) → p ≡ role_fact_width * k + 1 → fact.first.0 ≡ get_or facts p 0
     first_at p e = ap (λ (f : RoleFact). f.first.0) is ∙ at _ _ (omega arith)
 
-    second_at : (p : ℕ) → p ≡ 3 * k + 2 → fact.second.0 ≡ get_or facts p 0
+    second_at : (p : ℕ) → p ≡ role_fact_width * k + 2 → fact.second.0 ≡ get_or facts p 0
     second_at p e = ap (λ (f : RoleFact). f.second.0) is ∙ at _ _ (omega arith)
 
     module _ (r : fact.role.0 < most_roles) (a : fact.first.0 < most_individuals) (b : fact.second.0 < most_individuals) where
@@ -102,7 +103,7 @@ module _ (facts : List ℕ) where
         from = sym (first_at _ (omega arith));
         start = a;
         role = let e = role_at (2 * k) (omega arith) in omega arith;
-        end = let e = second_at (3 * (2 * k / 2) + 2 - 2 * k % 2) (omega arith) in omega arith;
+        end = let e = second_at (role_fact_width * (2 * k / 2) + 2 - 2 * k % 2) (omega arith) in omega arith;
       }
 
       pub back : IsHopFrom facts fact.second.0 (2 * k + 1)
@@ -111,7 +112,7 @@ module _ (facts : List ℕ) where
         from = sym (second_at _ (omega arith));
         start = b;
         role = let e = role_at (2 * k + 1) (omega arith) in omega arith;
-        end = let e = first_at (3 * ((2 * k + 1) / 2) + 2 - (2 * k + 1) % 2) (omega arith) in omega arith;
+        end = let e = first_at (role_fact_width * ((2 * k + 1) / 2) + 2 - (2 * k + 1) % 2) (omega arith) in omega arith;
       }
 
     -- where a number of the fact has no row neither hop is one
@@ -123,15 +124,15 @@ module _ (facts : List ℕ) where
         even a d =
             never
             (let e = role_at (2 * k) (omega arith) in let r = d.role in omega arith)
-            (let e = first_at (3 * (2 * k / 2) + 1 + 2 * k % 2) (omega arith) in let f = d.from in let s = d.start in omega arith)
-            (let e = second_at (3 * (2 * k / 2) + 2 - 2 * k % 2) (omega arith) in let f = d.end in omega arith)
+            (let e = first_at (role_fact_width * (2 * k / 2) + 1 + 2 * k % 2) (omega arith) in let f = d.from in let s = d.start in omega arith)
+            (let e = second_at (role_fact_width * (2 * k / 2) + 2 - 2 * k % 2) (omega arith) in let f = d.end in omega arith)
 
         odd : (a : ℕ) → IsHopFrom facts a (2 * k + 1) → ⊥
         odd a d =
             never
             (let e = role_at (2 * k + 1) (omega arith) in let r = d.role in omega arith)
-            (let e = first_at (3 * ((2 * k + 1) / 2) + 2 - (2 * k + 1) % 2) (omega arith) in let f = d.end in omega arith)
-            (let e = second_at (3 * ((2 * k + 1) / 2) + 1 + (2 * k + 1) % 2) (omega arith) in let f = d.from in let s = d.start in omega arith)
+            (let e = first_at (role_fact_width * ((2 * k + 1) / 2) + 2 - (2 * k + 1) % 2) (omega arith) in let f = d.end in omega arith)
+            (let e = second_at (role_fact_width * ((2 * k + 1) / 2) + 1 + (2 * k + 1) % 2) (omega arith) in let f = d.from in let s = d.start in omega arith)
 
   pub begins : (first next : List ℕ) → ChainedFrom facts 0 first next → Begins facts first
   begins first next c = record { first = c.first }

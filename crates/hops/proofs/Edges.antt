@@ -21,12 +21,12 @@ module _ (rf : List ℕ) where
   at : (p q : ℕ) → p ≡ q → get_or rf p 0 ≡ get_or rf q 0
   at p q e = ap (λ (x : ℕ). get_or rf x 0) e
 
-  pub hop-forth : (h k : ℕ) → h ≡ 2 * k → (source rf h ≡ get_or rf (3 * k + 1) 0) × (target rf h ≡ get_or rf (3 * k + 2) 0) × (role_of rf h ≡ 2 * get_or rf (3 * k + 0) 0)
-  hop-forth h k e = (at _ _ (omega arith), at _ _ (omega arith), omega (arith, at (3 * (h / 2)) (3 * k + 0) (omega arith)))
+  pub hop-forth : (h k : ℕ) → h ≡ 2 * k → (source rf h ≡ get_or rf (role_fact_width * k + 1) 0) × (target rf h ≡ get_or rf (role_fact_width * k + 2) 0) × (role_of rf h ≡ 2 * get_or rf (role_fact_width * k + 0) 0)
+  hop-forth h k e = (at _ _ (omega arith), at _ _ (omega arith), omega (arith, at (role_fact_width * (h / 2)) (role_fact_width * k + 0) (omega arith)))
 
   pub hop-back : (h k : ℕ) → h ≡ 2 * k + 1
-      → (source rf h ≡ get_or rf (3 * k + 2) 0) × (target rf h ≡ get_or rf (3 * k + 1) 0) × (role_of rf h ≡ 2 * get_or rf (3 * k + 0) 0 + 1)
-  hop-back h k e = (at _ _ (omega arith), at _ _ (omega arith), omega (arith, at (3 * (h / 2)) (3 * k + 0) (omega arith)))
+      → (source rf h ≡ get_or rf (role_fact_width * k + 2) 0) × (target rf h ≡ get_or rf (role_fact_width * k + 1) 0) × (role_of rf h ≡ 2 * get_or rf (role_fact_width * k + 0) 0 + 1)
+  hop-back h k e = (at _ _ (omega arith), at _ _ (omega arith), omega (arith, at (role_fact_width * (h / 2)) (role_fact_width * k + 0) (omega arith)))
 
 module _ (c : Counts) (t : Tables) (ok : NumbersDeclared (collection c t)) where
   abbrev 𝓒 : Collection
@@ -78,9 +78,9 @@ module _ (c : Counts) (t : Tables) (ok : NumbersDeclared (collection c t)) where
       rw (e.0, e.1) (ahead (fact-in k l) (rw e.2 at m))
   hop-edge {S = S} (back k l) m =
       let e = hop-back rf (2 * k + 1) k refl in
-      let r = role_name (get_or rf (3 * k + 0) 0) in
+      let r = role_name (get_or rf (role_fact_width * k + 0) 0) in
       let g : RoleLe 𝓒 (inverse (backward r)) (inverse S) = turned (rw e.2 at m) in
-      let f : FactEdge 𝓒 (individual (get_or rf (3 * k + 2) 0)) (inverse (inverse S)) (individual (get_or rf (3 * k + 1) 0)) =
+      let f : FactEdge 𝓒 (individual (get_or rf (role_fact_width * k + 2) 0)) (inverse (inverse S)) (individual (get_or rf (role_fact_width * k + 1) 0)) =
       behind {r = r} (fact-in k l) (rw (inverse-backward r) at g) in
       rw (e.0, e.1) (rw (inverse-inverse S) at f)
 
@@ -91,18 +91,18 @@ module _ (c : Counts) (t : Tables) (ok : NumbersDeclared (collection c t)) where
       let k = w.0 in
       let l = w.1 in
       let e = hop-forth rf (2 * k) k refl in
-      let er : r ≡ role_name (get_or rf (3 * k + 0) 0) = ap (λ (f : RoleName × Individual × Individual). f.0) w.2 in
-      let ea : a ≡ individual (get_or rf (3 * k + 1) 0) = ap (λ (f : RoleName × Individual × Individual). f.1) w.2 in
-      let eb : b ≡ individual (get_or rf (3 * k + 2) 0) = ap (λ (f : RoleName × Individual × Individual). f.2) w.2 in
+      let er : r ≡ role_name (get_or rf (role_fact_width * k + 0) 0) = ap (λ (f : RoleName × Individual × Individual). f.0) w.2 in
+      let ea : a ≡ individual (get_or rf (role_fact_width * k + 1) 0) = ap (λ (f : RoleName × Individual × Individual). f.1) w.2 in
+      let eb : b ≡ individual (get_or rf (role_fact_width * k + 2) 0) = ap (λ (f : RoleName × Individual × Individual). f.2) w.2 in
       (2 * k, record { hop = omega arith; source = e.0 ∙ ap (λ (x : Individual). x.0) (sym ea); target = e.1 ∙ ap (λ (x : Individual). x.0) (sym eb); role = rw e.2 (rw er at le) })
   edge-hop (behind {r = r} {a = a} {b = b} {S = S} m le) =
       let w = fact_out m in
       let k = w.0 in
       let l = w.1 in
       let e = hop-back rf (2 * k + 1) k refl in
-      let er : r ≡ role_name (get_or rf (3 * k + 0) 0) = ap (λ (f : RoleName × Individual × Individual). f.0) w.2 in
-      let ea : a ≡ individual (get_or rf (3 * k + 1) 0) = ap (λ (f : RoleName × Individual × Individual). f.1) w.2 in
-      let eb : b ≡ individual (get_or rf (3 * k + 2) 0) = ap (λ (f : RoleName × Individual × Individual). f.2) w.2 in
+      let er : r ≡ role_name (get_or rf (role_fact_width * k + 0) 0) = ap (λ (f : RoleName × Individual × Individual). f.0) w.2 in
+      let ea : a ≡ individual (get_or rf (role_fact_width * k + 1) 0) = ap (λ (f : RoleName × Individual × Individual). f.1) w.2 in
+      let eb : b ≡ individual (get_or rf (role_fact_width * k + 2) 0) = ap (λ (f : RoleName × Individual × Individual). f.2) w.2 in
       let g : RoleLe 𝓒 (inverse (forward r)) (inverse S) = turned le in
       let q : RoleLe 𝓒 (backward r) (inverse S) = rw (inverse-forward r) at g in
       (2 * k + 1, record { hop = omega arith; source = e.0 ∙ ap (λ (x : Individual). x.0) (sym eb); target = e.1 ∙ ap (λ (x : Individual). x.0) (sym ea); role = rw e.2 (rw er at q) })

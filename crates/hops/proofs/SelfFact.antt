@@ -5,6 +5,7 @@ use Rattle.std.proofs.Math.Decide.{dec_lt}
 use Rattle.kinds.specs.declared.RoleName.{RoleName}
 use Rattle.kinds.specs.declared.Individual.{Individual}
 use Rattle.kinds.specs.Kinds.{signed, individual}
+use Rattle.meaning.specs.Lent.{role_fact_width}
 use Rattle.hops.specs.declared.Hop.{Hop}
 use Rattle.hops.specs.Chains.{IsHopFrom, IsFirst, Begins, Follows}
 use Rattle.hops.specs.Meant.{IsSelfFact, IsMetTwice}
@@ -13,13 +14,13 @@ use Rattle.hops.proofs.Followed.{linked-mean}
 
 module _ (facts : List ℕ) (k : ℕ) (r : RoleName) (a : Individual) (s : IsSelfFact facts k r a) where
   -- its three numbers
-  role-is : get_or facts (3 * k + 0) 0 ≡ r.0
+  role-is : get_or facts (role_fact_width * k + 0) 0 ≡ r.0
   role-is = ap (λ (f : RoleName × Individual × Individual). f.0.0) s.is
 
-  first-is : get_or facts (3 * k + 1) 0 ≡ a.0
+  first-is : get_or facts (role_fact_width * k + 1) 0 ≡ a.0
   first-is = ap (λ (f : RoleName × Individual × Individual). f.1.0) s.is
 
-  second-is : get_or facts (3 * k + 2) 0 ≡ a.0
+  second-is : get_or facts (role_fact_width * k + 2) 0 ≡ a.0
   second-is = ap (λ (f : RoleName × Individual × Individual). f.2.0) s.is
 
   forth : IsHopFrom facts a.0 (2 * k)

@@ -8,6 +8,7 @@ use Rattle.meaning.specs.Lent.{Tables, Call, collection_of, CountsOk, Sound}
 use Rattle.meaning.specs.Layout.{zeros}
 use Rattle.meaning.specs.Lite.{lite}
 use Rattle.meaning.specs.SameSets.{SameSets}
+use Rattle.meaning.specs.Deeds.{SameButDeeds, lent_with}
 use Rattle.meaning.specs.Outcome.{Outcome, Breaks, HoldsSheet, bad-count, bad-table, bad-number, bad-ask, contradiction, spent, says-yes, says-no}
 use Rattle.meaning.specs.Worlds.{model_world}
 use Rattle.meaning.proofs.SheetLaws.{rounds-unique}
@@ -17,6 +18,7 @@ use Rattle.meaning.specs.Demands.{Enough, AsModelSays, GrowsTo, Grown, allowed, 
 use Rattle.meaning.proofs.Demands.{says-what-the-model-says, most-enough, rounds-suffice}
 use Rattle.meaning.proofs.Demands as theorem
 use Rattle.meaning.proofs.Repeated.{repeats-mean-nothing}
+use Rattle.meaning.proofs.DeedLaws.{deeds-decide-nothing}
 use Rattle.meaning.proofs.AskLaws.{ask-in, ask-out}
 use Rattle.meaning.proofs.Forced.{model-keeps, model-respects, no-world}
 use Rattle.index.specs.Clauses.{FailsTables, FailsNumbers, FailsAsk, IsContradicted, Settles, RunsOut, IsYesAfter, IsNoAfter, SameOutcome}
@@ -49,6 +51,7 @@ module _ (c : Call) (r : Answer) (x y : List ℕ) where
     pub a_world : IfSome (sheet_rounds r) (λ n. IsWorldOf c (model_world (collection_of c)))
     pub not_forced : (n : ℕ) → r ≡ No n → HasPath c (model_world (collection_of c)) → ⊥
     pub same_sets : (t : Tables) (q : Answer) (u v : List ℕ) → SameSets c t → Outcome (record c { tables = t }) q u v → (q ≡ r) × (u ≡ x) × (v ≡ y)
+    pub deeds : (t : Tables) → SameButDeeds c.tables t → Outcome (lent_with c t) r x y
     pub grows : (d : Call) (q : Answer) (u v : List ℕ) → GrowsTo c d → Outcome d q u v → Sound c → Enough c → Sound d → Enough d → Grown r q
     pub returns : (n : ℕ) → c.allowance ≤ n → answer_number r ≤ 2 → Outcome (allowed c n) r x y
 
@@ -171,6 +174,7 @@ module _ (c : Call) where
     a_world = world-of o;
     not_forced = λ n e p. let s = says-as (says o) e in s.2 (ask-out (collection_of c) c.ask p);
     same_sets = λ t q u v s p. repeats-mean-nothing c t s o p;
+    deeds = λ t s. (deeds-decide-nothing c t s r x y).0 o;
     grows = λ d q u v g p s e s' e'. theorem.grows c d g.larger g.ask s s' e e' o p;
     returns = λ n h k. theorem.returns c n h o k;
   }

@@ -8,6 +8,7 @@ ghost use Rattle.meaning.specs.Outcome.{Outcome, HoldsSheet};
 ghost use Rattle.meaning.specs.Demands.{Enough, AsModelSays, GrowsTo, Grown, allowed};
 ghost use Rattle.meaning.specs.Demands.{most_rounds};
 ghost use Rattle.meaning.specs.SameSets.{SameSets};
+ghost use Rattle.meaning.specs.Deeds.{SameButDeeds, lent_with};
 ghost use Rattle.meaning.specs.Worlds.{model_world};
 ghost use Rattle.index.specs.Clauses.{called, Refuses, FailsTables, FailsNumbers, FailsAsk};
 ghost use Rattle.index.specs.Clauses.{IsContradicted, RunsOut, Settles, IsYesAfter, IsNoAfter};
@@ -95,6 +96,11 @@ impl<'a> Lent<'a> {
             (t : Tables) (r : Answer) (x y : List ℕ) → SameSets c t
             → Outcome (record c { tables = t }) r x y
             → SameOutcome r x y result area.new spare.new }
+
+        // Nor does a deed number: with others of them the outcome is the same, refused or not.
+        ensures deeds { let c = called self.now ask area.old spare.old in
+            (t : Tables) → SameButDeeds c.tables t
+            → Outcome (lent_with c t) result area.new spare.new }
 
         // Growth: asked of a larger collection; and at a larger allowance.
         ensures grows { let c = called self.now ask area.old spare.old in

@@ -6,6 +6,7 @@ use Rattle.kinds.specs.declared.RoleName.{RoleName}
 use Rattle.kinds.specs.declared.Individual.{Individual}
 use Rattle.kinds.specs.declared.State.{State}
 use Rattle.kinds.specs.declared.SignedRole.{SignedRole}
+use Rattle.kinds.specs.declared.DeedNumber.{DeedNumber}
 use Rattle.kinds.specs.declared.Counts.{Counts}
 use Rattle.kinds.specs.declared.Concept.{Concept}
 use Rattle.kinds.specs.declared.Concept.TheVariants.{Name, Exists}
@@ -42,6 +43,9 @@ state n = record { 0 = n }
 
 abbrev pub signed : ℕ → SignedRole
 signed n = record { 0 = n }
+
+abbrev pub deed_number : ℕ → DeedNumber
+deed_number n = record { 0 = n }
 
 -- the signed role 2 × r is r forward and 2 × r + 1 is r backward
 abbrev pub forward : RoleName → SignedRole

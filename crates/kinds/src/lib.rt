@@ -32,6 +32,10 @@ pub struct State(pub u16);
 #[derive(Clone, Copy, PartialEq, Eq)]
 pub struct SignedRole(pub u16);
 
+// The deed behind a fact, 0 where none is noted. Every number is valid, and nothing that is decided depends on it.
+#[derive(Clone, Copy, PartialEq, Eq)]
+pub struct DeedNumber(pub u16);
+
 // A basic concept: a name, or "has an R-neighbour". There is no other way to make one.
 #[derive(Clone, Copy, PartialEq, Eq)]
 pub enum Concept {

@@ -40,6 +40,7 @@ pub mod OutcomeExists
 pub mod OutcomeLaws
 pub mod Demands
 pub mod Repeated
+pub mod DeedLaws
 pub mod ExcludedLaws
 pub mod WorldsSay
 pub mod CasesHold

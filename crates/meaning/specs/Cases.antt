@@ -57,9 +57,9 @@ base_rules = 0 ∷ 64 ∷ 65 ∷ 1 ∷ []
 abbrev base_steps : List ℕ
 base_steps = 0 ∷ 0 ∷ 0 ∷ 1 ∷ 1 ∷ 1 ∷ 1 ∷ 2 ∷ 0 ∷ 2 ∷ 1 ∷ 3 ∷ []
 
--- Owner(0)
+-- Owner(0), by no deed that is noted
 abbrev owner : List ℕ
-owner = 0 ∷ 0 ∷ []
+owner = 0 ∷ 0 ∷ 0 ∷ []
 
 -- Owner ≤ ∃signs, ∃(signs backward) ≤ ∃holds, ∃(holds backward) ≤ ∃signs; signs, holds, signs, from 0
 -- to 3
@@ -75,10 +75,10 @@ signs_holds = 0 ∷ 0 ∷ 0 ∷ 1 ∷ 0 ∷ 1 ∷ 3 ∷ 2 ∷ []
 
 -- holds(0, 0), and signs(0, 1)
 abbrev self_held : List ℕ
-self_held = 1 ∷ 0 ∷ 0 ∷ []
+self_held = 1 ∷ 0 ∷ 0 ∷ 0 ∷ []
 
 abbrev signed_to : List ℕ
-signed_to = 0 ∷ 0 ∷ 1 ∷ []
+signed_to = 0 ∷ 0 ∷ 1 ∷ 0 ∷ []
 
 -- holds, then signs
 abbrev holds_signs : List ℕ
@@ -132,7 +132,7 @@ cases =
     (pair 0 0) 64 2 0 0 []
     -- 7. holds(0, 1), holds(1, 0), holds excludes holds backward: contradiction
     ∷ row (declares 2 2 2 4 0)
-    (holding [] [] [] (2 ∷ 3 ∷ []) [] (1 ∷ 0 ∷ 1 ∷ 1 ∷ 1 ∷ 0 ∷ []) base_steps (3 ∷ []))
+    (holding [] [] [] (2 ∷ 3 ∷ []) [] (1 ∷ 0 ∷ 1 ∷ 0 ∷ 1 ∷ 1 ∷ 0 ∷ 0 ∷ []) base_steps (3 ∷ []))
     (pair 0 0) 64 2 0 0 []
     -- 8. start state final, no steps: (0, 0) yes, (0, 1) no, 0 rounds
     ∷ row (declares 2 2 2 1 0) (holding [] [] [] [] [] [] [] (0 ∷ [])) (pair 0 0) 64 1 0 6 []

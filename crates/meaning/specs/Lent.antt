@@ -26,15 +26,15 @@ pub record Tables : Type 0 where
   pub steps : List ℕ
   pub finals : List ℕ
 
--- the numbers in a record of each table
+-- the numbers in a record of each table; the last one of a fact's is its deed number
 abbrev pub rule_width : ℕ
 rule_width = 2
 
 abbrev pub concept_fact_width : ℕ
-concept_fact_width = 2
+concept_fact_width = 3
 
 abbrev pub role_fact_width : ℕ
-role_fact_width = 3
+role_fact_width = 4
 
 abbrev pub step_width : ℕ
 step_width = 4
@@ -82,6 +82,7 @@ concept_pair t k = (concept_of (field rule_width t 0 k), concept_of (field rule_
 abbrev pub role_pair : List ℕ → ℕ → SignedRole × SignedRole
 role_pair t k = (signed (field rule_width t 0 k), signed (field rule_width t 1 k))
 
+-- what a fact means does not depend on its deed number
 abbrev pub concept_fact : List ℕ → ℕ → ConceptName × Individual
 concept_fact t k = (
   concept_name (field concept_fact_width t 0 k),

@@ -20,6 +20,7 @@ pub mod Outcome
 -- What is demanded of it.
 pub mod Demands
 pub mod SameSets
+pub mod Deeds
 pub mod Cases
 -- What facts and rules force, in every world.
 pub mod Worlds
@@ -38,4 +39,5 @@ pub mod LawsOfLeaving
 pub mod LawsOfMarks
 pub mod LawsOfGrowth
 pub mod LawsOfCalls
+pub mod LawsOfDeeds
 pub mod LawsOfWorlds

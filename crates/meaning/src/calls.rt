@@ -1,10 +1,12 @@
-// Laws of a call's outcome, of growth, and the cases worked on paper. What holds for a type that
+// Laws of a call's outcome, of growth, of deed numbers, and the cases worked on paper. What holds for a type that
 // names a kind and one that yields more holds of all such.
 ghost use Rattle.meaning.specs.Grows.{Growing};
 ghost use Rattle.meaning.specs.LawsOfGrowth.{LoopsGrow, WalksGrow, PathsGrow};
 ghost use Rattle.meaning.specs.LawsOfCalls.{EveryInputAnswered, OutcomeOnce, SaysAsModel};
 ghost use Rattle.meaning.specs.LawsOfCalls.{MostIsEnough, AnswerReturns, AnswersGrow};
 ghost use Rattle.meaning.specs.LawsOfCalls.{ContradictionGrows, YesGrows, LeavesGrows, CasesHold};
+ghost use Rattle.meaning.specs.LawsOfDeeds.{DeedsDecideNothing, DeedsMeanNothing};
+ghost use Rattle.meaning.specs.LawsOfDeeds.{ConceptFactsMeanOne, RoleFactsMeanOne, GrowthWithoutDeeds};
 
 // A type that names a rules' kind and one that yields more: any.
 pub trait AnyGrowing {
@@ -37,6 +39,15 @@ pub fn any_growth<G: AnyGrowing>()
     ensures loops { LoopsGrow G.growing }
     ensures walks { WalksGrow G.growing }
     ensures paths { PathsGrow G.growing }
+{}
+
+// Nothing that is decided depends on deed numbers.
+pub fn deeds()
+    ensures outcome { DeedsDecideNothing }
+    ensures meant { DeedsMeanNothing }
+    ensures concept_facts { ConceptFactsMeanOne }
+    ensures role_facts { RoleFactsMeanOne }
+    ensures growth { GrowthWithoutDeeds }
 {}
 
 // The table of docs/PAPER.md.

@@ -66,8 +66,8 @@ module _ (before : List Frame) (t : Taken before) (l : List ℕ) where
   taken-passes concept_exclusions (ConceptExclusion C D) p = concepts-pass (declared_by before) (fitting before t p.in_place) C D p.numbers
   taken-passes role_rules (RoleRule R S) p = p.numbers
   taken-passes role_exclusions (RoleExclusion R S) p = p.numbers
-  taken-passes concept_facts (ConceptFact A a) p = p.numbers
-  taken-passes role_facts (RoleFact r a b) p = p.numbers
+  taken-passes concept_facts (ConceptFact A a n) p = p.numbers
+  taken-passes role_facts (RoleFact r a b n) p = p.numbers
   taken-passes steps (RoleStep u R v) p = (omega arith, p.numbers)
   taken-passes steps (TestStep u A v) p = (omega arith, p.numbers)
   taken-passes finals (Final u) p = p.numbers

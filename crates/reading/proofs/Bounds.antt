@@ -92,8 +92,8 @@ module _ (before : List Frame) where
   shared-more (ConceptExclusion C D) t p h = shared-still (ConceptExclusion C D) refl refl h
   shared-more (RoleRule R S) t p h = shared-still (RoleRule R S) refl refl h
   shared-more (RoleExclusion R S) t p h = shared-still (RoleExclusion R S) refl refl h
-  shared-more (ConceptFact A a) t p h = shared-still (ConceptFact A a) refl refl h
-  shared-more (RoleFact r a b) t p h = shared-still (RoleFact r a b) refl refl h
+  shared-more (ConceptFact A a n) t p h = shared-still (ConceptFact A a n) refl refl h
+  shared-more (RoleFact r a b n) t p h = shared-still (RoleFact r a b n) refl refl h
   shared-more (RoleStep p1 R u) t p h = shared-step (RoleStep p1 R u) refl refl p.in_place.1 (p.room steps refl)
   shared-more (TestStep p1 A u) t p h = shared-step (TestStep p1 A u) refl refl p.in_place.1 (p.room steps refl)
   shared-more (Final p1) t p h = shared-still (Final p1) refl refl h
@@ -129,8 +129,8 @@ module _ (before : List Frame) where
   counted-more (ConceptExclusion C D) t p h = record-more (ConceptExclusion C D) refl refl h refl
   counted-more (RoleRule R S) t p h = record-more (RoleRule R S) refl refl h refl
   counted-more (RoleExclusion R S) t p h = record-more (RoleExclusion R S) refl refl h refl
-  counted-more (ConceptFact A a) t p h = record-more (ConceptFact A a) refl refl h refl
-  counted-more (RoleFact r a b) t p h = record-more (RoleFact r a b) refl refl h refl
+  counted-more (ConceptFact A a n) t p h = record-more (ConceptFact A a n) refl refl h refl
+  counted-more (RoleFact r a b n) t p h = record-more (RoleFact r a b n) refl refl h refl
   counted-more (RoleStep p1 R u) t p h = record-more (RoleStep p1 R u) refl refl h refl
   counted-more (TestStep p1 A u) t p h = record-more (TestStep p1 A u) refl refl h refl
   counted-more (Final p1) t p h = record-more (Final p1) refl refl h refl

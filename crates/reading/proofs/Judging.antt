@@ -54,8 +54,8 @@ module _ (before : List Frame) where
   room-to concept_exclusions (ConceptExclusion C D) h e = (room-in concept_exclusions).0 h
   room-to role_rules (RoleRule R S) h e = (room-in role_rules).0 h
   room-to role_exclusions (RoleExclusion R S) h e = (room-in role_exclusions).0 h
-  room-to concept_facts (ConceptFact A a) h e = (room-in concept_facts).0 h
-  room-to role_facts (RoleFact r a b) h e = (room-in role_facts).0 h
+  room-to concept_facts (ConceptFact A a n) h e = (room-in concept_facts).0 h
+  room-to role_facts (RoleFact r a b n) h e = (room-in role_facts).0 h
   room-to steps (RoleStep s R t) h e = (room-in steps).0 h
   room-to steps (TestStep s A t) h e = (room-in steps).0 h
   room-to finals (Final s) h e = (room-in finals).0 h
@@ -68,8 +68,8 @@ module _ (before : List Frame) where
   room-from (ConceptExclusion C D) h = (room-in concept_exclusions).1 (h concept_exclusions refl)
   room-from (RoleRule R S) h = (room-in role_rules).1 (h role_rules refl)
   room-from (RoleExclusion R S) h = (room-in role_exclusions).1 (h role_exclusions refl)
-  room-from (ConceptFact A a) h = (room-in concept_facts).1 (h concept_facts refl)
-  room-from (RoleFact r a b) h = (room-in role_facts).1 (h role_facts refl)
+  room-from (ConceptFact A a n) h = (room-in concept_facts).1 (h concept_facts refl)
+  room-from (RoleFact r a b n) h = (room-in role_facts).1 (h role_facts refl)
   room-from (RoleStep s R t) h = (room-in steps).1 (h steps refl)
   room-from (TestStep s A t) h = (room-in steps).1 (h steps refl)
   room-from (Final s) h = (room-in finals).1 (h finals refl)
@@ -81,7 +81,7 @@ module _ (before : List Frame) where
   room f = (λ h kind. room-to kind f h, room-from f)
 
 -- a row of conditions of which one is put in other words
-first-same : {A : Type 0} {P Q : Type 0} {answer : A} {Rest Other : A → Type 0} {r : A} → P ↔ Q → (Rest r → Other r) → First P answer Rest r → First Q answer Other r
+pub first-same : {A : Type 0} {P Q : Type 0} {answer : A} {Rest Other : A → Type 0} {r : A} → P ↔ Q → (Rest r → Other r) → First P answer Rest r → First Q answer Other r
 first-same w go (fails n) = fails (λ q. n (w.1 q))
 first-same w go (holds p h) = holds (w.0 p) (go h)
 

@@ -68,8 +68,8 @@ module _ (before : List Frame) where
   file_with-file_of (ConceptExclusion C D) p = later before (ConceptExclusion C D) p.in_place refl refl
   file_with-file_of (RoleRule R S) p = later before (RoleRule R S) p.in_place refl refl
   file_with-file_of (RoleExclusion R S) p = later before (RoleExclusion R S) p.in_place refl refl
-  file_with-file_of (ConceptFact A a) p = later before (ConceptFact A a) p.in_place refl refl
-  file_with-file_of (RoleFact r a b) p = later before (RoleFact r a b) p.in_place refl refl
+  file_with-file_of (ConceptFact A a n) p = later before (ConceptFact A a n) p.in_place refl refl
+  file_with-file_of (RoleFact r a b n) p = later before (RoleFact r a b n) p.in_place refl refl
   file_with-file_of (RoleStep s R t) p = later before (RoleStep s R t) p.in_place.0 refl refl
   file_with-file_of (TestStep s A t) p = later before (TestStep s A t) p.in_place.0 refl refl
   file_with-file_of (Final s) p = later before (Final s) p.in_place.0 refl refl

@@ -11,3 +11,4 @@ pub mod Once
 pub mod Accepted
 pub mod Prefix
 pub mod Listed
+pub mod DeedLaws

@@ -135,8 +135,8 @@ HasShelfRoom file (ConceptRule C D) = RoomIn concept_rules file.concept_rules
 HasShelfRoom file (ConceptExclusion C D) = RoomIn concept_exclusions file.concept_exclusions
 HasShelfRoom file (RoleRule R S) = RoomIn role_rules file.role_rules
 HasShelfRoom file (RoleExclusion R S) = RoomIn role_exclusions file.role_exclusions
-HasShelfRoom file (ConceptFact A a) = RoomIn concept_facts file.concept_facts
-HasShelfRoom file (RoleFact r a b) = RoomIn role_facts file.role_facts
+HasShelfRoom file (ConceptFact A a n) = RoomIn concept_facts file.concept_facts
+HasShelfRoom file (RoleFact r a b n) = RoomIn role_facts file.role_facts
 HasShelfRoom file (RoleStep s R t) = RoomIn steps file.steps
 HasShelfRoom file (TestStep s A t) = RoomIn steps file.steps
 HasShelfRoom file (Final s) = RoomIn finals file.finals
@@ -160,8 +160,10 @@ fields_with (ConceptExclusion C D) t =
 fields_with (RoleRule R S) t = record t { role_rules = t.role_rules ++ (R.0 ∷ S.0 ∷ []) }
 fields_with (RoleExclusion R S) t =
     record t { role_exclusions = t.role_exclusions ++ (R.0 ∷ S.0 ∷ []) }
-fields_with (ConceptFact A a) t = record t { concept_facts = t.concept_facts ++ (A.0 ∷ a.0 ∷ []) }
-fields_with (RoleFact r a b) t = record t { role_facts = t.role_facts ++ (r.0 ∷ a.0 ∷ b.0 ∷ []) }
+fields_with (ConceptFact A a n) t =
+    record t { concept_facts = t.concept_facts ++ (A.0 ∷ a.0 ∷ n.0 ∷ []) }
+fields_with (RoleFact r a b n) t =
+    record t { role_facts = t.role_facts ++ (r.0 ∷ a.0 ∷ b.0 ∷ n.0 ∷ []) }
 fields_with (RoleStep s R u) t = record t { steps = t.steps ++ (0 ∷ s.0 ∷ R.0 ∷ u.0 ∷ []) }
 fields_with (TestStep s A u) t = record t { steps = t.steps ++ (1 ∷ s.0 ∷ A.0 ∷ u.0 ∷ []) }
 fields_with (Final s) t = record t { finals = t.finals ++ s.0 ∷ [] }

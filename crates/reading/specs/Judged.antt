@@ -38,15 +38,16 @@ CountsOk other = ⊤
 abbrev pub HasRoom : List Frame → Frame → Type 0
 HasRoom before f = (kind : Kind) → IsSome (record_in kind f) → entries kind before < most kind
 
--- not 6: each number of its record is declared, and what each role or test mark reads
+-- not 6: each number of its record is declared, and what each role or test mark reads; a deed
+-- number may be any
 module _ (counts : Counts) where
   abbrev pub NumbersOk : Frame → Type 0
   NumbersOk (ConceptRule C D) = ConceptsDeclared counts (C, D)
   NumbersOk (ConceptExclusion C D) = ConceptsDeclared counts (C, D)
   NumbersOk (RoleRule R S) = RolesDeclared counts (R, S)
   NumbersOk (RoleExclusion R S) = RolesDeclared counts (R, S)
-  NumbersOk (ConceptFact A a) = ConceptFactDeclared counts (A, a)
-  NumbersOk (RoleFact r a b) = RoleFactDeclared counts (r, a, b)
+  NumbersOk (ConceptFact A a n) = ConceptFactDeclared counts (A, a)
+  NumbersOk (RoleFact r a b n) = RoleFactDeclared counts (r, a, b)
   NumbersOk (RoleStep s R t) = StepDeclared counts (step s (role R) t)
   NumbersOk (TestStep s A t) = StepDeclared counts (step s (test A) t)
   NumbersOk (Final s) = StateDeclared counts s

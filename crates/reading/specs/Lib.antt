@@ -6,3 +6,4 @@ pub mod Reading
 pub mod Reads
 pub mod Turns
 pub mod Laws
+pub mod Deeds

@@ -37,7 +37,7 @@ fn marks_ok(row: &[u8], counts: Counts) -> bool
     row.iter().all(|mark| mark_ok(*mark, counts))
 }
 
-// 6: the numbers of a record.
+// 6: the numbers of a record. A deed number may be any.
 #[tactic(auto, using(crate::proofs::Questions::all_declared))]
 fn numbers_ok(frame: &Frame, counts: Counts) -> bool
     ensures { IsTrue result ↔ NumbersOk counts frame.now }
@@ -49,8 +49,8 @@ fn numbers_ok(frame: &Frame, counts: Counts) -> bool
         Frame::RoleRule(r, s) | Frame::RoleExclusion(r, s) => {
             r.declared(counts) && s.declared(counts)
         }
-        Frame::ConceptFact(a, i) => a.declared(counts) && i.declared(counts),
-        Frame::RoleFact(r, i, j) => {
+        Frame::ConceptFact(a, i, _) => a.declared(counts) && i.declared(counts),
+        Frame::RoleFact(r, i, j, _) => {
             r.declared(counts) && i.declared(counts) && j.declared(counts)
         }
         Frame::RoleStep(s, r, t) => {
@@ -151,8 +151,8 @@ impl File {
             Frame::ConceptExclusion(_, _) => self.concept_exclusions.has_room(),
             Frame::RoleRule(_, _) => self.role_rules.has_room(),
             Frame::RoleExclusion(_, _) => self.role_exclusions.has_room(),
-            Frame::ConceptFact(_, _) => self.concept_facts.has_room(),
-            Frame::RoleFact(_, _, _) => self.role_facts.has_room(),
+            Frame::ConceptFact(_, _, _) => self.concept_facts.has_room(),
+            Frame::RoleFact(_, _, _, _) => self.role_facts.has_room(),
             Frame::RoleStep(_, _, _) | Frame::TestStep(_, _, _) => self.steps.has_room(),
             Frame::Final(_) => self.finals.has_room(),
             Frame::Ask(_, _) | Frame::AskFrom(_) => self.asks.has_room(),

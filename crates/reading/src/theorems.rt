@@ -3,6 +3,7 @@ ghost use Rattle.reading.specs.Laws.{JudgedOnce, FindsOnce, ReadingOnce, ReadsOn
 ghost use Rattle.reading.specs.Laws.{RefusalsListed, ReadingTaken, TakenAccepted, WholeAccepted};
 ghost use Rattle.reading.specs.Laws.{QuestionOnce};
 ghost use Rattle.reading.specs.Laws.{LinesBounded, StartAlike, StartDecides};
+ghost use Rattle.reading.specs.Deeds.{ReadsWithoutDeeds, ConceptFactsKept, RoleFactsKept};
 
 // What is found is one thing.
 pub fn once()
@@ -26,4 +27,11 @@ pub fn start()
     ensures bounded { LinesBounded }
     ensures alike { StartAlike }
     ensures decides { StartDecides }
+{}
+
+// What is read does not depend on deed numbers, but each fact is kept with its own.
+pub fn deeds()
+    ensures reading { ReadsWithoutDeeds }
+    ensures concept_facts { ConceptFactsKept }
+    ensures role_facts { RoleFactsKept }
 {}

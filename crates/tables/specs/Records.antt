@@ -1,7 +1,7 @@
 -- Record k of each table by its fields, and when its numbers are declared.
 use Rattle.std.specs.Prelude.{ℕ, ◌≤◌, List}
 use Rattle.kinds.specs.declared.Counts.{Counts}
-use Rattle.kinds.specs.Kinds.{concept_name, role_name, individual, state, signed, concept_of, NameDeclared, RoleDeclared, SignedDeclared, IndividualDeclared, StateDeclared, ConceptDeclared}
+use Rattle.kinds.specs.Kinds.{concept_name, role_name, individual, state, signed, deed_number, concept_of, NameDeclared, RoleDeclared, SignedDeclared, IndividualDeclared, StateDeclared, ConceptDeclared}
 use Rattle.meaning.specs.Lent.{field, rule_width, concept_fact_width, role_fact_width, step_width}
 use Rattle.tables.specs.declared.records.ConceptPair.{ConceptPair}
 use Rattle.tables.specs.declared.records.RolePair.{RolePair}
@@ -27,6 +27,7 @@ abbrev pub read_concept_fact : List ℕ → ℕ → ConceptFact
 read_concept_fact t k = record {
   name = concept_name (field concept_fact_width t 0 k);
   individual = individual (field concept_fact_width t 1 k);
+  deed = deed_number (field concept_fact_width t 2 k);
 }
 
 abbrev pub read_role_fact : List ℕ → ℕ → RoleFact
@@ -34,6 +35,7 @@ read_role_fact t k = record {
   role = role_name (field role_fact_width t 0 k);
   first = individual (field role_fact_width t 1 k);
   second = individual (field role_fact_width t 2 k);
+  deed = deed_number (field role_fact_width t 3 k);
 }
 
 abbrev pub read_step : List ℕ → ℕ → Step
@@ -52,6 +54,7 @@ IsConceptPairDeclared c r = ConceptDeclared c r.left × ConceptDeclared c r.righ
 abbrev pub IsRolePairDeclared : Counts → RolePair → Type 0
 IsRolePairDeclared c r = SignedDeclared c r.left × SignedDeclared c r.right
 
+-- any deed number will do
 abbrev pub IsConceptFactDeclared : Counts → ConceptFact → Type 0
 IsConceptFactDeclared c f = NameDeclared c f.name × IndividualDeclared c f.individual
 

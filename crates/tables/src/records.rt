@@ -8,7 +8,7 @@ ghost use Rattle.tables.specs.Records.{read_concept_pair, read_role_pair, read_c
 ghost use Rattle.tables.specs.Records.{IsConceptPairDeclared, IsRolePairDeclared, IsConceptFactDeclared, IsRoleFactDeclared, IsStepDeclared, IsStepKind};
 
 use crate::fields::Fields;
-use kinds::{Concept, ConceptName, Counts, Individual, RoleName, SignedRole, State};
+use kinds::{Concept, ConceptName, Counts, DeedNumber, Individual, RoleName, SignedRole, State};
 
 // A kind of record: when its numbers are declared.
 pub trait Record: Fields {
@@ -98,11 +98,12 @@ impl Record for RolePair {
 pub struct ConceptFact {
     pub name: ConceptName,
     pub individual: Individual,
+    pub deed: DeedNumber,
 }
 
 impl ConceptFact {
     // The numbers of a record.
-    pub const WIDTH: usize = 2;
+    pub const WIDTH: usize = 3;
 }
 
 impl Fields for ConceptFact {
@@ -118,6 +119,7 @@ impl Fields for ConceptFact {
         ConceptFact {
             name: ConceptName(numbers[Self::WIDTH * k]),
             individual: Individual(numbers[Self::WIDTH * k + 1]),
+            deed: DeedNumber(numbers[Self::WIDTH * k + 2]),
         }
     }
 }
@@ -125,6 +127,7 @@ impl Fields for ConceptFact {
 impl Record for ConceptFact {
     ghost Declared = { IsConceptFactDeclared };
 
+    // Its deed number, like that of a role fact, may be any.
     fn declared(self, counts: Counts) -> bool {
         self.name.declared(counts) && self.individual.declared(counts)
     }
@@ -136,11 +139,12 @@ pub struct RoleFact {
     pub role: RoleName,
     pub first: Individual,
     pub second: Individual,
+    pub deed: DeedNumber,
 }
 
 impl RoleFact {
     // The numbers of a record.
-    pub const WIDTH: usize = 3;
+    pub const WIDTH: usize = 4;
 }
 
 impl Fields for RoleFact {
@@ -157,6 +161,7 @@ impl Fields for RoleFact {
             role: RoleName(numbers[Self::WIDTH * k]),
             first: Individual(numbers[Self::WIDTH * k + 1]),
             second: Individual(numbers[Self::WIDTH * k + 2]),
+            deed: DeedNumber(numbers[Self::WIDTH * k + 3]),
         }
     }
 }

@@ -38,7 +38,7 @@ struct Said {
 
 pub fn model_part(mut dice: Dice, tally: &mut Tally) -> Outcome {
     // Some more paths that end deep, and no expression in place of their questions.
-    let asked = match dice.percent(10) {
+    let asked = match dice.percent(15) {
         true => deep_end(&mut dice),
         false => {
             let asked = small(&mut dice);

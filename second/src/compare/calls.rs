@@ -5,7 +5,7 @@ use super::generate::{full, many_rounds, medium, small, Asked};
 use super::protocol::MOST_AREA;
 use crate::area::AREA;
 use crate::ask::Ask;
-use crate::library::{Call, SHAPES};
+use crate::library::{Call, CONCEPT_FACTS, ROLE_FACTS, SHAPES};
 use crate::numbers::Individual;
 
 /// What is asked of a collection: a pair, one individual, or a row of pairs.
@@ -142,7 +142,7 @@ fn bad_shape(dice: &mut Dice, lent: &mut Lent) {
     let (width, most) = SHAPES[table];
     let numbers = &mut lent.call.tables[table];
     match dice.below(4) {
-        0 if width > 1 => numbers.push(0),
+        0 if width > 1 => numbers.resize(numbers.len() + dice.between(1, width - 1), 0),
         1 => numbers.resize(width * (most + 1), 0),
         2 => numbers.resize(dice.between(width * most + 1, 65_535), 0),
         _ => {
@@ -176,7 +176,8 @@ fn undeclared(dice: &mut Dice, call: &mut Call) {
     }
     let records = call.tables[table].len() / width;
     let start = width * dice.below(records);
-    let place = dice.below(width);
+    // Any deed number, the last of a fact, is allowed.
+    let place = dice.below(if matches!(table, CONCEPT_FACTS | ROLE_FACTS) { width - 1 } else { width });
     let record = &call.tables[table][start..start + width];
     let low = first_undeclared(call, table, record, place);
     let gap = table < 2 && call.counts[0] < 64 && dice.percent(30);

@@ -1,5 +1,6 @@
 //! Faulty files for the desk: each refusal, and lines on which several refusals stand at once.
 
+use super::deeds::{throw_deed, written};
 use super::dice::Dice;
 use super::expressions::expressed;
 use super::generate::small;
@@ -89,7 +90,8 @@ fn one_bad_line(dice: &mut Dice, number: u8) -> Damaged {
 }
 
 fn bad_characters(dice: &mut Dice) -> (Vec<u8>, Vec<u8>) {
-    let sound: &[u8] = dice.pick(&[&b"0A00"[..], b"0B0000", b"0C0040", b"010101010100", b"07000001"]);
+    let sound: &[u8] =
+        dice.pick(&[&b"0A00"[..], b"0B0000", b"0C0040", b"010101010100", b"07000001", b"0600001267"]);
     match dice.below(6) {
         0 => (Vec::new(), Vec::new()),
         1 => {
@@ -124,7 +126,7 @@ fn bad_characters(dice: &mut Dice) -> (Vec<u8>, Vec<u8>) {
 /// The kinds of frames that have one length.
 const KINDS: [usize; 13] = [1, 2, 3, 4, 5, 6, 7, 8, 9, 10, 11, 12, 14];
 
-/// How many bytes a frame of each kind has, its kind included; 0D may have any number.
+/// How many bytes a frame of each kind has, its kind included; 06 and 07 may have two more, and 0D any number.
 const LENGTHS: [usize; 15] = [0, 6, 3, 3, 3, 3, 3, 4, 4, 4, 2, 3, 3, 0, 2];
 
 fn bad_frame(dice: &mut Dice) -> (Vec<u8>, Vec<u8>) {
@@ -136,7 +138,8 @@ fn bad_frame(dice: &mut Dice) -> (Vec<u8>, Vec<u8>) {
     };
     let length = loop {
         let length = dice.pick(&[1, 2, 3, 4, 5, 6, 7, 8, 31, 32]);
-        if unknown || length != LENGTHS[kind] {
+        let deed_noted = matches!(kind, 6 | 7) && length == LENGTHS[kind] + 2;
+        if unknown || length != LENGTHS[kind] && !deed_noted {
             break length;
         }
     };
@@ -173,8 +176,13 @@ fn undeclared(dice: &mut Dice, counts: &Counts) -> Vec<u8> {
     let mut bytes = match dice.between(2, 13) {
         kind @ (2 | 3) => vec![kind as u8, bad_concept(dice, counts), any],
         kind @ (4 | 5) => vec![kind as u8, over(dice, 2 * roles), any],
-        6 if dice.percent(50) => vec![6, over(dice, names), also(dice, people)],
-        6 => vec![6, also(dice, names), over(dice, people)],
+        6 => {
+            let [name, who] = match dice.percent(50) {
+                true => [over(dice, names), also(dice, people)],
+                false => [also(dice, names), over(dice, people)],
+            };
+            return fact(dice, &[6, name, who]);
+        }
         7 | 11..=13 => return undeclared_role_fact(dice, counts),
         8 if dice.percent(50) => vec![8, also(dice, states), over(dice, 2 * roles), also(dice, states)],
         8 => vec![8, over(dice, states), also(dice, 2 * roles), any],
@@ -193,12 +201,19 @@ fn undeclared(dice: &mut Dice, counts: &Counts) -> Vec<u8> {
 fn undeclared_role_fact(dice: &mut Dice, counts: &Counts) -> Vec<u8> {
     let stranger = over(dice, usize::from(counts.individuals));
     let role = over(dice, usize::from(counts.roles));
-    line(&match dice.below(4) {
+    let fields = match dice.below(4) {
         0 => [7, 0, stranger, stranger],
         1 => [7, role, 0, 0],
         2 => [7, 0, 0, stranger.max(1)],
         _ => [7, role, 0, 1],
-    })
+    };
+    fact(dice, &fields)
+}
+
+/// A fact's frame, by any deed or none.
+fn fact(dice: &mut Dice, fields: &[u8]) -> Vec<u8> {
+    let deed = throw_deed(dice).0;
+    line(&[fields, &written(dice, deed)].concat())
 }
 
 fn bad_ask(dice: &mut Dice, counts: &Counts) -> Vec<u8> {
@@ -283,17 +298,22 @@ fn one_too_many(dice: &mut Dice) -> Damaged {
     for _ in 0..most {
         let [one, two, three] = [0; 3].map(|_| dice.below(2) as u8);
         lines.push(match kind {
-            2..=6 => line(&[kind, one, two]),
+            2..=5 => line(&[kind, one, two]),
+            6 => fact(dice, &[6, one, two]),
             0x0B if dice.percent(pairs) => line(&[kind, one, two]),
             0x0B => line(&[0x0E, one]),
-            7 => line(&[7, one, two, three]),
+            7 => fact(dice, &[7, one, two, three]),
             8 => line(&[dice.pick(&[8, 9]), one, two, three]),
             _ => line(&[kind, one]),
         });
     }
     let (extra, also) = match (kind, dice.below(3)) {
-        (2..=6, 0) => (line(&[kind, 0xFF, 0xFF]), vec![6]),
-        (7, 0) => (line(&[7, 2, 2, 2]), vec![6]),
+        (2..=5, 0) => (line(&[kind, 0xFF, 0xFF]), vec![6]),
+        (6, 0) => (fact(dice, &[6, 0xFF, 0xFF]), vec![6]),
+        (7, 0) => (fact(dice, &[7, 2, 2, 2]), vec![6]),
+        // One that means what is there already, by any deed.
+        (6, 1) => (fact(dice, &[6, 0, 0]), Vec::new()),
+        (7, 1) => (fact(dice, &[7, 0, 0, 1]), Vec::new()),
         (8, 0) => (line(&[9, 0, 2, 0]), vec![6]),
         (0x0A, 0) => (line(&[0x0A, 2]), vec![6]),
         (0x0B, 0) => (line(&[0x0B, 0, 2]), vec![8]),

@@ -1,9 +1,10 @@
 //! Sound collections for the comparison: small, medium, full tables, many rounds.
 
+use super::deeds::throw_deed;
 use super::dice::Dice;
 use super::throw::*;
 use crate::ask::Ask;
-use crate::collection::{Collection, Counts, Step};
+use crate::collection::{Collection, ConceptFact, Counts, RoleFact, Step};
 use crate::numbers::{Concept, Individual, Role, State};
 
 /// A collection with its asks and the allowance, None where the file is to have no frame 0C.
@@ -40,6 +41,9 @@ pub fn small(dice: &mut Dice) -> Asked {
         finals: dice.pick(&[0, 1, 1, 1, 2, 3]),
     };
     throw_records(dice, &mut collection, &amounts);
+    if dice.percent(20) {
+        repeat_by_other_deeds(dice, &mut collection);
+    }
     if dice.percent(50) {
         there_and_back(dice, &mut collection);
     }
@@ -56,7 +60,7 @@ fn deep_clash(dice: &mut Dice) -> Asked {
     let mut collection = Collection::empty(counts(dice, 2, 3, (1, 3), (1, 4)));
     let amounts = Amounts { rules: dice.below(2), steps: dice.below(8), finals: 1, ..Amounts::default() };
     throw_records(dice, &mut collection, &amounts);
-    collection.concept_facts.push((Concept(0), Individual(0)));
+    collection.concept_facts.push(owner_0(dice));
     let row = promised_row(dice, &mut collection, Concept(0));
     if dice.percent(70) {
         let deep = dice.pick(&row[1..]);
@@ -83,7 +87,7 @@ pub fn deep_end(dice: &mut Dice) -> Asked {
     throw_records(dice, &mut collection, &amounts);
     let role = |number: usize| Role::forward((number % ring) as u8);
     let (owner, last) = (Concept(0), State(states as u8 - 1));
-    collection.concept_facts.push((owner, Individual(0)));
+    collection.concept_facts.push(owner_0(dice));
     collection.concept_rules.push((owner, role(0).neighbour()));
     for number in 0..ring {
         // Where a link lacks, the rows end there.
@@ -115,6 +119,11 @@ pub fn deep_end(dice: &mut Dice) -> Asked {
     let allowance = if dice.percent(60) { None } else { Some(dice.below(3) as u16) };
     let asks = all_asks(&collection);
     Asked { collection, asks, allowance, expression: None }
+}
+
+/// Name 0 of individual 0.
+fn owner_0(dice: &mut Dice) -> ConceptFact {
+    ConceptFact { name: Concept(0), who: Individual(0), deed: throw_deed(dice) }
 }
 
 fn small_rings(dice: &mut Dice) -> Asked {
@@ -224,7 +233,8 @@ pub fn many_rounds(dice: &mut Dice, down: usize, up: usize, ring: usize) -> Aske
         let to = state(down + (number + 1) % up);
         collection.steps.push(Step::Role { from: state(down + number), role: wide.inverse(), to });
     }
-    collection.role_facts.push((role(0), Individual(0), Individual(1)));
+    let (first, second) = (Individual(0), Individual(1));
+    collection.role_facts.push(RoleFact { role: role(0), first, second, deed: throw_deed(dice) });
     collection.finals.push(state(down + dice.below(up)));
     let allowance = match dice.below(4) {
         0 => None,

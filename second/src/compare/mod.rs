@@ -4,6 +4,7 @@ mod built_out;
 mod calls;
 mod child;
 mod damage;
+mod deeds;
 mod dice;
 pub mod expressions;
 mod generate;
@@ -55,11 +56,15 @@ pub const DESK_NUMBERS: [u8; 14] = [0, 1, 2, 3, 4, 5, 6, 8, 9, 10, 11, 12, 13, 1
 
 /// What else a case of the desk can be: what it reads, and what it writes.
 pub fn desk_met() -> Vec<&'static str> {
-    [&[parts::SELF_DEALING], &outputs::MET[..]].concat()
+    let once_more = [deeds::CHANGED, deeds::LEFT_OUT, deeds::MIXED];
+    [&[parts::SELF_DEALING], &deeds::NOTED[..], &once_more, &outputs::MET[..]].concat()
 }
 
 /// What the library can answer a pair or one individual with.
 const ANSWERS: [u8; 8] = [0, 1, 2, 3, 4, 5, 6, 8];
+
+/// What else a case of the library must be.
+const ASKED_MET: [&str; 2] = [parts::SELF_DEALING, deeds::CHANGED];
 
 /// How many passed and how many failed.
 pub fn compare(options: &Options) -> (u64, u64) {
@@ -74,7 +79,7 @@ pub fn compare(options: &Options) -> (u64, u64) {
         }
     }
     println!("b. the library through its C boundary against module library, with both areas");
-    through_drivers(options, &mut total, (LIBRARY, &ANSWERS, &[parts::SELF_DEALING]), parts::library_part);
+    through_drivers(options, &mut total, (LIBRARY, &ANSWERS, &ASKED_MET), parts::library_part);
     println!("c. rows of pairs, likewise, with the entries of each row");
     through_drivers(options, &mut total, (ROWS, &ANSWERS, &rows::MET), parts::row_part);
     println!("d. the tables made of an expression, likewise, with the rows they are put into");
@@ -88,7 +93,7 @@ pub fn compare(options: &Options) -> (u64, u64) {
         &[&shown::MET[..], &built_out::MET[..]].concat(),
     );
     println!("f. the library's call for one individual, likewise with both areas");
-    through_drivers(options, &mut total, (FROM, &ANSWERS, &[parts::SELF_DEALING]), parts::from_part);
+    through_drivers(options, &mut total, (FROM, &ANSWERS, &ASKED_MET), parts::from_part);
     total
 }
 

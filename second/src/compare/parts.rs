@@ -3,6 +3,7 @@
 use super::calls::{from_lent, lent, some_many_rounds, Asks, Lent};
 use super::child::{run_desk, Driver, Words};
 use super::damage::{damaged, Damaged};
+use super::deeds::{lent_with_others, noted, renoted, CHANGED};
 use super::dice::Dice;
 use super::expressions::{expressed, MOST_MARKS};
 use super::generate::{broad, full, medium, over_a_thousand, small, Asked};
@@ -16,7 +17,7 @@ use super::typed::{self, typed};
 use crate::collection::Collection;
 use crate::desk::desk;
 use crate::desk::read::read;
-use crate::library::{ask, ask_from};
+use crate::library::{ask, ask_from, SHAPES};
 use std::collections::BTreeSet;
 
 /// What differed, with the input that shows it.
@@ -32,12 +33,12 @@ pub type Outcome = Result<(), Difference>;
 pub const SELF_DEALING: &str = "a self-dealing fact";
 
 pub fn has_equal_ends(collection: &Collection) -> bool {
-    collection.role_facts.iter().any(|(_, first, second)| first == second)
+    collection.role_facts.iter().any(|fact| fact.first == fact.second)
 }
 
 /// Whether what is lent has a role fact with equal ends.
 fn deals_with_itself(lent: &Lent) -> bool {
-    lent.call.tables[5].chunks_exact(3).any(|fact| fact[1] == fact[2])
+    lent.call.tables[5].chunks_exact(SHAPES[5].0).any(|fact| fact[1] == fact[2])
 }
 
 /// An input for the desk, and for a faulty one what it was made for.
@@ -75,53 +76,66 @@ pub fn desk_part(words: &Words, mut dice: Dice, tally: &mut Tally) -> Outcome {
     let (input, made_for) = desk_case(&mut dice, tally);
     let expected = desk(&input);
     outputs::count(&expected, tally);
-    if read(&input).is_ok_and(|file| has_equal_ends(&file.collection)) {
-        tally.met(SELF_DEALING);
+    if let Ok(file) = read(&input) {
+        let self_dealing = has_equal_ends(&file.collection).then_some(SELF_DEALING);
+        noted(&file.collection).into_iter().chain(self_dealing).for_each(|what| tally.met(what));
     }
-    let differs = |expected: &[u8], found: String| Difference {
-        input: input.clone(),
+    let itself = |input: &[u8], expected: &[u8], found: &[u8]| Difference {
+        input: input.to_vec(),
         expected: String::from_utf8_lossy(expected).into_owned(),
-        found,
+        found: format!("module desk itself: {}", String::from_utf8_lossy(found)),
     };
     if let Some(damaged) = made_for {
         let line = format!("8F{:04X}{:02X}\n", damaged.at, damaged.number).into_bytes();
         if line != expected {
-            let found = format!("module desk itself: {}", String::from_utf8_lossy(&expected));
-            return Err(differs(&line, found));
+            return Err(itself(&input, &line, &expected));
         }
         damaged.also.iter().for_each(|also| tally.order(damaged.number, *also));
     }
-    match run_desk(words, &input) {
-        Ok(output) if output == expected => Ok(()),
-        Ok(output) => Err(differs(&expected, String::from_utf8_lossy(&output).into_owned())),
-        Err(error) => Err(differs(&expected, error.to_string())),
+    writes(words, &input, &expected)?;
+    let Some((what, other)) = renoted(&mut dice, &input) else { return Ok(()) };
+    tally.met(what);
+    match desk(&other) {
+        same if same == expected => writes(words, &other, &expected),
+        found => Err(itself(&other, &expected, &found)),
     }
+}
+
+/// The desk program writes just that.
+fn writes(words: &Words, input: &[u8], expected: &[u8]) -> Outcome {
+    let found = match run_desk(words, input) {
+        Ok(output) if output == expected => return Ok(()),
+        Ok(output) => String::from_utf8_lossy(&output).into_owned(),
+        Err(error) => error.to_string(),
+    };
+    let expected = String::from_utf8_lossy(expected).into_owned();
+    Err(Difference { input: input.to_vec(), expected, found })
 }
 
 /// Part (b): the library behind a driver against module `library`, with both areas and the bytes behind them.
 pub fn library_part(driver: &mut Driver, mut dice: Dice, tally: &mut Tally) -> Outcome {
     let lent = lent(&mut dice);
-    one_ask(driver, &lent, tally)
+    one_ask(driver, lent, &mut dice, tally)
 }
 
 /// Part (f): likewise of one individual.
 pub fn from_part(driver: &mut Driver, mut dice: Dice, tally: &mut Tally) -> Outcome {
     let lent = from_lent(&mut dice);
-    one_ask(driver, &lent, tally)
+    one_ask(driver, lent, &mut dice, tally)
 }
 
-fn one_ask(driver: &mut Driver, lent: &Lent, tally: &mut Tally) -> Outcome {
+fn one_ask(driver: &mut Driver, lent: Lent, dice: &mut Dice, tally: &mut Tally) -> Outcome {
     tally.kind(lent.kind);
-    let (answers, expected) = protocol::answer(lent);
+    let (answers, expected) = protocol::answer(&lent);
     let (number, count) = answers.expect("one ask is always answered")[0];
     tally.number(number);
     if number < 2 {
         tally.rounds(count);
     }
-    if number < 4 && deals_with_itself(lent) {
+    if number < 4 && deals_with_itself(&lent) {
         tally.met(SELF_DEALING);
     }
-    let request = protocol::request(lent);
+    let request = protocol::request(&lent);
     let differs = |expected, found| Difference { input: request.clone().into_bytes(), expected, found };
     if let Some(&first) = lent.planted.iter().min() {
         if number != first {
@@ -129,10 +143,30 @@ fn one_ask(driver: &mut Driver, lent: &Lent, tally: &mut Tally) -> Outcome {
         }
         lent.planted.iter().filter(|also| **also > first).for_each(|also| tally.order(first, *also));
     }
-    if number == 2 && number_without_exclusions(lent) == 3 {
+    if number == 2 && number_without_exclusions(&lent) == 3 {
         tally.order(2, 3);
     }
-    replies(driver, request, expected)
+    replies(driver, request, &expected)?;
+    replies_with_other_deeds(driver, lent, dice, tally, expected)
+}
+
+/// The same call but for its deed numbers has the same reply, with what both areas hold.
+fn replies_with_other_deeds(
+    driver: &mut Driver,
+    lent: Lent,
+    dice: &mut Dice,
+    tally: &mut Tally,
+    expected: String,
+) -> Outcome {
+    let Some(call) = lent_with_others(dice, &lent.call) else { return Ok(()) };
+    tally.met(CHANGED);
+    let other = Lent { call, ..lent };
+    let (request, itself) = (protocol::request(&other), protocol::answer(&other).1);
+    if itself != expected {
+        let found = format!("module library itself: {itself}");
+        return Err(Difference { input: request.into_bytes(), expected, found });
+    }
+    replies(driver, request, &expected)
 }
 
 /// Part (c): a row of pairs, likewise: each entry, what lies behind the entries, both areas and what lies behind them.
@@ -159,7 +193,10 @@ pub fn row_part(driver: &mut Driver, mut dice: Dice, tally: &mut Tally) -> Outco
             let found = format!("module library itself: {numbers:?}");
             Err(Difference { input: request.into_bytes(), expected: format!("number {first}"), found })
         }
-        _ => replies(driver, request, expected),
+        _ => {
+            replies(driver, request, &expected)?;
+            replies_with_other_deeds(driver, lent, &mut dice, tally, expected)
+        }
     }
 }
 
@@ -178,16 +215,16 @@ pub fn typed_part(driver: &mut Driver, mut dice: Dice, tally: &mut Tally) -> Out
     }
     let stand = typed::stand(&typed);
     stand.iter().filter(|also| **also != number).for_each(|also| tally.order(number, *also));
-    replies(driver, request, expected)
+    replies(driver, request, &expected)
 }
 
-fn replies(driver: &mut Driver, request: String, expected: String) -> Outcome {
+fn replies(driver: &mut Driver, request: String, expected: &str) -> Outcome {
     let found = match driver.ask(&request) {
         Ok(reply) if reply == expected => return Ok(()),
         Ok(reply) => reply,
         Err(error) => error.to_string(),
     };
-    Err(Difference { input: request.into_bytes(), expected, found })
+    Err(Difference { input: request.into_bytes(), expected: expected.to_string(), found })
 }
 
 /// What a pair, or one individual, would be answered were there no exclusion to break.

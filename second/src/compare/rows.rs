@@ -1,6 +1,7 @@
 //! Rows of pairs for the library: of every length, with undeclared pairs in every place, and with lengths that do not fit.
 
 use super::calls::{call_of, make_stranger, make_wild, pair_of, plant, some_many_rounds, Asks, Lent, Row};
+use super::deeds::CHANGED;
 use super::dice::Dice;
 use super::generate::{full, medium, small, Asked};
 use super::parts::SELF_DEALING;
@@ -8,8 +9,9 @@ use crate::area::AREA;
 use crate::library::PAIRS;
 
 /// What a row can be, beside the numbers it is answered with; 8 is an undeclared pair.
-pub const MET: [&str; 16] = [
+pub const MET: [&str; 17] = [
     SELF_DEALING,
+    CHANGED,
     "no pair",
     "one pair",
     "2 to 255 pairs",

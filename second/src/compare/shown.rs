@@ -1,24 +1,31 @@
-//! Whether what `explain` shows is so: its paths are paths of the canonical model, its clash is one.
+//! Whether what `explain` shows is so: its paths are paths of the canonical model, its clash is one, and each step and each side
+//! holds by the one fact that is named for it.
 
 use super::parts::{has_equal_ends, SELF_DEALING};
 use crate::ask::Ask;
+use crate::collection::{Collection, ConceptFact, RoleFact};
+use crate::desk::read::File;
 use crate::element::Element;
 use crate::explain::clash::{Clash, ConceptSide, What};
-use crate::explain::path::{Move, Path};
+use crate::explain::noted::{concept_facts, role_facts, Noted};
+use crate::explain::path::{Move, Path, Stand};
 use crate::explain::{Asked, Behind, Explanation};
 use crate::model::check::{belongs, concepts, is_path, roles};
 use crate::model::known::Known;
-use crate::numbers::Concept;
+use crate::numbers::{Concept, Deed};
+use std::collections::BTreeMap;
 
 /// Enough for the paths of small collections; a longer one isn't looked at.
 const MOST_STEPS: usize = 2_000;
 
 /// What a case can show, beside its answers.
-pub const MET: [&str; 4] = [
+pub const MET: [&str; 6] = [
     SELF_DEALING,
     "a path by a self-dealing fact",
     "a clash by a self-dealing fact",
     "a path that ends more than 5 roles deep",
+    "a step by a noted deed",
+    "a clash by a noted deed",
 ];
 
 /// Which of `MET` it shows; the error is what was expected and what was found.
@@ -37,8 +44,14 @@ pub fn agrees(input: &[u8], known: &Known) -> Result<Vec<&'static str>, (String,
             _ => {}
         }
     }
+    if !rest_on_their_facts(&explained) {
+        return fails("a step that holds by its fact alone");
+    }
     match &explained.clash {
         Some(clash) if !clashes(clash, &explained, known) => fails("a clash that is one"),
+        Some(clash) if !sides_rest_on_their_facts(clash, &explained) => {
+            fails("a side that holds by its fact alone")
+        }
         Some(_) if explained.asks.iter().any(|asked| asked.number != 2) => fails("no clash"),
         _ => Ok(met(&explained)),
     }
@@ -62,8 +75,65 @@ fn met(explained: &Explanation) -> Vec<&'static str> {
         }
         _ => false,
     });
-    let met = [has_equal_ends(&explained.file.collection), path, clash, deep];
+    let is_noted = |fact: &Noted| fact.deed != Deed::NONE_NOTED;
+    let step = steps(explained).any(|pair| pair[1].rests_on.as_ref().is_some_and(is_noted));
+    let side = explained.clash.as_ref().is_some_and(|clash| clash.rests_on().iter().any(is_noted));
+    let met = [has_equal_ends(&explained.file.collection), path, clash, deep, step, side];
     MET.into_iter().zip(met).filter(|(_, is_so)| *is_so).map(|(what, _)| what).collect()
+}
+
+/// Each step that is shown, as where it leads from and where it leads to.
+fn steps(explained: &Explanation) -> impl Iterator<Item = &[Stand]> {
+    let path = |asked| match asked {
+        &Asked { behind: Behind::Path(ref path), .. } => Some(path),
+        _ => None,
+    };
+    explained.asks.iter().filter_map(path).flat_map(|path| path.stands.windows(2))
+}
+
+/// The collection without any fact but the one that is noted there; None where there is none.
+fn with_only(file: &File, noted: Noted) -> Option<Collection> {
+    let concept_facts: Vec<ConceptFact> = noted_there(concept_facts(file), noted);
+    let role_facts: Vec<RoleFact> = noted_there(role_facts(file), noted);
+    let one = concept_facts.len() + role_facts.len() == 1;
+    one.then(|| Collection { concept_facts, role_facts, ..file.collection.clone() })
+}
+
+fn noted_there<T>(facts: Vec<(T, Noted)>, noted: Noted) -> Vec<T> {
+    facts.into_iter().filter(|(_, there)| *there == noted).map(|(fact, _)| fact).collect()
+}
+
+/// Each step is one of the model in which no other fact is typed than the one it rests on.
+fn rest_on_their_facts(explained: &Explanation) -> bool {
+    let mut by_fact: BTreeMap<Noted, Vec<&[Stand]>> = BTreeMap::new();
+    for step in steps(explained) {
+        let Some(noted) = step[1].rests_on else { return false };
+        by_fact.entry(noted).or_default().push(step);
+    }
+    by_fact.into_iter().all(|(noted, steps)| {
+        let Some(only) = with_only(&explained.file, noted) else { return false };
+        let known = Known::of(&only);
+        let spot = |stand: &Stand| (stand.element.clone(), stand.state);
+        steps.into_iter().all(|step| is_path(&known, &[spot(&step[0]), spot(&step[1])]))
+    })
+}
+
+/// Likewise each side of the clash.
+fn sides_rest_on_their_facts(clash: &Clash, explained: &Explanation) -> bool {
+    let holds = |side: usize, noted: Noted| {
+        let Some(only) = with_only(&explained.file, noted) else { return false };
+        let known = Known::of(&only);
+        match &clash.what {
+            What::OnElement { element, sides } => {
+                belongs(&known, element) && concepts(&known, element).contains(&shown_concept(&sides[side]))
+            }
+            What::OnPair { first, second, sides } => {
+                let belong = belongs(&known, first) && belongs(&known, second);
+                belong && roles(&known, first, second).contains(&sides[side].to)
+            }
+        }
+    };
+    clash.rests_on().into_iter().enumerate().all(|(side, noted)| holds(side, noted))
 }
 
 fn leads(path: &Path, asked: &Asked, known: &Known) -> bool {

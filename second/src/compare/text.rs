@@ -1,5 +1,6 @@
 //! A collection written as the desk's lines, in any order after the first.
 
+use super::deeds::written;
 use super::dice::Dice;
 use super::generate::Asked;
 use crate::collection::Step;
@@ -20,11 +21,13 @@ pub fn lines(dice: &mut Dice, asked: &Asked) -> Vec<Vec<u8>> {
     for (left, right) in &collection.role_exclusions {
         lines.push(line(&[0x05, left.0, right.0]));
     }
-    for (name, who) in &collection.concept_facts {
-        lines.push(line(&[0x06, name.0, who.0]));
+    for fact in &collection.concept_facts {
+        let deed = written(dice, fact.deed.0);
+        lines.push(line(&[&[0x06, fact.name.0, fact.who.0], &deed[..]].concat()));
     }
-    for (role, first, second) in &collection.role_facts {
-        lines.push(line(&[0x07, role.0 / 2, first.0, second.0]));
+    for fact in &collection.role_facts {
+        let deed = written(dice, fact.deed.0);
+        lines.push(line(&[&[0x07, fact.role.0 / 2, fact.first.0, fact.second.0], &deed[..]].concat()));
     }
     lines.extend(question(asked));
     lines.extend(asked.asks.iter().map(|ask| line(&ask.frame())));

@@ -1,8 +1,9 @@
 //! Records thrown into a collection: rules, facts, steps, exclusions, and repeats that fill the tables.
 
+use super::deeds::throw_deed;
 use super::dice::Dice;
 use crate::clash::{breaks_concepts, breaks_roles, element_concepts, last_roles, pair_roles};
-use crate::collection::{Collection, Counts, Step};
+use crate::collection::{Collection, ConceptFact, Counts, RoleFact, Step};
 use crate::numbers::{Concept, Individual, Role, State};
 use crate::order::Orders;
 use crate::people::People;
@@ -46,13 +47,15 @@ pub fn throw_facts(dice: &mut Dice, collection: &mut Collection, amounts: &Amoun
     let roles: Vec<Role> = (0..counts.roles).map(Role::forward).collect();
     let people: Vec<Individual> = counts.all_individuals().collect();
     for _ in 0..if_any(&names, if_any(&people, amounts.facts)) {
-        collection.concept_facts.push((dice.pick(&names), dice.pick(&people)));
+        let (name, who) = (dice.pick(&names), dice.pick(&people));
+        collection.concept_facts.push(ConceptFact { name, who, deed: throw_deed(dice) });
     }
     for _ in 0..if_any(&roles, if_any(&people, amounts.role_facts)) {
         let first = dice.pick(&people);
         // Of many people two picked are seldom one, so it is made so.
         let second = if dice.percent(30) { first } else { dice.pick(&people) };
-        collection.role_facts.push((dice.pick(&roles), first, second));
+        let role = dice.pick(&roles);
+        collection.role_facts.push(RoleFact { role, first, second, deed: throw_deed(dice) });
     }
 }
 
@@ -186,7 +189,19 @@ pub fn exclusion_below(dice: &mut Dice, collection: &mut Collection, role: Role,
     }
 }
 
-/// Repeated records mean nothing more, but they fill the tables.
+/// Some facts once more, each by a deed of its own: they mean nothing more, but stand in the tables. No table is full.
+pub fn repeat_by_other_deeds(dice: &mut Dice, collection: &mut Collection) {
+    if !collection.concept_facts.is_empty() {
+        let fact = dice.pick(&collection.concept_facts);
+        collection.concept_facts.push(ConceptFact { deed: throw_deed(dice), ..fact });
+    }
+    if !collection.role_facts.is_empty() {
+        let fact = dice.pick(&collection.role_facts);
+        collection.role_facts.push(RoleFact { deed: throw_deed(dice), ..fact });
+    }
+}
+
+/// Repeated records mean nothing more, but they fill the tables; so do facts that differ only in the deed number.
 pub fn repeat_to_the_most(dice: &mut Dice, collection: &mut Collection) {
     fn fill<T: Copy>(dice: &mut Dice, table: &mut Vec<T>, most: usize) {
         let distinct = table.len();
@@ -202,4 +217,8 @@ pub fn repeat_to_the_most(dice: &mut Dice, collection: &mut Collection) {
     fill(dice, &mut collection.role_facts, 4_096);
     fill(dice, &mut collection.steps, 512);
     fill(dice, &mut collection.finals, 16);
+    if dice.percent(50) {
+        collection.concept_facts.iter_mut().for_each(|fact| fact.deed = throw_deed(dice));
+        collection.role_facts.iter_mut().for_each(|fact| fact.deed = throw_deed(dice));
+    }
 }

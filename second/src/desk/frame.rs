@@ -1,5 +1,7 @@
 //! One line of the desk's input: its characters (number 9) and its frame (number 10).
 
+use crate::numbers::Deed;
+
 /// A frame with its own numbers, as written; nothing is tested against the declared counts yet.
 #[derive(Clone, Debug, PartialEq, Eq)]
 pub enum Frame {
@@ -11,11 +13,13 @@ pub enum Frame {
     ConceptFact {
         name: u8,
         who: u8,
+        deed: u16,
     },
     RoleFact {
         role: u8,
         first: u8,
         second: u8,
+        deed: u16,
     },
     RoleStep {
         from: u8,
@@ -68,8 +72,10 @@ fn shaped(bytes: &[u8]) -> Option<Frame> {
         [0x03, left, right] => Frame::ConceptExclusion(left, right),
         [0x04, left, right] => Frame::RoleRule(left, right),
         [0x05, left, right] => Frame::RoleExclusion(left, right),
-        [0x06, name, who] => Frame::ConceptFact { name, who },
-        [0x07, role, first, second] => Frame::RoleFact { role, first, second },
+        [0x06, name, who, ref deed @ ..] => Frame::ConceptFact { name, who, deed: deed_number(deed)? },
+        [0x07, role, first, second, ref deed @ ..] => {
+            Frame::RoleFact { role, first, second, deed: deed_number(deed)? }
+        }
         [0x08, from, role, to] => Frame::RoleStep { from, role, to },
         [0x09, from, name, to] => Frame::TestStep { from, name, to },
         [0x0A, state] => Frame::Final(state),
@@ -79,4 +85,13 @@ fn shaped(bytes: &[u8]) -> Option<Frame> {
         [0x0D, ref marks @ ..] => Frame::Expression(marks.to_vec()),
         _ => return None,
     })
+}
+
+/// What ends a fact: two bytes, or nothing where none is noted.
+fn deed_number(bytes: &[u8]) -> Option<u16> {
+    match *bytes {
+        [] => Some(Deed::NONE_NOTED.0),
+        [high, low] => Some(u16::from_be_bytes([high, low])),
+        _ => None,
+    }
 }

@@ -3,7 +3,8 @@
 use super::frame::{frame, Frame};
 use super::question::{expression, question, Typed};
 use crate::ask::Ask;
-use crate::collection::{Collection, Counts};
+use crate::collection::{Collection, ConceptFact, Counts, RoleFact};
+use crate::numbers::Deed;
 
 /// The allowance where the file has no frame 0C.
 pub const ALLOWANCE_WHEN_ABSENT: u16 = 64;
@@ -162,14 +163,16 @@ fn fact(file: &mut File, frame: Frame, at: usize) -> Result<(), u8> {
     let (collection, lines) = (&mut file.collection, &mut file.lines);
     let counts = &collection.counts;
     match frame {
-        Frame::ConceptFact { name, who } => {
-            let record = counts.name(name.into()).zip(counts.individual(who.into()));
+        Frame::ConceptFact { name, who, deed } => {
+            let declared = counts.name(name.into()).zip(counts.individual(who.into()));
+            let record = declared.map(|(name, who)| ConceptFact { name, who, deed: Deed(deed) });
             put(&mut collection.concept_facts, &mut lines.concept_facts, 1_024, at, record)
         }
-        Frame::RoleFact { role, first, second } => {
+        Frame::RoleFact { role, first, second, deed } => {
             let ends = counts.individual(first.into()).zip(counts.individual(second.into()));
-            let record = counts.role_name(role.into()).zip(ends);
-            let record = record.map(|(role, (first, second))| (role, first, second));
+            let declared = counts.role_name(role.into()).zip(ends);
+            let record =
+                declared.map(|(role, (first, second))| RoleFact { role, first, second, deed: Deed(deed) });
             put(&mut collection.role_facts, &mut lines.role_facts, 4_096, at, record)
         }
         _ => unreachable!("only facts come here"),

@@ -1,7 +1,9 @@
 //! The clash of a contradiction: an element or an ordered pair, and the rules that bring both sides there.
 
 use super::chain::{Chains, Link};
-use super::people::Has;
+use super::noted::{role_facts, Noted};
+use super::people::{Has, People};
+use crate::collection::RoleFact;
 use crate::desk::read::File;
 use crate::element::Element;
 use crate::numbers::{Concept, Individual, Role};
@@ -18,9 +20,9 @@ pub enum ConceptSide {
     },
 }
 
-/// How one side of a role exclusion comes to the pair: made as `from` by a fact (its line) or as parent and child.
+/// How one side of a role exclusion comes to the pair: made as `from` by a fact, or as parent and child.
 pub struct RoleSide {
-    pub fact_line: Option<usize>,
+    pub fact: Option<Noted>,
     pub from: Role,
     pub to: Role,
     pub chain: Vec<Link<Role>>,
@@ -42,7 +44,22 @@ pub struct Clash {
 pub struct Places<'a> {
     pub file: &'a File,
     pub chains: &'a Chains,
-    pub people: &'a [BTreeMap<Concept, Has>],
+    pub people: &'a People,
+}
+
+impl Clash {
+    /// The typed fact that each side rests on. What is unnamed is there since its individual has the first role of its row.
+    pub fn rests_on(&self) -> [Noted; 2] {
+        let row = self.row.as_ref().map(|(has, _)| has.noted);
+        let sides = match &self.what {
+            What::OnElement { sides, .. } => [&sides[0], &sides[1]].map(|side| match side {
+                ConceptSide::Named(has) => Some(has.noted),
+                ConceptSide::Unnamed { .. } => row,
+            }),
+            What::OnPair { sides, .. } => [&sides[0], &sides[1]].map(|side| side.fact.or(row)),
+        };
+        sides.map(|noted| noted.expect("a side that no fact gives is of an unnamed element"))
+    }
 }
 
 impl Places<'_> {
@@ -149,22 +166,21 @@ impl Places<'_> {
         None
     }
 
-    /// For each ordered pair of individuals the roles typed on it, as seen from the first, with their lines.
-    fn made_by_facts(&self) -> BTreeMap<(Individual, Individual), Vec<(Role, usize)>> {
-        let mut pairs: BTreeMap<_, Vec<(Role, usize)>> = BTreeMap::new();
-        let facts = self.file.collection.role_facts.iter().zip(&self.file.lines.role_facts);
-        for (&(role, first, second), &line) in facts {
-            pairs.entry((first, second)).or_default().push((role, line));
-            pairs.entry((second, first)).or_default().push((role.inverse(), line));
+    /// For each ordered pair of individuals the roles typed on it, as seen from the first, and where.
+    fn made_by_facts(&self) -> BTreeMap<(Individual, Individual), Vec<(Role, Noted)>> {
+        let mut pairs: BTreeMap<_, Vec<(Role, Noted)>> = BTreeMap::new();
+        for (RoleFact { role, first, second, .. }, noted) in role_facts(self.file) {
+            pairs.entry((first, second)).or_default().push((role, noted));
+            pairs.entry((second, first)).or_default().push((role.inverse(), noted));
         }
         pairs
     }
 
     /// The first fact from which the pair has this role.
-    fn role_of_pair(&self, made: &[(Role, usize)], to: Role) -> Option<RoleSide> {
-        made.iter().find_map(|&(from, line)| {
+    fn role_of_pair(&self, made: &[(Role, Noted)], to: Role) -> Option<RoleSide> {
+        made.iter().find_map(|&(from, noted)| {
             let chain = self.chains.roles[&from].chain(to)?;
-            Some(RoleSide { fact_line: Some(line), from, to, chain })
+            Some(RoleSide { fact: Some(noted), from, to, chain })
         })
     }
 
@@ -176,7 +192,7 @@ impl Places<'_> {
                 for ((left, right), line) in self.role_exclusions() {
                     if let (Some(one), Some(other)) = (above.chain(left), above.chain(right)) {
                         let sides = [(left, one), (right, other)].map(|(to, chain)| RoleSide {
-                            fact_line: None,
+                            fact: None,
                             from,
                             to,
                             chain,

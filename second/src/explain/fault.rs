@@ -52,26 +52,26 @@ fn characters(line: &[u8]) -> String {
 }
 
 /// The kinds of frame from 01 on: what they are called and how many bytes of fields they have.
-const KINDS: [(&str, usize); 14] = [
-    ("the counts", 5),
-    ("a concept rule", 2),
-    ("a concept exclusion", 2),
-    ("a role rule", 2),
-    ("a role exclusion", 2),
-    ("a concept fact", 2),
-    ("a role fact", 3),
-    ("a role step", 3),
-    ("a test step", 3),
-    ("a final", 1),
-    ("an ask", 2),
-    ("the allowance", 2),
+const KINDS: [(&str, &str); 14] = [
+    ("the counts", "5"),
+    ("a concept rule", "2"),
+    ("a concept exclusion", "2"),
+    ("a role rule", "2"),
+    ("a role exclusion", "2"),
+    ("a concept fact", "2, or 4 with a deed number,"),
+    ("a role fact", "3, or 5 with a deed number,"),
+    ("a role step", "3"),
+    ("a test step", "3"),
+    ("a final", "1"),
+    ("an ask", "2"),
+    ("the allowance", "2"),
     // Any number of marks is right.
-    ("an expression", 0),
-    ("an ask of one individual", 1),
+    ("an expression", "any number of"),
+    ("an ask of one individual", "1"),
 ];
 
 /// The frame's kind as it is called; None when it is unknown.
-fn kind(line: &[u8]) -> Option<(&'static str, usize)> {
+fn kind(line: &[u8]) -> Option<(&'static str, &'static str)> {
     let text = std::str::from_utf8(line.get(..2)?).ok()?;
     let number = usize::from_str_radix(text, 16).ok()?;
     KINDS.get(number.checked_sub(1)?).copied()
@@ -141,8 +141,8 @@ fn undeclared(input: &[u8], line: &[u8]) -> String {
     let wrong = match frame(line) {
         Ok(Frame::ConceptRule(a, b) | Frame::ConceptExclusion(a, b)) => vec![concept(a), concept(b)],
         Ok(Frame::RoleRule(a, b) | Frame::RoleExclusion(a, b)) => vec![signed(a), signed(b)],
-        Ok(Frame::ConceptFact { name: a, who }) => vec![name(a), person(who)],
-        Ok(Frame::RoleFact { role: r, first, second }) => vec![role(r), person(first), person(second)],
+        Ok(Frame::ConceptFact { name: a, who, .. }) => vec![name(a), person(who)],
+        Ok(Frame::RoleFact { role: r, first, second, .. }) => vec![role(r), person(first), person(second)],
         Ok(Frame::RoleStep { from, role, to }) => vec![state(from), signed(role), state(to)],
         Ok(Frame::TestStep { from, name: a, to }) => vec![state(from), name(a), state(to)],
         Ok(Frame::Final(a)) => vec![state(a)],

@@ -4,6 +4,7 @@ pub mod below;
 pub mod chain;
 pub mod clash;
 pub mod fault;
+pub mod noted;
 pub mod path;
 pub mod people;
 pub mod rounds;
@@ -12,14 +13,14 @@ pub mod walk;
 use crate::ask::Ask;
 use crate::desk::read::{read, File};
 use crate::desk::round_line;
-use crate::numbers::{Concept, Individual};
+use crate::numbers::Individual;
 use crate::prepared::Prepared;
 use below::{spot, Below};
 use chain::Chains;
 use clash::{Clash, Places};
 use fault::Faulty;
 use path::{unfold, Path, Spot};
-use people::Has;
+use people::People;
 use rounds::Rounds;
 use std::collections::BTreeMap;
 use walk::{Ground, Leg, Place, Walk};
@@ -30,7 +31,7 @@ pub const MOST_STEPS: usize = 200;
 pub struct Explanation {
     pub file: File,
     pub chains: Chains,
-    pub people: Vec<BTreeMap<Concept, Has>>,
+    pub people: People,
     pub clash: Option<Clash>,
     pub rounds: Rounds,
     pub asks: Vec<Asked>,
@@ -71,12 +72,12 @@ impl Explanation {
         let people = people::people(&file, &chains);
         let clash = Places { file: &file, chains: &chains, people: &people }.clash();
         let rounds = Rounds::of(&file);
-        let asks = asks(&file, &rounds, most_steps);
+        let asks = asks(&file, &rounds, &people, most_steps);
         Ok(Explanation { file, chains, people, clash, rounds, asks })
     }
 }
 
-fn asks(file: &File, rounds: &Rounds, most_steps: usize) -> Vec<Asked> {
+fn asks(file: &File, rounds: &Rounds, people: &People, most_steps: usize) -> Vec<Asked> {
     let mut prepared = Prepared::of(&file.collection, file.allowance());
     let ground = Ground::of(file, rounds);
     let mut walks: BTreeMap<Individual, Walk> = BTreeMap::new();
@@ -86,7 +87,7 @@ fn asks(file: &File, rounds: &Rounds, most_steps: usize) -> Vec<Asked> {
         let behind = if number < 2 {
             let walk = walks.entry(ask.first()).or_insert_with(|| ground.walk(ask.first()));
             match behind(&ground, walk, ask) {
-                Ok(legs) => Behind::Path(unfold(rounds, spot(walk.start), &legs, most_steps)),
+                Ok(legs) => Behind::Path(unfold(rounds, people, spot(walk.start), &legs, most_steps)),
                 Err(reached) => reached,
             }
         } else {

@@ -1,5 +1,7 @@
 //! The path of an ask: the legs of its walk, with every mark in it unfolded into unnamed elements.
 
+use super::noted::Noted;
+use super::people::People;
 use super::rounds::{Carried, Reason, Rounds};
 use super::walk::Leg;
 use crate::element::Element;
@@ -10,10 +12,10 @@ use std::collections::HashMap;
 /// How a path came to where it stands.
 #[derive(Clone, Copy, Debug, PartialEq, Eq)]
 pub enum Move {
-    /// Along a role fact on that line, by the role step.
+    /// Along the role fact that is noted there, by the role step.
     Fact {
         step: Carried,
-        line: usize,
+        noted: Noted,
     },
     Test {
         name: Concept,
@@ -33,6 +35,8 @@ pub struct Stand {
     pub by: Option<Move>,
     pub element: Element,
     pub state: State,
+    /// The typed fact that the step rests on; None for where the path begins.
+    pub rests_on: Option<Noted>,
 }
 
 /// Where a path stands.
@@ -52,13 +56,17 @@ enum Todo {
 
 /// Unfolds the legs of a walk, up to so many steps. A list of what is to be done stands in for recursion: a mark's
 /// path can be thousands of roles deep.
-pub fn unfold(rounds: &Rounds, start: Spot, legs: &[(Spot, Leg)], most: usize) -> Path {
-    let mut stands = vec![Stand { by: None, element: start.0, state: start.1 }];
+pub fn unfold(rounds: &Rounds, people: &People, start: Spot, legs: &[(Spot, Leg)], most: usize) -> Path {
+    let mut stands = vec![Stand { by: None, element: start.0, state: start.1, rests_on: None }];
     let mut todo: Vec<Todo> = legs.iter().rev().map(|(to, leg)| first_todo(to.clone(), *leg)).collect();
     while stands.len() <= most {
         match todo.pop() {
             None => return Path { stands, more: 0 },
-            Some(Todo::Stand(stand)) => stands.push(stand),
+            Some(Todo::Stand(mut stand)) => {
+                let before = &stands.last().expect("the beginning").element;
+                stand.rests_on = stand.by.map(|by| fact_behind(people, before, by, &stand.element));
+                stands.push(stand);
+            }
             Some(Todo::Loop(mark, element)) => unfold_mark(rounds, mark, element, &mut todo),
         }
     }
@@ -73,7 +81,7 @@ pub fn unfold(rounds: &Rounds, start: Spot, legs: &[(Spot, Leg)], most: usize) -
 
 fn first_todo((element, state): Spot, leg: Leg) -> Todo {
     match leg {
-        Leg::Fact { step, line } => stand(Move::Fact { step, line }, element, state),
+        Leg::Fact { step, noted } => stand(Move::Fact { step, noted }, element, state),
         Leg::Test { name, line } => stand(Move::Test { name, line }, element, state),
         Leg::Down { step } => stand(Move::Down { step }, element, state),
         Leg::Loop(mark) => Todo::Loop(mark, element),
@@ -81,7 +89,20 @@ fn first_todo((element, state): Spot, leg: Leg) -> Todo {
 }
 
 fn stand(by: Move, element: Element, state: State) -> Todo {
-    Todo::Stand(Stand { by: Some(by), element, state })
+    Todo::Stand(Stand { by: Some(by), element, state, rests_on: None })
+}
+
+/// The fact that a step rests on. An unnamed element is there, with its concepts and with the edge to its parent, since the
+/// individual has a neighbour by the first role of its row.
+fn fact_behind(people: &People, before: &Element, by: Move, after: &Element) -> Noted {
+    let has = &people[after.who.at()];
+    let needed = match (before.row.first().or(after.row.first()), by) {
+        (Some(first), _) => first.neighbour(),
+        (None, Move::Fact { noted, .. }) => return noted,
+        (None, Move::Test { name, .. }) => name,
+        (None, Move::Down { .. } | Move::Up { .. }) => unreachable!("one end of such a step is unnamed"),
+    };
+    has[&needed].noted
 }
 
 fn unfold_mark(rounds: &Rounds, mark: Mark, element: Element, todo: &mut Vec<Todo>) {

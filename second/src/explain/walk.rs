@@ -1,7 +1,8 @@
 //! The walk of the individuals once more, now with the leg by which each place was first reached.
 
+use super::noted::{role_facts, Noted};
 use super::rounds::{Carried, Rounds};
-use crate::collection::Step;
+use crate::collection::{RoleFact, Step};
 use crate::desk::read::File;
 use crate::numbers::{Concept, Individual, Role, State};
 use crate::order::{marked, Orders};
@@ -12,10 +13,10 @@ use std::collections::{HashMap, VecDeque};
 /// One move of the walk between individuals.
 #[derive(Clone, Copy)]
 pub enum Leg {
-    /// Along the role fact on that line, by the role step.
+    /// Along the role fact that is noted there, by the role step.
     Fact {
         step: Carried,
-        line: usize,
+        noted: Noted,
     },
     Test {
         name: Concept,
@@ -38,8 +39,8 @@ pub struct Ground<'a> {
     orders: Orders,
     pub people: People,
     pub rules: Rules,
-    /// For each individual its facts: the other end, the role as seen from here, the line.
-    facts: Vec<Vec<(Individual, Role, usize)>>,
+    /// For each individual its facts: the other end, the role as seen from here, where it is noted.
+    facts: Vec<Vec<(Individual, Role, Noted)>>,
 }
 
 /// All places a walk reaches from its beginning, each with the leg that led there first.
@@ -58,9 +59,9 @@ impl<'a> Ground<'a> {
         let people = People::of(&file.collection, &orders);
         let rules = Rules::of(&file.collection, &orders);
         let mut facts = vec![Vec::new(); people.edges.len()];
-        for (&(role, first, second), &line) in file.collection.role_facts.iter().zip(&file.lines.role_facts) {
-            facts[first.at()].push((second, role, line));
-            facts[second.at()].push((first, role.inverse(), line));
+        for (RoleFact { role, first, second, .. }, noted) in role_facts(file) {
+            facts[first.at()].push((second, role, noted));
+            facts[second.at()].push((first, role.inverse(), noted));
         }
         Ground { file, rounds, orders, people, rules, facts }
     }
@@ -95,11 +96,11 @@ impl<'a> Ground<'a> {
 
     fn by_facts(&self, (who, state): Place, walk: &Walk) -> Vec<(Place, Leg)> {
         let mut legs = Vec::new();
-        for &(there, seen, line) in &self.facts[who.at()] {
+        for &(there, seen, noted) in &self.facts[who.at()] {
             let states = self.rules.along[seen.at()][state.at()];
             for to in walk.new_states(there, states) {
                 let step = self.step_along(seen, state, to);
-                legs.push(((there, to), Leg::Fact { step, line }));
+                legs.push(((there, to), Leg::Fact { step, noted }));
             }
         }
         legs

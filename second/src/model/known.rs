@@ -1,6 +1,6 @@
 //! What the model is built from: both orders by search along the rules, the individuals' concepts, the fact edges.
 
-use crate::collection::Collection;
+use crate::collection::{Collection, RoleFact};
 use crate::numbers::{Concept, Individual, Role};
 use std::collections::{BTreeMap, BTreeSet};
 
@@ -59,15 +59,16 @@ impl<'a> Known<'a> {
         let collection = self.collection;
         for who in collection.counts.all_individuals() {
             let mut typed: Vec<Concept> = Vec::new();
-            typed.extend(collection.concept_facts.iter().filter(|fact| fact.1 == who).map(|fact| fact.0));
-            for &(role, first, second) in &collection.role_facts {
+            typed
+                .extend(collection.concept_facts.iter().filter(|fact| fact.who == who).map(|fact| fact.name));
+            for &RoleFact { role, first, second, .. } in &collection.role_facts {
                 typed.extend((first == who).then(|| role.neighbour()));
                 typed.extend((second == who).then(|| role.inverse().neighbour()));
             }
             let has = typed.iter().flat_map(|concept| self.concepts_above(*concept)).copied().collect();
             self.people.insert(who, has);
         }
-        for &(role, first, second) in &collection.role_facts {
+        for &RoleFact { role, first, second, .. } in &collection.role_facts {
             for upper in self.roles_above(role).clone() {
                 self.pairs.entry((first, second)).or_default().insert(upper);
                 self.pairs.entry((second, first)).or_default().insert(upper.inverse());

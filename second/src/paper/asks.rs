@@ -15,7 +15,13 @@ use std::collections::{BTreeMap, BTreeSet};
 const ANSWERS: [&str; 5] = ["Ask", "Answer", "Number", "Count", "The desk writes"];
 const WALK: [&str; 5] = ["Individual", "State", "Final", "Comes from", "By"];
 const BELOW: [&str; 5] = ["Element", "State", "Final", "Comes from", "By"];
-const PATH: [&str; 4] = ["Step", "Element", "State", "By"];
+const PATH: [&str; 5] = ["Step", "Element", "State", "By", "Rests on"];
+
+/// What a path's table says of each step; the facts only where a deed is noted.
+fn path_heads(explained: &Explanation) -> &'static [&'static str] {
+    let last = if explained.file.collection.notes_a_deed() { 5 } else { 4 };
+    &PATH[..last]
+}
 
 /// Each ask's answer in words, its number and count, and the line of output.
 pub fn answers(explained: &Explanation) -> String {
@@ -44,8 +50,8 @@ pub fn walks_form(explained: &Explanation) -> String {
     forms.join("\n")
 }
 
-pub fn path_form() -> String {
-    Table::form(&PATH, [vec!["0".to_string()], Vec::new()]).text()
+pub fn path_form(explained: &Explanation) -> String {
+    Table::form(path_heads(explained), [vec!["0".to_string()], Vec::new()]).text()
 }
 
 /// `yes, 2 rounds`.
@@ -62,7 +68,7 @@ pub fn in_words(asked: &Asked) -> String {
 /// What stands behind each answer: the path, the walk without one, or the clash.
 pub fn behind(explained: &Explanation, words: &Words) -> String {
     if let Some(found) = &explained.clash {
-        return clash(found, words);
+        return clash(found, words, explained.file.collection.notes_a_deed());
     }
     let parts: Vec<String> = explained.asks.iter().map(|asked| behind_one(explained, asked, words)).collect();
     parts.join("\n")
@@ -78,7 +84,7 @@ fn behind_one(explained: &Explanation, asked: &Asked, words: &Words) -> String {
                 asked.ask.first().0
             )
         }
-        Behind::Path(found) => format!("{asked_pair}: the path.\n\n{}", path(found, words)),
+        Behind::Path(found) => format!("{asked_pair}: the path.\n\n{}", path(explained, found, words)),
         Behind::Reached(places) => format!("{asked_pair}: {}\n", reached(explained, asked.ask, places)),
         Behind::Everywhere(places, spots) => {
             format!("{asked_pair}: {}\n", everywhere(explained, asked.ask, (places, spots), words))
@@ -130,19 +136,22 @@ fn everywhere(
     )
 }
 
-fn path(path: &Path, words: &Words) -> String {
-    let mut table = Table::new(&PATH);
+fn path(explained: &Explanation, path: &Path, words: &Words) -> String {
+    let heads = path_heads(explained);
+    let mut table = Table::new(heads);
     for (number, stand) in path.stands.iter().enumerate() {
         let by = match &stand.by {
             None => "the start".to_string(),
-            Some(Move::Fact { step: by, line }) => {
-                format!("{}, along the fact on line {line}", step(by, words))
+            Some(Move::Fact { step: by, noted }) => {
+                format!("{}, along the fact on line {}", step(by, words), noted.line)
             }
             Some(Move::Test { name, line }) => format!("test {} (line {line})", words.concept(*name)),
             Some(Move::Down { step: by }) => format!("down by {}", step(by, words)),
             Some(Move::Up { step: by }) => format!("up by {}", step(by, words)),
         };
-        table.row([number.to_string(), words.element(&stand.element), stand.state.0.to_string(), by]);
+        let fact = stand.rests_on.map_or(String::new(), |fact| fact.to_string());
+        let cells = [number.to_string(), words.element(&stand.element), stand.state.0.to_string(), by, fact];
+        table.row(cells.into_iter().take(heads.len()));
     }
     let more = if path.more > 0 { "\nThe path is longer than is shown.\n" } else { "" };
     table.text() + more
@@ -229,7 +238,9 @@ fn standing((who, state): Place) -> String {
 
 fn leg_in_words(leg: &Leg, words: &Words) -> String {
     match leg {
-        Leg::Fact { step: by, line } => format!("{}, along the fact on line {line}", step(by, words)),
+        Leg::Fact { step: by, noted } => {
+            format!("{}, along the fact on line {}", step(by, words), noted.line)
+        }
         Leg::Test { name, line } => format!("test {} (line {line})", words.concept(*name)),
         Leg::Loop(mark) => format!("the mark {}", words.mark(*mark)),
         Leg::Down { step: by } => format!("down by {}", step(by, words)),

@@ -33,15 +33,20 @@ pub fn concept_of(side: &ConceptSide) -> Concept {
     }
 }
 
-pub fn clash(clash: &Clash, words: &Words) -> String {
+/// With the typed fact that each side rests on, where that is wanted.
+pub fn clash(clash: &Clash, words: &Words, facts: bool) -> String {
     let Sides { place, sides: [left, right], line } = sides(clash, words);
     let mut text = format!("The clash: {place} has {left} and {right}, which line {line} excludes.\n\n");
     text += &row(clash, words);
-    match &clash.what {
-        What::OnElement { sides, .. } => sides.iter().for_each(|side| text += &concept_side(side, words)),
+    let sides = match &clash.what {
+        What::OnElement { sides, .. } => [&sides[0], &sides[1]].map(|side| concept_side(side, words)),
         What::OnPair { first, second, sides } => {
-            sides.iter().for_each(|side| text += &role_side(side, first == second, words))
+            [&sides[0], &sides[1]].map(|side| role_side(side, first == second, words))
         }
+    };
+    for (side, fact) in sides.into_iter().zip(clash.rests_on()) {
+        let rests = if facts { format!("; rests on {fact}") } else { String::new() };
+        text += &format!("- {side}{rests}\n");
     }
     text
 }
@@ -63,29 +68,27 @@ fn row(clash: &Clash, words: &Words) -> String {
 fn concept_side(side: &ConceptSide, words: &Words) -> String {
     let concept = words.concept(concept_of(side));
     match side {
-        ConceptSide::Named(has) => format!("- {concept}: {}\n", why(has, words)),
+        ConceptSide::Named(has) => format!("{concept}: {}", why(has, words)),
         ConceptSide::Unnamed { from, chain, .. } if chain.is_empty() => {
-            format!("- {concept}: the last signed role of its row gives it {}\n", words.concept(*from))
+            format!("{concept}: the last signed role of its row gives it {}", words.concept(*from))
         }
         ConceptSide::Unnamed { from, chain, .. } => {
             let rules = words.chain(*from, chain, Words::concept);
-            format!(
-                "- {concept}: the last signed role of its row gives it {}; {rules}\n",
-                words.concept(*from)
-            )
+            format!("{concept}: the last signed role of its row gives it {}; {rules}", words.concept(*from))
         }
     }
 }
 
 fn role_side(side: &RoleSide, alone: bool, words: &Words) -> String {
-    let made = match side.fact_line {
+    let line = side.fact.map(|noted| noted.line);
+    let made = match line {
         Some(line) if alone => format!("line {line} joins it to itself by {}", words.role(side.from)),
         Some(line) => format!("line {line} joins them by {}", words.role(side.from)),
         None => format!("they are joined by {}", words.role(side.from)),
     };
     if side.chain.is_empty() {
-        return format!("- {}: {made}\n", words.role(side.to));
+        return format!("{}: {made}", words.role(side.to));
     }
     let rules = words.chain(side.from, &side.chain, Words::role);
-    format!("- {}: {made}; {rules}\n", words.role(side.to))
+    format!("{}: {made}; {rules}", words.role(side.to))
 }

@@ -2,7 +2,9 @@
 
 use super::table::Table;
 use super::words::{listed, pair, Words};
+use crate::collection::RoleFact;
 use crate::explain::chain::{Above, Link};
+use crate::explain::noted::{role_facts, Noted};
 use crate::explain::Explanation;
 use crate::numbers::{Concept, Individual, Role};
 use std::collections::{BTreeMap, VecDeque};
@@ -96,7 +98,7 @@ type Pairs = BTreeMap<(Individual, Individual), BTreeMap<Role, (usize, Role, Vec
 fn pairs_of(explained: &Explanation) -> Pairs {
     let file = &explained.file;
     let mut pairs = Pairs::new();
-    for (&(role, first, second), &line) in file.collection.role_facts.iter().zip(&file.lines.role_facts) {
+    for (RoleFact { role, first, second, .. }, Noted { line, .. }) in role_facts(file) {
         for (first, second, typed) in [(first, second, role), (second, first, role.inverse())] {
             let has = pairs.entry((first, second)).or_default();
             for to in roles_above(explained, typed) {

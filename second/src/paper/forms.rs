@@ -42,7 +42,7 @@ pub fn form(block: &str, input: &[u8], explained: &Explanation, words: &Words) -
         "rounds" => rounds::rounds_form(),
         "walks" => asks::walks_form(explained),
         "below" => asks::below_form(explained),
-        "behind" => asks::path_form(),
+        "behind" => asks::path_form(explained),
         "answers" => asks::answers_form(explained),
         _ => return None,
     })

@@ -96,9 +96,10 @@ pub fn people_form(explained: &Explanation) -> String {
 }
 
 pub fn why(has: &Has, words: &Words) -> String {
+    let line = has.noted.line;
     let fact = match has.source {
-        Source::Name { line } => format!("typed on line {line}"),
-        Source::Neighbour { line, role, other } => {
+        Source::Name => format!("typed on line {line}"),
+        Source::Neighbour { role, other } => {
             format!("line {line} joins it by {} to {}", words.role(role), other.0)
         }
     };

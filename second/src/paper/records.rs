@@ -5,7 +5,7 @@ use super::words::{ask, Words};
 use crate::ask::Ask;
 use crate::desk::frame::{frame, Frame};
 use crate::desk::read::lines;
-use crate::numbers::{Concept, Individual, Role};
+use crate::numbers::{Concept, Deed, Individual, Role};
 
 const RECORDS: [&str; 3] = ["Line", "As typed", "In words"];
 
@@ -60,12 +60,12 @@ fn in_words(line: &[u8], words: &Words) -> String {
         Ok(Frame::ConceptExclusion(left, right)) => format!("{} excludes {}", concept(left), concept(right)),
         Ok(Frame::RoleRule(left, right)) => format!("rule {} ≤ {}", role(left), role(right)),
         Ok(Frame::RoleExclusion(left, right)) => format!("{} excludes {}", role(left), role(right)),
-        Ok(Frame::ConceptFact { name, who }) => format!("fact {}({who})", concept(name)),
-        Ok(Frame::RoleFact { role: name, first, second }) => {
-            format!("fact {}({first}, {second})", words.role(Role::forward(name)))
+        Ok(Frame::ConceptFact { name, who, deed }) => format!("fact {}({who}){}", concept(name), by(deed)),
+        Ok(Frame::RoleFact { role: name, first, second, deed }) => {
+            format!("fact {}({first}, {second}){}", words.role(Role::forward(name)), by(deed))
         }
-        Ok(Frame::RoleStep { from, role: by, to }) => {
-            format!("step {} from state {from} to state {to}", role(by))
+        Ok(Frame::RoleStep { from, role: walked, to }) => {
+            format!("step {} from state {from} to state {to}", role(walked))
         }
         Ok(Frame::TestStep { from, name, to }) => {
             format!("test {} from state {from} to state {to}", concept(name))
@@ -78,6 +78,14 @@ fn in_words(line: &[u8], words: &Words) -> String {
         Ok(Frame::Allowance(rounds)) => format!("allowance of rounds {rounds}"),
         Ok(Frame::Expression(marks)) => format!("expression {}", words.expression(&marks)),
         Err(number) => format!("faulty, number {number}"),
+    }
+}
+
+/// `, deed 4,711`; nothing where none is noted.
+fn by(deed: u16) -> String {
+    match Deed(deed) {
+        Deed::NONE_NOTED => String::new(),
+        deed => format!(", deed {deed}"),
     }
 }
 

@@ -82,8 +82,10 @@ fn depth_of_ask(explained: &Explanation, asked: &Asked) -> usize {
     }
     let walk = Ground::of(&explained.file, &explained.rounds).walk(asked.ask.first());
     let loops = walk.legs.iter().filter(|(_, (_, leg))| matches!(leg, Leg::Loop(_)));
-    let paths = loops
-        .map(|(to, (from, leg))| unfold(&explained.rounds, spot(*from), &[(spot(*to), *leg)], MOST_STEPS));
+    let paths = loops.map(|(to, (from, leg))| {
+        let Explanation { rounds, people, .. } = explained;
+        unfold(rounds, people, spot(*from), &[(spot(*to), *leg)], MOST_STEPS)
+    });
     paths.map(|path| deepest(&path)).max().unwrap_or(0).max(1)
 }
 

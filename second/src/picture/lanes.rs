@@ -4,7 +4,9 @@
 use super::edge::{label_on_line, note_box, note_size, travel_label};
 use super::scene::{Scene, Travel};
 use super::shapes::{Font, Shape, Style, Towards, LINE, RING};
+use crate::collection::RoleFact;
 use crate::element::Element;
+use crate::explain::noted::{role_facts, Noted};
 use crate::numbers::Individual;
 
 /// What runs in a lane.
@@ -67,7 +69,7 @@ impl Scene<'_> {
     pub fn lanes(&self) -> Vec<Lane<'_>> {
         let file = &self.explained.file;
         let mut lanes = Vec::new();
-        for (&(role, first, second), line) in file.collection.role_facts.iter().zip(&file.lines.role_facts) {
+        for (RoleFact { role, first, second, .. }, Noted { line, .. }) in role_facts(file) {
             let label = format!("{} (line {line})", self.words.role(role));
             lanes.push(Lane { from: first.at(), to: second.at(), kind: Kind::Fact(label) });
         }

@@ -107,7 +107,7 @@ fn caption(scene: &Scene, trees: &[Node]) -> Vec<String> {
     let explained = scene.explained;
     let unnamed = trees.iter().any(|tree| !tree.children.is_empty());
     let edges = unnamed || !explained.file.collection.role_facts.is_empty();
-    let alone = explained.file.collection.role_facts.iter().any(|(_, first, second)| first == second);
+    let alone = explained.file.collection.role_facts.iter().any(|fact| fact.first == fact.second);
     let no = explained
         .asks
         .iter()

@@ -77,15 +77,16 @@ fn unnamed(spots: &[Spot]) -> String {
 
 fn path(path: &Path) -> String {
     let mut text = String::new();
-    for Stand { by, element, state } in &path.stands {
+    for Stand { by, element, state, rests_on } in &path.stands {
         let how = match by {
             None => String::new(),
-            Some(Move::Fact { step, line }) => format!("  by {step} along the fact on line {line}"),
+            Some(Move::Fact { step, noted }) => format!("  by {step} along the fact on line {}", noted.line),
             Some(Move::Test { name, line }) => format!("  by the test {name}? (line {line})"),
             Some(Move::Down { step }) => format!("  down by {step}"),
             Some(Move::Up { step }) => format!("  up by {step}"),
         };
-        text += &format!("  ({element}, {state}){how}\n");
+        let fact = rests_on.map_or(String::new(), |fact| format!("; rests on {fact}"));
+        text += &format!("  ({element}, {state}){how}{fact}\n");
     }
     if path.more > 0 {
         let many = if path.more == u128::MAX { "very many".to_string() } else { path.more.to_string() };

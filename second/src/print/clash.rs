@@ -11,7 +11,9 @@ pub fn clash(clash: &Clash) -> String {
             let [left, right] = [&sides[0], &sides[1]].map(concept_of);
             text += &format!("  {element} has {left} and {right}, which line {} excludes.\n", clash.line);
             text += &row(clash);
-            sides.iter().for_each(|side| text += &concept_side(&element.to_string(), side));
+            for (side, fact) in sides.iter().zip(clash.rests_on()) {
+                text += &format!("  {}; rests on {fact}\n", concept_side(&element.to_string(), side));
+            }
         }
         What::OnPair { first, second, sides } => {
             let [left, right] = [sides[0].to, sides[1].to];
@@ -20,7 +22,9 @@ pub fn clash(clash: &Clash) -> String {
                 clash.line
             );
             text += &row(clash);
-            sides.iter().for_each(|side| text += &role_side(side, first == second));
+            for (side, fact) in sides.iter().zip(clash.rests_on()) {
+                text += &format!("  {}; rests on {fact}\n", role_side(side, first == second));
+            }
         }
     }
     text
@@ -35,21 +39,22 @@ fn concept_of(side: &ConceptSide) -> Concept {
 
 fn concept_side(element: &str, side: &ConceptSide) -> String {
     match side {
-        ConceptSide::Named(has) => format!("  {element} has {}: {}\n", has.concept, names::has(has)),
+        ConceptSide::Named(has) => format!("{element} has {}: {}", has.concept, names::has(has)),
         ConceptSide::Unnamed { from, to, chain } => {
             let ends = "the last role of its row gives it ".to_string() + &from.to_string();
-            format!("  {element} has {to}: {}\n", names::then_rules(ends, *from, chain))
+            format!("{element} has {to}: {}", names::then_rules(ends, *from, chain))
         }
     }
 }
 
 fn role_side(side: &RoleSide, alone: bool) -> String {
-    let made = match side.fact_line {
+    let line = side.fact.map(|noted| noted.line);
+    let made = match line {
         Some(line) if alone => format!("line {line} joins it to itself by {}", side.from),
         Some(line) => format!("line {line} joins them by {}", side.from),
         None => format!("they are parent and child, joined by {}", side.from),
     };
-    format!("  they have {}: {}\n", side.to, names::then_rules(made, side.from, &side.chain))
+    format!("they have {}: {}", side.to, names::then_rules(made, side.from, &side.chain))
 }
 
 /// Why the unnamed element belongs to the model, role by role.

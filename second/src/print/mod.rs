@@ -24,8 +24,9 @@ const NOTATION: &str = "NOTATION
   r0 then A0?     an expression: a role step, then a test. Of \"then\", \"or\" and \"any number of times\" the last
                   holds tightest and \"or\" loosest. State k is the k-th role or test written.
   line 5          the line of the file where the record stands
+  deed 7, line 5  the deed number of a typed fact, and its line; none noted: it is 0, or left out
 Of several reasons for one thing only one is shown: the shortest chain of rules, and for a mark the first of
-the three rules of a round that adds it.
+the three rules of a round that adds it; of facts that give the same, one with a deed number.
 ";
 
 /// A faulty file: its 8F line and the same in words.

@@ -2,9 +2,10 @@
 
 use crate::element::Element;
 use crate::explain::chain::{Link, Rule};
+use crate::explain::noted::Noted;
 use crate::explain::people::{Has, Source};
 use crate::explain::rounds::Carried;
-use crate::numbers::{Concept, Individual, Role, State};
+use crate::numbers::{Concept, Deed, Individual, Role, State};
 use crate::sheet::Mark;
 use std::fmt::{Display, Formatter, Result};
 
@@ -54,6 +55,23 @@ impl Display for Carried {
     }
 }
 
+/// `deed 4,711, line 12`, `deed none noted, line 12`: where a typed fact can be looked up.
+impl Display for Noted {
+    fn fmt(&self, f: &mut Formatter) -> Result {
+        write!(f, "deed {}, line {}", self.deed, self.line)
+    }
+}
+
+impl Display for Deed {
+    fn fmt(&self, f: &mut Formatter) -> Result {
+        match (self.0 / 1_000, self.0 % 1_000) {
+            (0, 0) => write!(f, "none noted"),
+            (0, below) => write!(f, "{below}"),
+            (thousands, below) => write!(f, "{thousands},{below:03}"),
+        }
+    }
+}
+
 /// `A0 ≤ ∃r0 (line 2) ≤ A1 (line 3)`; the bare beginning where the chain is empty.
 pub fn chain<T: Display>(from: T, links: &[Link<T>]) -> String {
     let mut text = from.to_string();
@@ -89,9 +107,10 @@ pub fn rounds(count: usize) -> String {
 
 /// Why an individual has a concept: the fact, then the rules.
 pub fn has(has: &Has) -> String {
+    let line = has.noted.line;
     let fact = match has.source {
-        Source::Name { line } => format!("typed on line {line}"),
-        Source::Neighbour { line, role, other } => format!("line {line} joins it by {role} to {other}"),
+        Source::Name => format!("typed on line {line}"),
+        Source::Neighbour { role, other } => format!("line {line} joins it by {role} to {other}"),
     };
     then_rules(fact, has.from, &has.chain)
 }

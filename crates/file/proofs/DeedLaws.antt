@@ -1,0 +1,87 @@
+-- Two inputs whose lines differ only in the deed numbers of their facts write the same text.
+use Rattle.std.specs.Prelude.{ℕ, zero, suc, ◌+◌, ◌≡◌, refl, ◌↔◌, List, [], length}
+use Rattle.std.proofs.Common.{subst}
+use Rattle.meaning.specs.Lent.{Call}
+use Rattle.meaning.specs.Deeds.{lent_with}
+use Rattle.meaning.proofs.DeedLaws.{one-collection, deeds-decide-nothing}
+use Rattle.expression.specs.Listed.{Listed}
+use Rattle.frames.specs.declared.Frame.{Frame}
+use Rattle.streams.specs.Lines.{lines}
+use Rattle.reading.specs.declared.Refusal.{Refusal}
+use Rattle.reading.specs.Refusal.{refusal_number}
+use Rattle.reading.specs.Tables.{asks, entries}
+use Rattle.reading.specs.File.{tables_of, asked}
+use Rattle.reading.specs.Reading.{Verdict, faulty, sound, Reading}
+use Rattle.reading.specs.Deeds.{SameButDeed, same, concept, role, SameLine, same-line, same-facts, InStep, ended, next, SameVerdict, both-faulty, both-sound}
+use Rattle.reading.proofs.DeedLaws.{Alike, alike-length, entries-same, table-same, declared-same, allowance-same, question-same, tables-alike, reads-without-deeds}
+use Rattle.file.specs.Text.{fault_line}
+use Rattle.file.specs.Writes.{Answers, Answered, collection_read, FileRounds, Writes, fault, answers}
+
+-- it works both ways
+frame_turned : {f g : Frame} → SameButDeed f g → SameButDeed g f
+frame_turned (same f) = same f
+frame_turned (concept A a n m) = concept A a m n
+frame_turned (role r a b n m) = role r a b m n
+
+line-turned : {l m : List ℕ} → SameLine l m → SameLine m l
+line-turned (same-line l) = same-line l
+line-turned (same-facts x y d) = same-facts y x (frame_turned d)
+
+lines-turned : {ls ms : List (List ℕ)} → InStep SameLine ls ms → InStep SameLine ms ls
+lines-turned ended = ended
+lines-turned (next a s) = next (line-turned a) (lines-turned s)
+
+module _ {fs gs : List Frame} (s : Alike fs gs) (q : Listed) where
+  -- ask k is the same call but for deed numbers
+  asked-same : (k : ℕ) → lent_with (asked fs q k) (tables_of gs q) ≡ asked gs q k
+  asked-same k = rw (declared-same s, allowance-same s, table-same asks tt s) refl
+
+  answer-same : (k : ℕ) (x : List ℕ) → Answers (asked fs q k) x → Answers (asked gs q k) x
+  answer-same k x a =
+      let o = (deeds-decide-nothing (asked fs q k) (tables_of gs q) (tables-alike s q) a.answer a.outcome.0 a.outcome.1).0 a.outcome.2 in
+      subst (λ (c : Call). Answers c x) (asked-same k)
+      (record { answer = a.answer; outcome = (a.outcome.0, a.outcome.1, o); written = a.written })
+
+  answered-same : (n : ℕ) (out : List ℕ) → Answered (asked fs q) n out → Answered (asked gs q) n out
+  unfolding Answered
+  answered-same zero out e = e
+  answered-same (suc n) out (x, y, a, b, e) = (x, y, answered-same n x a, answer-same n y b, e)
+
+  -- what they mean is the same collection
+  read-same : collection_read fs q ≡ collection_read gs q
+  read-same = rw (declared-same s) (one-collection _ _ _ (tables-alike s q))
+
+  rounds-same : (counts : List ℕ) → FileRounds fs q counts → FileRounds gs q counts
+  rounds-same counts t = rw (read-same, allowance-same s, entries-same asks s) at t
+
+-- the text of the one is that of the other
+module _ (input other : List ℕ) (s : InStep SameLine (lines input) (lines other)) where
+  fault-same : {v w : Verdict} → SameVerdict v w → Reading [] (lines other) w → (before : List Frame) (r : Refusal) → v ≡ faulty before r
+      → Writes other (fault_line (length before + 1) (refusal_number r))
+  fault-same (both-faulty {fs = fs} {gs = gs} p d) h before r e =
+      let i : fs ≡ before = cc in
+      let j : p ≡ r = cc in
+      subst (λ (l : List ℕ). Writes other l) (rw (← i, ← j, alike-length d) refl) (fault gs p h)
+  fault-same (both-sound d) h before r e = absurd cc
+
+  sound-same : {v w : Verdict} → SameVerdict v w → Reading [] (lines other) w → (fs : List Frame) → v ≡ sound fs
+      → (gs : List Frame) × Alike fs gs × Reading [] (lines other) (sound gs)
+  sound-same (both-sound {fs = fs} {gs = gs} d) h ks e =
+      let i : fs ≡ ks = cc in
+      (gs, rw i at d, h)
+  sound-same (both-faulty p d) h ks e = absurd cc
+
+  writes-same : {x : List ℕ} → Writes input x → Writes other x
+  writes-same (fault before r h) =
+      let w = reads-without-deeds (lines input) (lines other) s (faulty before r) h in
+      fault-same w.1 w.2 before r refl
+  writes-same (answers fs q counts out h t a) =
+      let w = reads-without-deeds (lines input) (lines other) s (sound fs) h.sound in
+      let v = sound-same w.1 w.2 fs refl in
+      let d = v.1 in
+      answers v.0 q counts out (record { sound = v.2; question = question-same d q h.question }) (rounds-same d q counts t)
+      (rw (entries-same asks d) at (answered-same d q (entries asks fs) out a))
+
+-- THEOREM: what is written does not depend on deed numbers
+pub writes-without-deeds : (input other : List ℕ) → InStep SameLine (lines input) (lines other) → (text : List ℕ) → Writes input text ↔ Writes other text
+writes-without-deeds input other s text = (writes-same input other s, writes-same other input (lines-turned s))
