@@ -94,6 +94,17 @@ impl Counts {
         (number < u16::from(self.states)).then_some(State(number as u8))
     }
 
+    /// "Concepts", as a count (docs/RULES.md, section 2).
+    pub fn concepts(&self) -> u16 {
+        u16::from(self.names) + 2 * u16::from(self.roles)
+    }
+
+    /// The rounds needed are never more; at most 30,720.
+    pub fn most_rounds(&self) -> u16 {
+        let states = u16::from(self.states);
+        self.concepts() * states * (states - 1)
+    }
+
     pub fn all_roles(&self) -> impl Iterator<Item = Role> {
         (0..2 * self.roles).map(Role)
     }

@@ -96,6 +96,14 @@ fn a_spent_allowance() {
 }
 
 #[test]
+fn where_the_allowance_comes_from() {
+    says(&explained(&format!("{B} 0C0002 0B0000")), &["Rounds needed: 2. Allowance: 2 (given)."]);
+    let most = "Allowance: 72 (none is given: 6 concepts × 4 states × 3).";
+    says(&explained(&format!("{B} 0B0000")), &[most]);
+    says(&explained("010101010100 0B0000"), &["Allowance: 0 (none is given: 3 concepts × 1 states × 0)."]);
+}
+
+#[test]
 fn a_long_path_is_cut() {
     // Down 15 times and up 15 times: 30 steps, of which 10 are to be shown.
     let mut words = String::from("010101011000 020040 024140 060000 0A0F 080F010F");

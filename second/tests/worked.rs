@@ -2,6 +2,7 @@
 
 use second::area::{holding, standing, AREA};
 use second::ask::Ask;
+use second::collection::Counts;
 use second::desk::{desk, read::read};
 use second::library::{ask, ask_from, marks, Call};
 use second::model::{self, known::Known, letter, Answer, Model};
@@ -139,6 +140,25 @@ fn case_3_allowance_1() {
     agree(&format!("{B} 0C0001"), (0, 0), (3, 1), &[2]);
     agree(&format!("{B} 0C0000"), (0, 0), (3, 0), &[]);
     agree(&format!("{B} 0C0002"), (0, 0), (1, 2), &[2, 2]);
+}
+
+#[test]
+fn without_a_given_allowance_the_most_rounds_are_allowed() {
+    let most = |counts: [u16; 5]| {
+        let [names, roles, individuals, states, start] = counts;
+        Counts::new(names, roles, individuals, states, start).expect("counts in range").most_rounds()
+    };
+    assert_eq!(most([64, 32, 255, 16, 15]), 30_720);
+    assert_eq!(most([2, 2, 2, 4, 0]), 72);
+    // One state, or no concept at all.
+    assert_eq!(most([64, 32, 255, 1, 0]), 0);
+    assert_eq!(most([0, 0, 255, 16, 0]), 0);
+    let allowed =
+        |words: &str| read(&lines(words)).unwrap_or_else(|_| panic!("{words} is sound")).allowance();
+    assert_eq!(allowed(B), 72);
+    assert_eq!(allowed(&format!("{B} 0C0000")), 0);
+    assert_eq!(allowed(&format!("{B} 0C0040")), 64);
+    assert_eq!(allowed(&format!("{B} 0CFFFF")), 65_535);
 }
 
 #[test]

@@ -13,8 +13,8 @@ const YES: u8 = 1;
 const CONTRADICTION: u8 = 2;
 const SPENT: u8 = 3;
 
-/// The allowance where the file has no frame 0C.
-const ALLOWANCE: u16 = 64;
+/// Room for the lines of so many rounds is made at once.
+const ROUNDS: usize = 64;
 
 /// The answer is the same for all asks, or is to be looked up in the walk.
 enum Outcome {
@@ -38,7 +38,7 @@ pub fn desk(input: Vec<u8>) -> Vec<u8> {
     if file.asks.is_empty() {
         return Vec::new();
     }
-    let mut output = Vec::with_capacity(13 * file.asks.len() + 11 * usize::from(ALLOWANCE));
+    let mut output = Vec::with_capacity(13 * file.asks.len() + 11 * ROUNDS);
     match outcome(&file, &mut output) {
         Outcome::Same(number, count) => {
             for &ask in &file.asks {
@@ -76,7 +76,7 @@ fn outcome(file: &File, output: &mut Vec<u8>) -> Outcome {
         let ([high, low], [more, less]) = (round.to_be_bytes(), added.to_be_bytes());
         output.extend_from_slice(&line::<5, 11>([0x8A, high, low, more, less]));
     };
-    let sheet = close(file, &orders, &along, file.allowance.unwrap_or(ALLOWANCE), told);
+    let sheet = close(file, &orders, &along, file.allowance(), told);
     if sheet.spent {
         return Outcome::Same(SPENT, sheet.rounds);
     }
@@ -123,8 +123,7 @@ pub fn marks(input: Vec<u8>) -> Option<usize> {
     read(input, &mut file).ok()?;
     let orders = Orders::of(&file);
     individuals(&file, &orders, &Excluded::of(&file, &orders))?;
-    let allowance = file.allowance.unwrap_or(ALLOWANCE);
-    let sheet = close(&file, &orders, &along(&file, &orders), allowance, |_, _| ());
+    let sheet = close(&file, &orders, &along(&file, &orders), file.allowance(), |_, _| ());
     let concepts = Places(crate::order::all_concepts(&file));
     let rows = concepts.flat_map(|concept| sheet.of_concept(&orders, concept).0);
     Some(rows.map(|row| row.count_ones() as usize).sum())

@@ -17,6 +17,7 @@ pub fn make(kind: &str, size: Option<usize>) -> Option<Vec<u8>> {
     match (kind, size) {
         ("least", None) => return Some(b"010000000100\n".to_vec()),
         ("chain", None) => return Some(chain()),
+        ("laps", None) => return Some(laps()),
         _ => {}
     }
     let sizes = match (kind, size) {
@@ -339,14 +340,74 @@ fn chain() -> Vec<u8> {
         draft.put(8, vec![8, DOWN + state, 2 * RING + 1, DOWN + (state + 1) % UP]);
     }
     draft.put(10, vec![10, DOWN]);
+    draft.put(12, vec![12, 0xFF, 0xFF]);
+    filled(draft, RING)
+}
+
+/// With facts on the first roles in four groups of individuals, harmless exclusions, 256 asks and every table full.
+fn filled(mut draft: Draft, roles: u8) -> Vec<u8> {
     draft.throw(6, 1_024, |dice| Some(vec![6, dice.below(64) as u8, dice.below(255) as u8]));
     draft.throw(7, 4_096, |dice| {
-        let [role, first, second] = [usize::from(RING), 255, 255].map(|end| dice.below(end));
+        let [role, first, second] = [usize::from(roles), 255, 255].map(|end| dice.below(end));
         (first != second && first % 4 == second % 4).then(|| vec![7, role as u8, first as u8, second as u8])
     });
     draft.throw_exclusions(512, 128);
     throw_asks(&mut draft, 256);
-    draft.put(12, vec![12, 0xFF, 0xFF]);
     draft.fill();
     draft.text()
 }
+
+/// The most rounds that we could make a file need. The children by a ring of roles promise one another, and under one
+/// wider role every state goes straight down and straight up: a mark (t, u) goes round the ring, one child a round. One
+/// role of the ring turns the states in cycles instead, so that the mark comes back as the next of its orbit: that is a
+/// lap. Two bridges start an orbit where another is through: their children have the same marks below them as the ring,
+/// and lead a few of these to another place. All marks of all orbits come, and as good as each lap adds one.
+fn laps() -> Vec<u8> {
+    const RING: u8 = 31 - BRIDGES.len() as u8;
+    const STRAIGHT: u8 = 31;
+    let mut draft = Draft::new([64, 32, 255, 16, 0]);
+    // The neighbour by the role itself and by its inverse.
+    let (down, up) = (|role: u8| 64 + 2 * role, |role: u8| 65 + 2 * role);
+    for role in 0..RING {
+        draft.put(2, vec![2, up(role), down((role + 1) % RING)]);
+        if role > 0 {
+            draft.put(4, vec![4, 2 * role, 2 * STRAIGHT]);
+        }
+    }
+    for (first, length) in CYCLES {
+        for place in 0..length {
+            let (state, next) = (first + place, first + (place + 1) % length);
+            draft.put(8, vec![8, state, 2 * STRAIGHT, state]);
+            draft.put(8, vec![8, state, 2 * STRAIGHT + 1, state]);
+            draft.put(8, vec![8, state, 0, next]);
+            draft.put(8, vec![8, next, 1, state]);
+        }
+    }
+    for (role, bridge) in (RING..).zip(BRIDGES) {
+        draft.put(2, vec![2, up(role), down(0)]);
+        draft.put(2, vec![2, up(RING - 1), down(role)]);
+        for &(from, to) in bridge.down {
+            draft.put(8, vec![8, from, 2 * role, to]);
+        }
+        for &(from, to) in bridge.up {
+            draft.put(8, vec![8, from, 2 * role + 1, to]);
+        }
+    }
+    draft.put(10, vec![10, 15]);
+    filled(draft, RING)
+}
+
+/// Where each cycle of states begins, and how long it is.
+const CYCLES: [(u8, u8); 4] = [(0, 3), (3, 4), (7, 4), (11, 5)];
+
+/// The steps of a bridge, each from a state to a state: with (s, t) down and (u, v) up the mark (t, u) leads to (s, v).
+struct Bridge {
+    down: &'static [(u8, u8)],
+    up: &'static [(u8, u8)],
+}
+
+/// Found by trying.
+const BRIDGES: [Bridge; 2] = [
+    Bridge { down: &[(3, 3), (7, 7), (14, 14)], up: &[(0, 9), (5, 0), (9, 11)] },
+    Bridge { down: &[(1, 9), (5, 7), (7, 8), (8, 10), (9, 5), (9, 14), (14, 1)], up: &[(5, 5), (12, 4)] },
+];

@@ -49,7 +49,7 @@ pub struct File {
     pub finals: u16,
     /// Two individuals, or one and `ANY`.
     pub asks: Vec<(u8, u8)>,
-    pub allowance: Option<u16>,
+    allowance: Option<u16>,
     /// Whether there is any exclusion of roles.
     pub excludes_roles: bool,
 }
@@ -77,6 +77,13 @@ impl File {
             allowance: None,
             excludes_roles: false,
         }
+    }
+
+    /// Without a frame 0C as many rounds as can be needed: concepts × states × (states − 1).
+    pub fn allowance(&self) -> u16 {
+        let states = u16::from(self.states);
+        let most = (u16::from(self.names) + u16::from(self.signed)) * states * (states - 1);
+        self.allowance.unwrap_or(most)
     }
 
     #[inline(always)]

@@ -53,6 +53,16 @@ fn the_chain_needs_1954_rounds() {
 }
 
 #[test]
+fn the_laps_need_3271_rounds_without_a_given_allowance() {
+    let (numbers, rounds) = answers("laps", None);
+    assert_eq!((numbers.len(), rounds), (2, 3_271));
+    assert!(numbers.keys().all(|number| number == "00" || number == "01"), "{numbers:?}");
+    assert_eq!(numbers.values().sum::<usize>(), 256);
+    // Every table at its most, 256 asks and line 1; no allowance, which is 128 × 16 × 15.
+    assert_eq!(lines("laps"), 7_185);
+}
+
+#[test]
 fn the_series_are_answered_and_end_where_a_table_ends() {
     for (kind, least, most) in [("facts", 0, 4_096), ("rules", 0, 512), ("states", 1, 16), ("asks", 1, 256)] {
         for size in [least, most / 2, most] {

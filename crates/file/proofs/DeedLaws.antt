@@ -52,7 +52,7 @@ module _ {fs gs : List Frame} (s : Alike fs gs) (q : Listed) where
   read-same = rw (declared-same s) (one-collection _ _ _ (tables-alike s q))
 
   rounds-same : (counts : List ℕ) → FileRounds fs q counts → FileRounds gs q counts
-  rounds-same counts t = rw (read-same, allowance-same s, entries-same asks s) at t
+  rounds-same counts t = rw (read-same, allowance-same s, declared-same s, entries-same asks s) at t
 
 -- the text of the one is that of the other
 module _ (input other : List ℕ) (s : InStep SameLine (lines input) (lines other)) where

@@ -5,6 +5,7 @@ pub mod Listed
 pub mod Lined
 pub mod Told
 pub mod Demanded
+pub mod Default
 -- Laws that the functions' proofs cite.
 pub mod Spelling
 pub mod Asks

@@ -1,7 +1,7 @@
 -- The lines of rounds: how long they are; and the counts that are told are one row, of no more rounds than there may be.
-use Rattle.std.specs.Prelude.{ℕ, suc, ◌+◌, ◌*◌, ◌-◌, ◌<◌, ◌≤◌, ◌≡◌, ◌⊎◌, refl, List, [], ◌∷◌, ◌++◌, length, min}
+use Rattle.std.specs.Prelude.{ℕ, suc, ◌+◌, ◌*◌, ◌<◌, ◌≤◌, ◌≡◌, ◌⊎◌, refl, List, [], ◌∷◌, ◌++◌, length, min}
 use Rattle.std.proofs.Common.{sym, ap, ◌∙◌, subst, append_assoc, append-nil, length-append, ⊎_elim, arith}
-use Rattle.std.proofs.Math.Nat.{min-le_left, mul-le-mul}
+use Rattle.std.proofs.Math.Nat.{min-le_left}
 use Rattle.laws.specs.Rounds.{least-once}
 use Rattle.meaning.specs.Collection.{Collection, WellFormed}
 use Rattle.meaning.specs.Model.{Contradiction}
@@ -9,6 +9,7 @@ use Rattle.meaning.specs.Sheet.{Needed, Unchanged}
 use Rattle.meaning.specs.Lite.{lite}
 use Rattle.meaning.specs.Marks.{RoundCounts}
 use Rattle.meaning.proofs.MarksLaws.{round-counts-once}
+use Rattle.meaning.proofs.Demands.{most-rounds}
 use Rattle.meaning.proofs.LiteMarks.{lite-most}
 use Rattle.file.specs.Text.{text, round_line}
 use Rattle.file.specs.Rounds.{round_lines, RoundsTold, no-ask, contradiction, rounds}
@@ -78,7 +79,4 @@ module _ {𝓒 : Collection} {allowance asks : ℕ} where
         by (rounds {n = n} {counts = x} p sane need c) =
             let ok = fine p in
             let most = lite-most 𝓒 ok n need (min n allowance) (min-le_left n allowance) x c in
-            let concepts : 𝓒.counts.names + 2 * 𝓒.counts.roles ≤ 128 = omega (arith, ok.counts.names, ok.counts.roles) in
-            let states : 𝓒.counts.states - 1 ≤ 15 = omega (arith, ok.counts.states) in
-            let bound = mul-le-mul (mul-le-mul concepts ok.counts.states) states in
-            omega (arith, most, bound)
+            omega (arith, most, most-rounds 𝓒.counts ok.counts)

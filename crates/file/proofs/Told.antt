@@ -142,7 +142,7 @@ module _ {input text : List ℕ} (w : Writes input text) where
     pub lines-are : Answered (asked fs q) (entries asks fs) out
     pub whole : x ≡ round_lines 0 counts ++ out
 
-  question-of : (fs : List Frame) → IsSound input fs → (q : Listed) × IsAsking input fs q × IsAnswered fs q text
+  pub question-of : (fs : List Frame) → IsSound input fs → (q : Listed) × IsAsking input fs q × IsAnswered fs q text
   question-of fs s = by w
     where
       by : {x : List ℕ} → Writes input x → (q : Listed) × IsAsking input fs q × IsAnswered fs q x

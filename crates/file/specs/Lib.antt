@@ -6,3 +6,4 @@ pub mod Replying
 pub mod Told
 pub mod Demands
 pub mod Laws
+pub mod Default

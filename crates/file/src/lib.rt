@@ -2,7 +2,7 @@
 // and an answer for each ask.
 #![tactic(auto)]
 
-ghost use Rattle.std.specs.Prelude.{◌≡◌, ◌+◌, ◌*◌, ◌<◌, ◌≤◌, ℕ, List, Some, Err, IfSome, IsOk, IsTrue, OnOk, length, drop, take};
+ghost use Rattle.std.specs.Prelude.{◌≡◌, ◌≢◌, ◌+◌, ◌*◌, ◌<◌, ◌≤◌, ℕ, List, Some, None, Err, IfSome, IsOk, IsTrue, OnOk, length, drop, take};
 ghost use Rattle.std.specs.Io.KnownBytes.{Keeps, Appends};
 ghost use Rattle.std.specs.declared.io.Error.{Error};
 ghost use Rattle.streams.specs.Takes.{TakesStart};
@@ -15,7 +15,7 @@ ghost use Rattle.expression.specs.Listed.{Listed};
 ghost use Rattle.frames.specs.declared.Frame.{Frame};
 ghost use Rattle.reading.specs.declared.Refusal.{Refusal};
 ghost use Rattle.reading.specs.Laws.{IsListed};
-ghost use Rattle.reading.specs.Tables.{asks, entries, table};
+ghost use Rattle.reading.specs.Tables.{asks, entries, table, allowance_given};
 
 use kinds::{ConceptName, SignedRole, State};
 use reading::{ASKS, File, read};
@@ -44,7 +44,8 @@ pub fn answer(input: &[u8], text: &mut [u8; MOST_TEXT]) -> usize
     ensures written { Writes input.now (take result text.new) }
     ensures rest { drop result text.new ≡ drop result text.old }
 
-    // The input writes no other text. A line has its number: of an answer 0, 1, 2 or 3, of a fault one of 4 to 14, but never 7.
+    // The input writes no other text. A line has its number: of an answer 0, 1, 2 or 3, but 3 only where the file gives an
+    // allowance; of a fault one of 4 to 14, but never 7.
     ensures only { (out : List ℕ) → Writes input.now out → out ≡ take result text.new }
     ensures long { (fs : List Frame) (q : Listed) → IsAsking input.now fs q
         → (counts : List ℕ) → FileRounds fs q counts
@@ -56,6 +57,9 @@ pub fn answer(input: &[u8], text: &mut [u8; MOST_TEXT]) -> usize
     ensures listed { (fs : List Frame) → IsSound input.now fs
         → (k : ℕ) → k < entries asks fs
         → number_on (line_at (entries asks fs) (take result text.new) k) ≤ 3 }
+    ensures unspent { (fs : List Frame) → IsSound input.now fs → allowance_given fs ≡ None
+        → (k : ℕ) → k < entries asks fs
+        → number_on (line_at (entries asks fs) (take result text.new) k) ≢ 3 }
     ensures fault { (before : List Frame) (r : Refusal) → IsFaulty input.now before r
         → IsListed (number_on (take result text.new)) }
 {

@@ -3,6 +3,7 @@ ghost use Rattle.file.specs.Laws.{WritesOnce, TextFits, StartWrites, WrittenOnce
 ghost use Rattle.file.specs.Laws.{WritesWithoutDeeds};
 ghost use Rattle.file.specs.Laws.{AsksAnswered, RoundsAreTold, NoRoundTold, FaultTold, FaultsNear};
 ghost use Rattle.file.specs.Demands.{LinesSayAsModel, LinesSayOfExpression, LinesGrow, LinesReturn, RoundsSuffice};
+ghost use Rattle.file.specs.Default.{DefaultSuffices, NeverSpent, DefaultSaysAsModel, DefaultTellsAll};
 
 // One text, within its room; a start of the input decides it, and no deed number does.
 pub fn text()
@@ -30,4 +31,12 @@ pub fn demands()
     ensures grows { LinesGrow }
     ensures returns { LinesReturn }
     ensures enough { RoundsSuffice }
+{}
+
+// Of a file that gives no allowance: as many rounds as always suffice are allowed, and none of its lines has number 3.
+pub fn default()
+    ensures suffices { DefaultSuffices }
+    ensures never_spent { NeverSpent }
+    ensures model { DefaultSaysAsModel }
+    ensures rounds { DefaultTellsAll }
 {}

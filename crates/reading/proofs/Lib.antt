@@ -12,3 +12,4 @@ pub mod Accepted
 pub mod Prefix
 pub mod Listed
 pub mod DeedLaws
+pub mod Allowance

@@ -3,6 +3,7 @@
 use Rattle.std.specs.Prelude.{ℕ, ◌+◌, ◌*◌, ◌^◌, ◌<◌, ◌≤◌, ◌≡◌, List, [], ◌∷◌, ◌++◌, Option, None, Some, IfSome, ⊤, length, unwrap_or}
 use Rattle.kinds.specs.Kinds.{number_of}
 use Rattle.meaning.specs.Lent.{Tables, Call}
+use Rattle.meaning.specs.Demands.{most_rounds}
 use Rattle.meaning.specs.Layout.{zeros}
 use Rattle.kinds.specs.declared.Ask as kinds
 use Rattle.tables.specs.Asks.{read_ask}
@@ -11,7 +12,7 @@ use Rattle.expression.specs.Answer.{IsAutomatonOf}
 use Rattle.frames.specs.declared.Frame.{Frame}
 use Rattle.frames.specs.declared.Frame.TheVariants.{Declared, ConceptRule, ConceptExclusion, RoleRule, RoleExclusion, ConceptFact, RoleFact, RoleStep, TestStep, Final, Ask, AskFrom, Allowance, Expression}
 use Rattle.reading.specs.declared.File.{File}
-use Rattle.reading.specs.Tables.{Kind, concept_rules, concept_exclusions, role_rules, role_exclusions, concept_facts, role_facts, steps, finals, asks, width, most, table, declared_by, allowance_given, expression_given, usual_allowance, rounds_allowed}
+use Rattle.reading.specs.Tables.{Kind, concept_rules, concept_exclusions, role_rules, role_exclusions, concept_facts, role_facts, steps, finals, asks, width, most, table, declared_by, allowance_given, expression_given, rounds_allowed}
 
 -- the question of some frames, by their expression if there is one, and by the steps and final
 -- states that they type: of an expression, those of its automaton
@@ -91,9 +92,9 @@ lent_tables file q = record {
   finals = q.finals;
 }
 
--- the allowance, and where none is given the usual one
+-- the allowance, and where none is given as many rounds as always suffice
 abbrev pub allowance_in : File → ℕ
-allowance_in file = unwrap_or file.allowance usual_allowance
+allowance_in file = unwrap_or file.allowance (most_rounds file.counts)
 
 -- ask k of what is held, and its call of the library
 abbrev pub held_ask : File → ℕ → kinds.Ask

@@ -4,6 +4,7 @@ use Rattle.std.specs.Prelude.{ℕ, List, [], ◌∷◌, Option, None, Some, unwr
 use Rattle.std.specs.List.{flat_map}
 use Rattle.kinds.specs.declared.Counts.{Counts}
 use Rattle.kinds.specs.Kinds.{state, number_of}
+use Rattle.meaning.specs.Demands.{most_rounds}
 use Rattle.meaning.specs.Lent.{rule_width, concept_fact_width, role_fact_width, step_width, final_width, most_concept_rules, most_concept_exclusions, most_role_rules, most_role_exclusions, most_concept_facts, most_role_facts, most_steps, most_finals}
 use Rattle.tables.specs.Asks.{ask_width}
 use Rattle.frames.specs.declared.Frame.{Frame}
@@ -84,9 +85,6 @@ expression_given [] = None
 expression_given (Expression row ∷ fs) = Some row
 expression_given (f ∷ fs) = expression_given fs
 
--- the rounds that a file allows: 64 where it does not say
-abbrev pub usual_allowance : ℕ
-usual_allowance = 64
-
+-- the rounds that a file allows: where it does not say, as many as always suffice
 abbrev pub rounds_allowed : List Frame → ℕ
-rounds_allowed fs = unwrap_or (allowance_given fs) usual_allowance
+rounds_allowed fs = unwrap_or (allowance_given fs) (most_rounds (declared_by fs))

@@ -1,8 +1,9 @@
 // A file read line by line: each line's frame is refused with its number, or its record is kept in the table of its kind.
 #![tactic(auto)]
 
-ghost use Rattle.std.specs.Prelude.{◌≡◌, ◌+◌, ◌^◌, ◌<◌, [], Err, IfOk, IfErr, IfSome, OnErr};
+ghost use Rattle.std.specs.Prelude.{◌≡◌, ◌+◌, ◌-◌, ◌^◌, ◌<◌, [], Err, IfOk, IfErr, IfSome, OnErr, min};
 ghost use Rattle.kinds.specs.Kinds.{number_of};
+ghost use Rattle.meaning.specs.Demands.{most_rounds};
 ghost use Rattle.tables.specs.Lists.{lists};
 ghost use Rattle.streams.specs.Lines.{lines};
 ghost use Rattle.reading.specs.Refusal.{refusal_number, refusal_of};
@@ -28,9 +29,6 @@ pub mod theorems;
 
 // The most asks of a file.
 pub const ASKS: usize = 256;
-
-// The allowance of a file that gives none.
-pub const ALLOWANCE: Rounds = 64;
 
 // What is declared before line 1 is read.
 const NOTHING: Counts = Counts {
@@ -113,6 +111,18 @@ impl From<Misread> for Refusal {
     }
 }
 
+// Concepts × states × (states − 1) rounds, which always suffice. Of more than a file may declare, at most what 16 bits hold.
+#[tactic(auto, using(crate::proofs::Allowance::stopped))]
+fn most_rounds(counts: Counts) -> Rounds
+    ensures { result ≡ min (most_rounds counts) (2 ^ 16 - 1) }
+{
+    let concepts = counts.names.saturating_add(counts.roles.saturating_mul(2));
+    let others = counts.states.saturating_sub(1);
+    concepts
+        .saturating_mul(counts.states)
+        .saturating_mul(others)
+}
+
 fn number(c: Concept) -> u16
     requires { number_of c < 2 ^ 16 }
     ensures { result ≡ number_of c }
@@ -162,11 +172,15 @@ impl File {
         self.lines = 0;
     }
 
-    // The allowance of rounds, where none is given the usual one.
+    // The allowance of rounds; where none is given, as many as always suffice.
     pub fn allowance(&self) -> Rounds
-        ensures { result ≡ allowance_in self.now }
+        ensures held { result ≡ min (allowance_in self.now) (2 ^ 16 - 1) }
+        ensures read { IsRead self.now → result ≡ allowance_in self.now }
     {
-        self.allowance.unwrap_or(ALLOWANCE)
+        match self.allowance {
+            Some(rounds) => rounds,
+            None => most_rounds(self.counts),
+        }
     }
 
     // The automaton of the expression, where one is given: by it what was read asks its question.

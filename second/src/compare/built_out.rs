@@ -45,12 +45,17 @@ pub fn model_part(mut dice: Dice, tally: &mut Tally) -> Outcome {
             expressed(&mut dice, asked, 5)
         }
     };
-    let allowance = asked.allowance.unwrap_or(64);
+    let allowance = asked.allowance.unwrap_or(asked.collection.counts.most_rounds());
     let known = Known::of(&asked.collection);
     let Ok(said) = say(&asked, &known, allowance) else {
         tally.skipped += 1;
         return Ok(());
     };
+    if asked.allowance.is_none() && said.closed == 3 {
+        let found = format!("more rounds are needed than {allowance}");
+        let (input, expected) = (Vec::new(), "without 0C the rounds needed are always allowed".to_string());
+        return Err(Difference { input, expected, found });
+    }
     count(&said, &asked.asks, tally);
     if asked.expression.is_some() {
         tally.kind("with an expression");

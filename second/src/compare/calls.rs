@@ -95,7 +95,8 @@ pub fn pair_of(dice: &mut Dice, asked: &Asked) -> [u16; 2] {
 }
 
 pub fn call_of(dice: &mut Dice, asked: &Asked) -> Call {
-    let allowance = asked.allowance.unwrap_or(dice.pick(&[64, 65_535]));
+    let most = asked.collection.counts.most_rounds();
+    let allowance = asked.allowance.unwrap_or(dice.pick(&[most, u16::MAX]));
     Call::of(&asked.collection, allowance)
 }
 

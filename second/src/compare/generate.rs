@@ -7,10 +7,11 @@ use crate::ask::Ask;
 use crate::collection::{Collection, ConceptFact, Counts, RoleFact, Step};
 use crate::numbers::{Concept, Individual, Role, State};
 
-/// A collection with its asks and the allowance, None where the file is to have no frame 0C.
+/// A collection with its asks.
 pub struct Asked {
     pub collection: Collection,
     pub asks: Vec<Ask>,
+    /// None where the file is to have no frame 0C, so that as many rounds are allowed as can be needed.
     pub allowance: Option<u16>,
     /// The marks of a question typed as an expression; the steps and finals are then its automaton's.
     pub expression: Option<Vec<u8>>,
@@ -245,12 +246,13 @@ pub fn many_rounds(dice: &mut Dice, down: usize, up: usize, ring: usize) -> Aske
     Asked { collection, asks, allowance, expression: None }
 }
 
-/// More than a thousand rounds are needed and allowed; the allowance may be less than those needed.
+/// More than a thousand rounds are needed and allowed; an allowance that is given may be less than those needed.
 pub fn over_a_thousand(dice: &mut Dice) -> Asked {
     let (down, up) = dice.pick(&[(7, 9), (9, 7)]);
     let ring = dice.pick(&[31, 29, 17]);
     let mut asked = many_rounds(dice, down, up, ring);
-    asked.allowance = Some(dice.pick(&[1_001, 1_050, 1_500, u16::MAX]));
+    let given = [1_001, 1_050, 1_500, u16::MAX].map(Some);
+    asked.allowance = if dice.percent(70) { None } else { dice.pick(&given) };
     asked
 }
 

@@ -57,7 +57,8 @@ pub const DESK_NUMBERS: [u8; 14] = [0, 1, 2, 3, 4, 5, 6, 8, 9, 10, 11, 12, 13, 1
 /// What else a case of the desk can be: what it reads, and what it writes.
 pub fn desk_met() -> Vec<&'static str> {
     let once_more = [deeds::CHANGED, deeds::LEFT_OUT, deeds::MIXED];
-    [&[parts::SELF_DEALING], &deeds::NOTED[..], &once_more, &outputs::MET[..]].concat()
+    let of_facts = [&[parts::SELF_DEALING], &deeds::NOTED[..]].concat();
+    [&of_facts, &parts::NONE_GIVEN[..], &once_more, &outputs::MET[..]].concat()
 }
 
 /// What the library can answer a pair or one individual with.

@@ -28,6 +28,17 @@ pub const MET: [&str; 10] = [
 /// A round from this many marks on is met for itself.
 const MANY_MARKS: usize = 1_000;
 
+/// How many lines of rounds there are.
+pub fn rounds(output: &[u8]) -> usize {
+    output.split(|byte| *byte == b'\n').filter(|line| line.starts_with(b"8A")).count()
+}
+
+/// Whether the allowance was below the rounds needed; the answers of one file then all say so.
+pub fn is_spent(output: &[u8]) -> bool {
+    let text = String::from_utf8_lossy(output);
+    text.lines().any(|line| !line.starts_with("8A") && !line.starts_with("8F") && number(line) == 3)
+}
+
 /// Counts what was met in an output, once for a case.
 pub fn count(output: &[u8], tally: &mut Tally) {
     let text = String::from_utf8_lossy(output);

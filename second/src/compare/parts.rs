@@ -32,6 +32,10 @@ pub type Outcome = Result<(), Difference>;
 /// What each part must meet in collections that are answered.
 pub const SELF_DEALING: &str = "a self-dealing fact";
 
+/// And in a file without 0C, beside more rounds than a fixed allowance would do for.
+pub const NONE_GIVEN: [&str; 2] =
+    ["answers where no allowance is given", "more than 64 rounds where no allowance is given"];
+
 pub fn has_equal_ends(collection: &Collection) -> bool {
     collection.role_facts.iter().any(|fact| fact.first == fact.second)
 }
@@ -49,9 +53,9 @@ fn desk_case(dice: &mut Dice, tally: &mut Tally) -> (Vec<u8>, Option<Damaged>) {
         255..=304 => ("medium", Some(medium)),
         305..=324 => ("full", Some(full)),
         325..=328 => ("many rounds", Some(some_many_rounds)),
-        329..=374 => ("over a thousand rounds", Some(over_a_thousand)),
-        375..=419 => ("broad", Some(broad)),
-        420..=434 => ("long", None),
+        329..=394 => ("over a thousand rounds", Some(over_a_thousand)),
+        395..=439 => ("broad", Some(broad)),
+        440..=454 => ("long", None),
         _ => ("damaged", None),
     };
     tally.kind(kind);
@@ -76,15 +80,24 @@ pub fn desk_part(words: &Words, mut dice: Dice, tally: &mut Tally) -> Outcome {
     let (input, made_for) = desk_case(&mut dice, tally);
     let expected = desk(&input);
     outputs::count(&expected, tally);
-    if let Ok(file) = read(&input) {
-        let self_dealing = has_equal_ends(&file.collection).then_some(SELF_DEALING);
-        noted(&file.collection).into_iter().chain(self_dealing).for_each(|what| tally.met(what));
-    }
     let itself = |input: &[u8], expected: &[u8], found: &[u8]| Difference {
         input: input.to_vec(),
         expected: String::from_utf8_lossy(expected).into_owned(),
         found: format!("module desk itself: {}", String::from_utf8_lossy(found)),
     };
+    if let Ok(file) = read(&input) {
+        let self_dealing = has_equal_ends(&file.collection).then_some(SELF_DEALING);
+        noted(&file.collection).into_iter().chain(self_dealing).for_each(|what| tally.met(what));
+        if file.allowance.is_none() && !file.asks.is_empty() {
+            tally.met(NONE_GIVEN[0]);
+            if outputs::rounds(&expected) > 64 {
+                tally.met(NONE_GIVEN[1]);
+            }
+            if outputs::is_spent(&expected) {
+                return Err(itself(&input, b"no number 3 where no allowance is given", &expected));
+            }
+        }
+    }
     if let Some(damaged) = made_for {
         let line = format!("8F{:04X}{:02X}\n", damaged.at, damaged.number).into_bytes();
         if line != expected {

@@ -6,9 +6,6 @@ use crate::ask::Ask;
 use crate::collection::{Collection, ConceptFact, Counts, RoleFact};
 use crate::numbers::Deed;
 
-/// The allowance where the file has no frame 0C.
-pub const ALLOWANCE_WHEN_ABSENT: u16 = 64;
-
 /// Of both kinds together.
 const MOST_ASKS: usize = 256;
 
@@ -44,8 +41,9 @@ pub struct Fault {
 }
 
 impl File {
+    /// Without a frame 0C as many rounds as can be needed.
     pub fn allowance(&self) -> u16 {
-        self.allowance.unwrap_or(ALLOWANCE_WHEN_ABSENT)
+        self.allowance.unwrap_or(self.collection.counts.most_rounds())
     }
 }
 

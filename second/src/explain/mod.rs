@@ -66,6 +66,19 @@ impl Explanation {
         })
     }
 
+    /// `1 (given)`, or `72 (none is given: 6 concepts × 4 states × 3)`.
+    pub fn allowance(&self) -> String {
+        let (allowance, counts) = (self.file.allowance(), &self.file.collection.counts);
+        match self.file.allowance {
+            Some(_) => format!("{allowance} (given)"),
+            None => {
+                let (concepts, states) = (counts.concepts(), counts.states);
+                let most = format!("{concepts} concepts × {states} states × {}", states - 1);
+                format!("{allowance} (none is given: {most})")
+            }
+        }
+    }
+
     pub fn of(input: &[u8], most_steps: usize) -> Result<Explanation, Faulty> {
         let file = read(input).map_err(|fault| Faulty::of(input, fault))?;
         let chains = Chains::of(&file);

@@ -122,14 +122,15 @@ pub fn rounds_form() -> String {
 /// Why no further round is worked.
 fn ending(explained: &Explanation) -> String {
     let (needed, worked) = (explained.rounds.needed(), worked(explained));
-    let given = if explained.file.allowance.is_some() { "given" } else { "none is given" };
-    let allowance = explained.file.allowance();
+    let allowance = explained.allowance();
     if worked < needed {
         let next = worked + 1;
-        return format!("Round {next} would add more, so the allowance of {allowance} ({given}) is below the rounds needed.\n");
+        return format!(
+            "Round {next} would add more, so the allowance of {allowance} is below the rounds needed.\n"
+        );
     }
     let next = needed + 1;
-    format!("Round {next} adds nothing and isn't counted: rounds needed {needed}, allowance {allowance} ({given}).\n")
+    format!("Round {next} adds nothing and isn't counted: rounds needed {needed}, allowance {allowance}.\n")
 }
 
 fn rule(mark: Mark, reason: &Reason, words: &Words) -> (u8, String) {

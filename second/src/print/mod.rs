@@ -145,8 +145,7 @@ fn sheet(explained: &Explanation) -> String {
             text += &format!("  the desk writes {line}\n");
         }
     }
-    let given = if explained.file.allowance.is_some() { "given" } else { "as none is given" };
-    text + &format!("Rounds needed: {needed}. Allowance: {allowance} ({given}).\n")
+    text + &format!("Rounds needed: {needed}. Allowance: {}.\n", explained.allowance())
 }
 
 fn rule(mark: &Mark, reason: &Reason) -> String {

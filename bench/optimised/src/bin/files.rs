@@ -4,7 +4,7 @@ use std::io::Write;
 use std::process::ExitCode;
 
 const USAGE: &str =
-    "files make KIND [SIZE]   a file to measure with: least, medium, dense, layered or chain; with a size:
+    "files make KIND [SIZE]   a file to measure with: least, medium, dense, layered, chain or laps; with a size:
                          facts (0 to 4096), rules (0 to 512), states (1 to 16) or asks (0 to 256)
 files plot               lines of series, size, program and instructions, parted by tabs, to an SVG";
 

@@ -2,6 +2,7 @@ use Rattle.std.proofs.Common.{arith, length-take}
 use Rattle.file.proofs.Served.{wrote}
 use Rattle.file.proofs.WritesLaws.{writes-once}
 use Rattle.file.proofs.Told.{listed, text-long, text-lines, fault-told}
+use Rattle.file.proofs.Default.{never-spent}
 use Rattle.file.proofs.answer.Goals as goal
 
 pub unreachable-requires : goal.unreachable-requires
@@ -22,6 +23,9 @@ returns-clause-many c = λ fs q s counts t. text-lines (returns-clause-written c
 
 pub returns-clause-listed : goal.returns-clause-listed
 returns-clause-listed c = λ fs s. listed (returns-clause-written c) fs s
+
+pub returns-clause-unspent : goal.returns-clause-unspent
+returns-clause-unspent c = λ fs s none. never-spent _ _ (returns-clause-written c) fs s none
 
 pub returns-clause-fault : goal.returns-clause-fault
 returns-clause-fault c = λ before r f. (fault-told (returns-clause-written c) before r f).listed

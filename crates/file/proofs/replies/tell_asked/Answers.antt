@@ -17,7 +17,7 @@ returns-in_err-prepared-clause-err g c =
     let q = question_by file c.args.automaton.now in
     let is = c.requires.question in
     let some = c.requires.some in
-    let lent = is_own file q c.collection.result c.allowance.result area_length area_length c.collection.ensures.counts c.collection.ensures.tables c.allowance.ensures refl refl in
+    let lent = is_own file q c.collection.result c.allowance.result area_length area_length c.collection.ensures.counts c.collection.ensures.tables (c.allowance.ensures.read c.requires.read) refl refl in
     let (counts, rest, marks, failed) = c.in_err-prepared.ensures.failed in
     passed_on c.from_residual.result _ _ c.from_residual.ensures.1
     (record {
@@ -39,7 +39,7 @@ returns-clause-ok g c =
     let q = question_by file c.args.automaton.now in
     let is = c.requires.question in
     let some = c.requires.some in
-    let lent = is_own file q c.collection.result c.allowance.result area_length area_length c.collection.ensures.counts c.collection.ensures.tables c.allowance.ensures refl refl in
+    let lent = is_own file q c.collection.result c.allowance.result area_length area_length c.collection.ensures.counts c.collection.ensures.tables (c.allowance.ensures.read c.requires.read) refl refl in
     let (counts, marks, told) = c.in_ok-prepared.ensures.told in
     let made = c.in_ok-prepared.ensures.own ∙ lent in
     replies-answer file _
