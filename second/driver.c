@@ -1,12 +1,12 @@
-/* The library driver of PROTOCOL.md: reads a call per line, asks lampsaffron_ask, lampsaffron_ask_from, lampsaffron_ask_all or
-   lampsaffron_expression, writes what they gave and hashes.
+/* The library driver of PROTOCOL.md: reads a call per line, asks lampsaffron_ask, lampsaffron_ask_from, lampsaffron_ask_all,
+   lampsaffron_marks or lampsaffron_expression, writes what they gave and hashes.
    No stdio and no heap: only read and write, declared by hand, and static buffers. */
 #include "lampsaffron.h"
 
 extern long read(int from, void *bytes, size_t most);
 extern long write(int to, const void *bytes, size_t length);
 
-enum { TABLES = 8, MOST_NUMBERS = 65535, MOST_AREA = 32768, MOST_ENTRIES = 1024, MOST_MADE = 4096, GUARD = 64 };
+enum { TABLES = 8, MOST_NUMBERS = 65535, MOST_AREA = 32768, MOST_ENTRIES = 1024, MOST_ROOM = 131072, MOST_MADE = 4096, GUARD = 64 };
 
 /* The tables, and after them the pairs of a row. */
 enum { PAIRS = TABLES };
@@ -18,19 +18,22 @@ static uint8_t areas[2][MOST_AREA + GUARD];
 static uint8_t row_numbers[MOST_ENTRIES + GUARD];
 static uint16_t row_counts[MOST_ENTRIES + GUARD / 2];
 
+/* A row of how many marks each round makes, and GUARD bytes behind it. */
+static uint16_t round_marks[MOST_ROOM + GUARD / 2];
+
 /* A row of marks, and the rows for the steps and finals that are made of it, with GUARD bytes behind each. */
 static uint8_t marks[MOST_NUMBERS];
 static size_t marks_length;
 static uint16_t made[2][MOST_MADE + GUARD / 2];
 
 /* The letters that a request of another kind than a pair begins with; none is a digit. */
-enum { ROW = 'R', ONE = 'L', EXPRESSION = 'M' };
+enum { ROW = 'R', ONE = 'L', ROUNDS = 'N', EXPRESSION = 'M' };
 
 /* What a request says beside the tables and marks; one individual stands first in the pair. */
 struct request {
     int kind;
     uint16_t counts[5], pair[2], allowance;
-    size_t sizes[2], entries[2];
+    size_t sizes[2], entries[2], room;
     uint8_t fills[2], fill;
 };
 
@@ -170,6 +173,18 @@ static void answer_row(const struct request *asked) {
     put(hash((const uint8_t *)(row_counts + counts), GUARD), 16);
 }
 
+static void answer_rounds(const struct request *asked) {
+    uint16_t rounds = 0xFFFF;
+    fill_lent(round_marks, 2 * asked->room, asked->fill);
+    uint8_t given = lampsaffron_marks(
+        LENT(asked), asked->allowance,
+        areas[0], asked->sizes[0], areas[1], asked->sizes[1], round_marks, asked->room, &rounds);
+    put(given, 2);
+    put(rounds, 4);
+    put(hash_numbers(round_marks, asked->room), 16);
+    put(hash((const uint8_t *)(round_marks + asked->room), GUARD), 16);
+}
+
 static void answer_expression(const struct request *asked) {
     const size_t *lent = asked->entries;
     uint16_t told[3] = {0xFFFF, 0xFFFF, 0xFFFF};
@@ -184,6 +199,7 @@ static void answer_with_areas(const struct request *asked) {
     for (int i = 0; i < 2; i++) fill_lent(areas[i], asked->sizes[i], asked->fills[i]);
     if (asked->kind == ROW) answer_row(asked);
     else if (asked->kind == ONE) answer_one(asked);
+    else if (asked->kind == ROUNDS) answer_rounds(asked);
     else answer_pair(asked);
     for (int i = 0; i < 2; i++) put(hash(areas[i], asked->sizes[i]), 16);
     for (int i = 0; i < 2; i++) put(hash(areas[i] + asked->sizes[i], GUARD), 16);
@@ -216,16 +232,28 @@ static void read_entries(struct request *asked, size_t most) {
     asked->fill = (uint8_t)number(2);
 }
 
+/* The room of a row of counts, and the byte that fills it. */
+static void read_room(struct request *asked) {
+    asked->room = length_within(8, MOST_ROOM);
+    asked->fill = (uint8_t)number(2);
+}
+
+/* How many individuals are asked of beside those in a row. */
+static int individuals(int kind) {
+    return kind == ROUNDS ? 0 : kind == ONE ? 1 : 2;
+}
+
 static void read_ask(struct request *asked) {
     for (int i = 0; i < 5; i++) asked->counts[i] = (uint16_t)number(4);
     for (int i = 0; i < TABLES; i++) read_table(i);
     if (asked->kind == ROW) read_table(PAIRS);
     else
-        for (int i = 0; i < (asked->kind == ONE ? 1 : 2); i++) asked->pair[i] = (uint16_t)number(4);
+        for (int i = 0; i < individuals(asked->kind); i++) asked->pair[i] = (uint16_t)number(4);
     asked->allowance = (uint16_t)number(4);
     for (int i = 0; i < 2; i++) asked->sizes[i] = length_within(8, MOST_AREA);
     for (int i = 0; i < 2; i++) asked->fills[i] = (uint8_t)number(2);
     if (asked->kind == ROW) read_entries(asked, MOST_ENTRIES);
+    if (asked->kind == ROUNDS) read_room(asked);
 }
 
 static struct request read_request(void) {
@@ -234,7 +262,7 @@ static struct request read_request(void) {
         read_marks();
         read_entries(&asked, MOST_MADE);
     } else {
-        if (asked.kind != ROW && asked.kind != ONE) step_back();
+        if (asked.kind != ROW && asked.kind != ONE && asked.kind != ROUNDS) step_back();
         read_ask(&asked);
     }
     end_of_line();

@@ -108,22 +108,22 @@ pub fn ask_all(
 }
 
 /// The number, and how many marks each worked round adds, round 1 first, for a row that has so much room: 4, then 5 where
-/// there is no room for each round that is allowed, 5 and 6, 2, 3, or else 0. Nothing is told, and the areas stay as they
-/// were, after all but 0 and 3.
-pub fn marks(call: &Call, room: usize, area: &mut [u8], spare: &mut [u8]) -> (u8, Vec<u16>) {
+/// there is no room for each round that is allowed, 5 and 6, 2, 3, or else 0. None, and nothing written, after all but 0
+/// and 3.
+pub fn marks(call: &Call, room: usize, area: &mut [u8], spare: &mut [u8]) -> (u8, Option<Vec<u16>>) {
     let collection = match checked(call, area.len(), spare.len()) {
-        Err(4) => return (4, Vec::new()),
-        _ if room < call.allowance.into() => return (5, Vec::new()),
-        Err(number) => return (number, Vec::new()),
+        Err(4) => return (4, None),
+        _ if room < call.allowance.into() => return (5, None),
+        Err(number) => return (number, None),
         Ok(collection) => collection,
     };
     let prepared = Prepared::of(&collection, call.allowance);
     let (Some(added), Some(bytes)) = (prepared.added(), prepared.area()) else {
-        return (CONTRADICTION, Vec::new());
+        return (CONTRADICTION, None);
     };
     area.copy_from_slice(&bytes);
     spare.fill(0);
-    (if prepared.spent() { ALLOWANCE_SPENT } else { 0 }, added.to_vec())
+    (if prepared.spent() { ALLOWANCE_SPENT } else { 0 }, Some(added.to_vec()))
 }
 
 /// One ask after the other, each with the areas as the one before left them.

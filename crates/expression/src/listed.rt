@@ -61,7 +61,8 @@ impl Model for Automaton {
       finals = take a.finals_used a.finals;
     } };
 
-    ghost invariant = { λ a. (a.steps_used ≤ step_width * places) × (a.finals_used ≤ most_states) };
+    ghost invariant = { λ a. (a.steps_used ≤ step_width * places)
+        × (a.finals_used ≤ most_states) };
 }
 
 // The numbers of a step that reads a mark.

@@ -10,7 +10,7 @@ use Rattle.std.proofs.Math.Nat.{mul-div_cancel_left, mul-mod_right}
 use Rattle.laws.specs.Member.{◌∈◌}
 use Rattle.kinds.specs.declared.Concept.{Concept}
 use Rattle.kinds.specs.declared.Counts.{Counts}
-use Rattle.kinds.specs.Kinds.{concept_name, role_name, individual, state, signed, concept_of, number_of, concept-number, CountsFit, IndividualDeclared, StateDeclared}
+use Rattle.kinds.specs.Kinds.{concept_name, role_name, individual, state, signed, concept_of, number_of, concept-number, CountsFit, StateDeclared}
 use Rattle.meaning.specs.Collection.{Each, step, ConceptsDeclared, RolesDeclared, ConceptFactDeclared, RoleFactDeclared, StepDeclared}
 use Rattle.meaning.specs.Layout.{area_length}
 use Rattle.meaning.specs.Lent.{field, records, concept_pair, role_pair, concept_fact, role_fact, letter_of, step_kind, step_at, final_at, Whole, TablesOk, NumbersOk, Sound}

@@ -1,5 +1,5 @@
 -- A row of marks judged: 13, 12 and 14 are those of its automaton's making, and of its states and its start.
-use Rattle.std.specs.Prelude.{ℕ, ◌+◌, ◌-◌, ◌≡◌, List, Result, Ok, Err}
+use Rattle.std.specs.Prelude.{ℕ, ◌+◌, ◌-◌, ◌≡◌, List, Result, Ok, Err, IsErrAnd}
 use Rattle.std.proofs.Common.{refl, arith}
 use Rattle.laws.specs.First.{fails, holds}
 use Rattle.kinds.specs.declared.Counts.{Counts}
@@ -38,10 +38,15 @@ module _ (row : List ℕ) where
   refused_none x = holds x.shallow (fails (λ w. let h = w.1 in x.none 8 h.tree w.0 h.is.reads))
 
   module _ (counts : Counts) where
-    pub row-refused : {o : Result ℕ Refusal} {r : Refusal} → MarksRead row o → o ≡ Err r → RowJudged counts row (Err r)
-    row-refused {r = r} (fails n) e = let d : r ≡ TooDeep = cc in rw d (fails n)
-    row-refused {r = r} (holds s (fails n)) e = let d : r ≡ NoExpression = cc in rw d (holds s (fails n))
-    row-refused (holds s (holds p w)) e = let d = w.1 in absurd cc
+    -- a refusal of the marks is the row's
+    refused : {o : Result ℕ Refusal} {r : Refusal} → MarksRead row o → o ≡ Err r → RowJudged counts row (Err r)
+    refused {r = r} (fails n) e = let d : r ≡ TooDeep = cc in rw d (fails n)
+    refused {r = r} (holds s (fails n)) e = let d : r ≡ NoExpression = cc in rw d (holds s (fails n))
+    refused (holds s (holds p w)) e = let d = w.1 in absurd cc
+
+    pub row-refused : {q : Refusal} {r : Result (Unit {0}) Refusal} → MarksRead row (Err q) → IsErrAnd r (λ e. e ≡ q) → RowJudged counts row r
+    row-refused {r = Ok u} m h = absurd h
+    row-refused {r = Err e} m h = rw h (refused m refl)
 
     abbrev Shaped : ℕ → Type 0
     Shaped n = (counts.states ≡ n + 1) × (counts.start ≡ state 0)

@@ -98,10 +98,7 @@ fn shape_ok(marks: usize, counts: Counts) -> bool
 fn row_ok(row: &[u8], counts: Counts) -> Result<(), Refusal>
     ensures { RowJudged counts row.now result }
 {
-    let marks = match marks_read(row) {
-        Ok(marks) => marks,
-        Err(refusal) => return Err(refusal),
-    };
+    let marks = marks_read(row)?;
     if !shape_ok(marks, counts) {
         return Err(Refusal::AnotherShape);
     }

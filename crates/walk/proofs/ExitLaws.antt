@@ -1,14 +1,14 @@
 -- The exits of individuals, as they are made.
-use Rattle.std.specs.Prelude.{◌≡◌, ◌↔◌, ◌⊎◌, Bool, IsTrue, ℕ, ◌^◌, ◌<◌, ◌≤◌, List, length, slice_index_or}
+use Rattle.std.specs.Prelude.{◌≡◌, ◌↔◌, ◌⊎◌, Bool, IsTrue, ℕ, ◌^◌, ◌<◌, ◌≤◌, List}
 use Rattle.std.proofs.Common.{sym, ap, ◌∙◌, inl, inr, ⊎_elim, ext_get_or, arith}
 use Rattle.laws.specs.Fill.{Filling, all_done}
 use Rattle.kinds.specs.Kinds.{most_individuals, most_states}
-use Rattle.sets.specs.Bits.{Has, Meets, concept_width}
+use Rattle.sets.specs.Bits.{Has, concept_width}
 use Rattle.sets.specs.declared.states.StateSet.{StateSet}
 use Rattle.sets.specs.declared.concepts.ConceptSet.{ConceptSet}
 use Rattle.walk.specs.declared.onward.Tree.{Tree}
 use Rattle.walk.specs.Sets.{set_at, concepts_at, empty_set, IsGathered}
-use Rattle.walk.specs.Onward.{Goes, LeadsOn, AreOnward}
+use Rattle.walk.specs.Onward.{Goes, AreOnward}
 use Rattle.walk.specs.Exits.{LeadsOut, AreExits, ExitBy, Exit}
 use Rattle.walk.proofs.SetLaws.{same_sets}
 use Rattle.walk.proofs.OnwardLaws.{low_concept}

@@ -1,35 +1,28 @@
 -- What the exits mean: by the rows of a collection, with its closed sheet, they are its exits.
-use Rattle.std.specs.Prelude.{◌≡◌, ◌↔◌, ◌⊎◌, ℕ, ◌+◌, ◌*◌, ◌<◌, List}
-use Rattle.std.proofs.Common.{refl, ap, inl, inr, ⊎_elim, arith}
-use Rattle.kinds.specs.declared.Individual.{Individual}
+use Rattle.std.specs.Prelude.{◌≡◌, ◌↔◌, ◌⊎◌, ℕ, ◌+◌, ◌<◌, List}
+use Rattle.std.proofs.Common.{refl, inl, inr, arith}
 use Rattle.kinds.specs.declared.State.{State}
 use Rattle.kinds.specs.declared.SignedRole.{SignedRole}
 use Rattle.kinds.specs.declared.Concept.{Concept}
-use Rattle.kinds.specs.declared.Concept.TheVariants.{Name, Exists}
+use Rattle.kinds.specs.declared.Concept.TheVariants.{Exists}
 use Rattle.kinds.specs.declared.Counts.{Counts}
 use Rattle.kinds.specs.Kinds.{most_individuals, most_states, most_roles, base, flip, flip-below, inverse, inverse-declared, individual, signed, state, number_of, concept_of, number-concept, concept-number, role-concept, CountsFit, SignedDeclared, StateDeclared, ConceptDeclared}
 use Rattle.laws.specs.Member.{◌∈◌}
 use Rattle.meaning.specs.Collection.{NumbersDeclared, Collection, step, role}
 use Rattle.meaning.specs.Lent.{Tables, collection}
-use Rattle.meaning.specs.Orders.{RoleLe, ConceptLe}
-use Rattle.meaning.specs.Model.{IndividualHas}
-use Rattle.meaning.specs.Kind.{Kind}
-use Rattle.meaning.specs.Lite.{lite, StepDown, declared_states}
+use Rattle.meaning.specs.Lite.{lite, declared_states}
 use Rattle.meaning.specs.Onward as meaning
 use Rattle.meaning.specs.Onward.{ends, around, deeper}
 use Rattle.meaning.specs.Sheet.{Needed}
 use Rattle.meaning.proofs.SheetLaws.{mark-markable, mark→loop, loop→mark}
-use Rattle.meaning.proofs.Clash.{typed-declared, typed-valid}
+use Rattle.meaning.proofs.Clash.{typed-valid}
 use Rattle.meaning.proofs.Declared.{state-in, state-out, concept-in, concept-out, concept-declared, role-above-declared, concept-above-declared, role-step-to, lite-sane}
 use Rattle.sets.specs.Bits.{Has, concept_width, role_width}
-use Rattle.sets.specs.declared.states.StateSet.{StateSet}
 use Rattle.sets.specs.declared.concepts.ConceptSet.{ConceptSet}
 use Rattle.walk.specs.declared.onward.Tree.{Tree}
-use Rattle.walk.specs.Sets.{set_at, concepts_at, row_at}
-use Rattle.walk.specs.Finals.{AreFinals}
-use Rattle.walk.specs.Onward.{Child, Down, Marked, LeadsOn}
-use Rattle.walk.specs.Exits.{AreExits}
-use Rattle.walk.specs.Meant.{ConceptsOf, SheetOf, WaysOf, BelowOf, ExitOf, ExitsOf, ExitsMean}
+use Rattle.walk.specs.Sets.{concepts_at}
+use Rattle.walk.specs.Onward.{LeadsOn}
+use Rattle.walk.specs.Meant.{ConceptsOf, SheetOf, WaysOf, BelowOf, ExitOf, ExitsMean}
 use Rattle.walk.proofs.Mean.{number_low, finals-mean}
 
 module _ (c : Counts) (t : Tables) (fit : CountsFit c) (ok : NumbersDeclared (collection c t)) where

@@ -1,12 +1,12 @@
 -- From where the way leads on: what one more mark or step adds, until nothing is added.
-use Rattle.std.specs.Prelude.{◌≡◌, ◌≢◌, refl, ◌↔◌, ◌⊎◌, Bool, true, false, IsTrue, ℕ, zero, suc, ◌+◌, ◌-◌, ◌*◌, ◌^◌, ◌<◌, ◌≤◌, List, [], ◌∷◌, length, slice_index_or, set, replicate}
+use Rattle.std.specs.Prelude.{◌≡◌, ◌≢◌, ◌↔◌, ◌⊎◌, Bool, false, IsTrue, ℕ, zero, suc, ◌+◌, ◌*◌, ◌^◌, ◌<◌, ◌≤◌, List, [], ◌∷◌, length, replicate}
 use Rattle.std.proofs.Common.{sym, ap, ◌∙◌, inl, inr, ⊎_elim, arith, eq-or-lt_of_le}
 use Rattle.std.proofs.Math.Decide.{dec_lt}
 use Rattle.std.proofs.lemmas.List.{length-replicate, get_or-replicate}
 use Rattle.std.proofs.lemmas.Bool.{false≢true}
 use Rattle.std.proofs.lemmas.Nat.Bits.{bit_at_above}
 use Rattle.laws.specs.Fill.{Filling, all_done}
-use Rattle.kinds.specs.Kinds.{most_states, base, flip}
+use Rattle.kinds.specs.Kinds.{most_states, base}
 use Rattle.sets.specs.Bits.{Has, Meets, IsUnion, IsIntersection, concept_width, role_width}
 use Rattle.sets.specs.declared.states.StateSet.{StateSet}
 use Rattle.sets.specs.declared.concepts.ConceptSet.{ConceptSet}
@@ -14,8 +14,8 @@ use Rattle.meaning.specs.Onward.{ends, around, deeper}
 use Rattle.walk.specs.declared.onward.Tree.{Tree}
 use Rattle.walk.specs.Sets.{set_at, concepts_at, row_at, IsGathered}
 use Rattle.walk.specs.Loops.{pair}
-use Rattle.walk.specs.Onward.{Child, Down, Marked, LeadsOn, Goes, IsLive, AreLive, Along, ByMark, ByRole, ByRoles, ByStep, Further, Small, AreFurther, AreOnward}
-use Rattle.walk.proofs.SetLaws.{none_has, same_sets, as_number}
+use Rattle.walk.specs.Onward.{Marked, LeadsOn, Goes, IsLive, AreLive, Along, ByMark, ByRole, ByRoles, ByStep, Further, Small, AreFurther, AreOnward}
+use Rattle.walk.proofs.SetLaws.{none_has, as_number}
 
 -- a set of concepts has no number past its width
 pub low_concept : (m k : ℕ) → m < 2 ^ concept_width → Has m k → k < concept_width

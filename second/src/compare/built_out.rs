@@ -144,7 +144,7 @@ fn library_agrees(asked: &Asked, allowance: u16, said: &Said) -> Result<(), (Str
     let call = Call::of(&asked.collection, allowance);
     let (mut area, mut spare) = before.clone();
     let told = library::marks(&call, allowance.into(), &mut area, &mut spare);
-    let expected = (said.closed, said.added.clone());
+    let expected = (said.closed, said.area.is_some().then(|| said.added.clone()));
     if told != expected || (area, spare) != after {
         return Err((
             format!("library {told:?} of rounds, or an area"),

@@ -8,11 +8,12 @@ use crate::ask::Ask;
 use crate::library::{Call, CONCEPT_FACTS, ROLE_FACTS, SHAPES};
 use crate::numbers::Individual;
 
-/// What is asked of a collection: a pair, one individual, or a row of pairs.
+/// What is asked of a collection: a pair, one individual, a row of pairs, or how many marks each round makes.
 pub enum Asks {
     Pair([u16; 2]),
     From(u16),
     Row(Row),
+    Rounds(CountRow),
 }
 
 pub struct Row {
@@ -23,12 +24,19 @@ pub struct Row {
     pub fill: u8,
 }
 
+/// A row that counts are put into: how many it has room for, and the byte it is filled with beforehand.
+pub struct CountRow {
+    pub room: usize,
+    pub fill: u8,
+}
+
 impl Asks {
     fn numbers(&mut self) -> &mut [u16] {
         match self {
             Asks::Pair(pair) => pair,
             Asks::From(first) => std::slice::from_mut(first),
             Asks::Row(row) => &mut row.pairs,
+            Asks::Rounds(_) => &mut [],
         }
     }
 }
@@ -146,11 +154,14 @@ fn bad_shape(dice: &mut Dice, lent: &mut Lent) {
         0 if width > 1 => numbers.resize(numbers.len() + dice.between(1, width - 1), 0),
         1 => numbers.resize(width * (most + 1), 0),
         2 => numbers.resize(dice.between(width * most + 1, 65_535), 0),
-        _ => {
-            let length = dice.pick(&[0, 1, AREA / 2, AREA - 1, AREA + 1, 2 * AREA, MOST_AREA]);
-            lent.lengths[dice.below(2)] = length;
-        }
+        _ => bad_area(dice, lent),
     }
+}
+
+/// One of the areas has another length.
+pub fn bad_area(dice: &mut Dice, lent: &mut Lent) {
+    let length = dice.pick(&[0, 1, AREA / 2, AREA - 1, AREA + 1, 2 * AREA, MOST_AREA]);
+    lent.lengths[dice.below(2)] = length;
 }
 
 /// The least number that isn't declared, for each place of a record.

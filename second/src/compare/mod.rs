@@ -1,4 +1,4 @@
-//! `second compare`: thousands of cases from a seed, six parts, a histogram of what was hit, and the count at the end.
+//! `second compare`: thousands of cases from a seed, seven parts, a histogram of what was hit, and the count at the end.
 
 mod built_out;
 mod calls;
@@ -13,6 +13,7 @@ mod marks;
 mod outputs;
 mod parts;
 pub mod protocol;
+mod rounds;
 mod rows;
 pub mod sample;
 mod shown;
@@ -49,6 +50,7 @@ const MODEL: u64 = 3;
 const ROWS: u64 = 4;
 const TYPED: u64 = 5;
 const FROM: u64 = 6;
+const ROUNDS: u64 = 7;
 const MOST_SHOWN: u64 = 5;
 
 /// What the desk program can answer with, in an answer or a refusal.
@@ -95,6 +97,8 @@ pub fn compare(options: &Options) -> (u64, u64) {
     );
     println!("f. the library's call for one individual, likewise with both areas");
     through_drivers(options, &mut total, (FROM, &ANSWERS, &ASKED_MET), parts::from_part);
+    println!("g. how many marks each round makes, likewise with both areas and the row of counts");
+    through_drivers(options, &mut total, (ROUNDS, &rounds::NUMBERS, &rounds::MET), parts::rounds_part);
     total
 }
 

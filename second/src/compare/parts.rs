@@ -1,6 +1,6 @@
 //! The parts of the comparison that run another program, each a case after the other.
 
-use super::calls::{from_lent, lent, some_many_rounds, Asks, Lent};
+use super::calls::{from_lent, lent, some_many_rounds, Asks, CountRow, Lent};
 use super::child::{run_desk, Driver, Words};
 use super::damage::{damaged, Damaged};
 use super::deeds::{lent_with_others, noted, renoted, CHANGED};
@@ -10,6 +10,7 @@ use super::generate::{broad, full, medium, over_a_thousand, small, Asked};
 use super::long::long;
 use super::outputs;
 use super::protocol;
+use super::rounds::rounds_lent;
 use super::rows::{met, row_lent};
 use super::tally::Tally;
 use super::text;
@@ -17,7 +18,7 @@ use super::typed::{self, typed};
 use crate::collection::Collection;
 use crate::desk::desk;
 use crate::desk::read::read;
-use crate::library::{ask, ask_from, SHAPES};
+use crate::library::{ask, ask_from, marks, SHAPES};
 use std::collections::BTreeSet;
 
 /// What differed, with the input that shows it.
@@ -240,7 +241,15 @@ fn replies(driver: &mut Driver, request: String, expected: &str) -> Outcome {
     Err(Difference { input: request.into_bytes(), expected: expected.to_string(), found })
 }
 
-/// What a pair, or one individual, would be answered were there no exclusion to break.
+/// Part (g): likewise of how many marks each round makes, with how many rounds are told, the row of counts and what lies
+/// behind it.
+pub fn rounds_part(driver: &mut Driver, mut dice: Dice, tally: &mut Tally) -> Outcome {
+    let (lent, met) = rounds_lent(&mut dice);
+    met.into_iter().for_each(|what| tally.met(what));
+    one_ask(driver, lent, &mut dice, tally)
+}
+
+/// What any ask but a row would be answered were there no exclusion to break.
 fn number_without_exclusions(lent: &Lent) -> u8 {
     let mut call = lent.call.clone();
     call.tables[1].clear();
@@ -250,5 +259,6 @@ fn number_without_exclusions(lent: &Lent) -> u8 {
         Asks::Pair(pair) => ask(&call, pair, &mut area, &mut spare).0,
         Asks::From(first) => ask_from(&call, first, &mut area, &mut spare).0,
         Asks::Row(_) => unreachable!("a row is not asked for it"),
+        Asks::Rounds(CountRow { room, .. }) => marks(&call, room, &mut area, &mut spare).0,
     }
 }

@@ -1,9 +1,9 @@
 //! The line protocol of PROTOCOL.md: one library call per line in hexadecimal, one line back.
 
-use super::calls::{Asks, Lent, Row};
+use super::calls::{Asks, CountRow, Lent, Row};
 use super::typed::Typed;
 use crate::area::AREA;
-use crate::library::{ask, ask_all, ask_from, made_of, Call, Made};
+use crate::library::{ask, ask_all, ask_from, made_of, marks, Call, Made};
 
 /// Bytes behind each area that the call must not touch; they are filled with the complement of the area's fill. So it is
 /// behind the entries of a row.
@@ -15,14 +15,23 @@ pub const MOST_AREA: usize = 8 * AREA;
 /// The most entries that are lent for a row's numbers, and for its counts.
 pub const MOST_ENTRIES: usize = 1_024;
 
+/// The most counts that a row has room for: twice as many as two bytes can tell apart.
+pub const MOST_ROOM: usize = 2 << 16;
+
 /// The most numbers that are lent for steps, and for finals.
 pub const MOST_MADE: usize = 4_096;
+
+/// What stands before the call where a number is to be told.
+const UNTOLD: u16 = 0xFFFF;
 
 /// A line that asks for a row begins with it; it is no digit.
 const ROW: char = 'R';
 
 /// Likewise a line that asks of one individual whether a path leaves it.
 const ONE: char = 'L';
+
+/// Likewise one that asks how many marks each round makes.
+const ROUNDS: char = 'N';
 
 /// Likewise a line that asks for the tables of an expression.
 const EXPRESSION: char = 'M';
@@ -50,14 +59,18 @@ pub fn request(lent: &Lent) -> String {
             line.insert(0, ROW);
             line += &counted(&row.pairs);
         }
+        Asks::Rounds(_) => line.insert(0, ROUNDS),
     }
     line += &digits(&[call.allowance]);
     let ([area, spare], [first, second]) = (lent.lengths, lent.fills);
     line += &format!("{area:08X}{spare:08X}{first:02X}{second:02X}");
-    if let Asks::Row(Row { entries: [numbers, counts], fill, .. }) = &lent.asks {
-        line += &format!("{numbers:04X}{counts:04X}{fill:02X}");
+    match &lent.asks {
+        Asks::Pair(_) | Asks::From(_) => line,
+        Asks::Row(Row { entries: [numbers, counts], fill, .. }) => {
+            line + &format!("{numbers:04X}{counts:04X}{fill:02X}")
+        }
+        Asks::Rounds(CountRow { room, fill }) => line + &format!("{room:08X}{fill:02X}"),
     }
-    line
 }
 
 fn digits(numbers: &[u16]) -> String {
@@ -70,7 +83,7 @@ fn counted(numbers: &[u16]) -> String {
 
 /// None when the line isn't a request.
 pub fn read_request(line: &str) -> Option<Lent> {
-    let kind = [ROW, ONE].into_iter().find(|kind| line.starts_with(*kind));
+    let kind = [ROW, ONE, ROUNDS].into_iter().find(|kind| line.starts_with(*kind));
     let mut digits = kind.map_or(line, |_| &line[1..]);
     let counts = take_numbers(&mut digits)?;
     let mut tables: [Vec<u16>; 8] = Default::default();
@@ -80,19 +93,26 @@ pub fn read_request(line: &str) -> Option<Lent> {
     let mut asks = match kind {
         None => Asks::Pair(take_numbers(&mut digits)?),
         Some(ONE) => Asks::From(take(&mut digits, 4)? as u16),
+        Some(ROUNDS) => Asks::Rounds(CountRow { room: 0, fill: 0 }),
         Some(_) => Asks::Row(Row { pairs: take_counted(&mut digits)?, entries: [0; 2], fill: 0 }),
     };
     let [allowance] = take_numbers(&mut digits)?;
     let lengths = [take(&mut digits, 8)?, take(&mut digits, 8)?];
     let fills = [take(&mut digits, 2)? as u8, take(&mut digits, 2)? as u8];
-    if let Asks::Row(row) = &mut asks {
-        row.entries = take_numbers(&mut digits)?.map(usize::from);
-        row.fill = take(&mut digits, 2)? as u8;
-        if row.entries.iter().any(|entries| *entries > MOST_ENTRIES) {
-            return None;
+    let held = match &mut asks {
+        Asks::Pair(_) | Asks::From(_) => true,
+        Asks::Row(row) => {
+            row.entries = take_numbers(&mut digits)?.map(usize::from);
+            row.fill = take(&mut digits, 2)? as u8;
+            row.entries.iter().all(|entries| *entries <= MOST_ENTRIES)
         }
-    }
-    let fits = digits.is_empty() && lengths.iter().all(|length| *length <= MOST_AREA);
+        Asks::Rounds(row) => {
+            row.room = take(&mut digits, 8)?;
+            row.fill = take(&mut digits, 2)? as u8;
+            row.room <= MOST_ROOM
+        }
+    };
+    let fits = held && digits.is_empty() && lengths.iter().all(|length| *length <= MOST_AREA);
     let call = Call { counts, tables, allowance };
     fits.then_some(Lent { kind: "", call, asks, lengths, fills, planted: Vec::new() })
 }
@@ -117,7 +137,8 @@ fn take(digits: &mut &str, width: usize) -> Option<usize> {
     capital.then(|| usize::from_str_radix(head, 16).ok()).flatten()
 }
 
-/// The answers that module `library` gives, None where a row's lengths do not fit, and the reply line.
+/// The answers that module `library` gives, None where a row's lengths do not fit, and the reply line. Of how many marks
+/// each round makes there is one, whose count is how many rounds are told.
 pub fn answer(lent: &Lent) -> (Option<Vec<(u8, u16)>>, String) {
     let [mut area, mut spare] = [0, 1].map(|which| vec![lent.fills[which]; lent.lengths[which]]);
     let (answers, told) = match &lent.asks {
@@ -133,6 +154,11 @@ pub fn answer(lent: &Lent) -> (Option<Vec<(u8, u16)>>, String) {
             let answers = ask_all(&lent.call, &row.pairs, row.entries, &mut area, &mut spare);
             let told = told(row, answers.as_deref());
             (answers, told)
+        }
+        Asks::Rounds(row) => {
+            let (number, added) = marks(&lent.call, row.room, &mut area, &mut spare);
+            let (rounds, behind) = put_into(row, added.as_deref());
+            (Some(vec![(number, rounds)]), format!("{number:02X}{rounds:04X}{behind}"))
         }
     };
     let guards = lent.fills.map(|fill| hash(&[!fill; GUARD]));
@@ -151,6 +177,16 @@ fn told(row: &Row, answers: Option<&[(u8, u16)]>) -> String {
     let numbers: String = numbers.iter().map(|number| format!("{number:02X}")).collect();
     let behind = hash(&[!row.fill; GUARD]);
     format!("{:02X}{numbers}{behind:016X}{}{behind:016X}", u8::from(answers.is_some()), digits(&counts))
+}
+
+/// How many rounds are told, and the hashes of the row and of what lies behind it. Without counts all is as it was before.
+fn put_into(row: &CountRow, counts: Option<&[u16]>) -> (u16, String) {
+    let mut after = vec![u16::from_le_bytes([row.fill; 2]); row.room];
+    let told = counts.map_or(UNTOLD, |counts| {
+        after[..counts.len()].copy_from_slice(counts);
+        counts.len() as u16
+    });
+    (told, format!("{:016X}{:016X}", hash_numbers(&after), hash(&[!row.fill; GUARD])))
 }
 
 pub fn request_expression(typed: &Typed) -> String {
@@ -173,7 +209,7 @@ fn read_expression(mut digits: &str) -> Option<Typed> {
 pub fn answer_expression(typed: &Typed) -> (Result<Made, u8>, String) {
     let made = made_of(&typed.marks, typed.rows);
     let mut rows = typed.rows.map(|numbers| vec![u16::from_le_bytes([typed.fill; 2]); numbers]);
-    let mut told = [0xFFFF; 3];
+    let mut told = [UNTOLD; 3];
     if let Ok(made) = &made {
         for (row, table) in rows.iter_mut().zip(&made.tables) {
             row[..table.len()].copy_from_slice(table);
@@ -181,11 +217,15 @@ pub fn answer_expression(typed: &Typed) -> (Result<Made, u8>, String) {
         told = [made.states, made.tables[0].len() as u16, made.tables[1].len() as u16];
     }
     let number = made.as_ref().err().copied().unwrap_or(0);
-    let [steps, finals] =
-        rows.map(|row| hash(&row.into_iter().flat_map(u16::to_le_bytes).collect::<Vec<u8>>()));
+    let [steps, finals] = rows.map(|row| hash_numbers(&row));
     let behind = hash(&[!typed.fill; GUARD]);
     let told = digits(&told);
     (made, format!("{number:02X}{told}{steps:016X}{finals:016X}{behind:016X}{behind:016X}"))
+}
+
+/// Each number as two bytes, the low one first.
+fn hash_numbers(numbers: &[u16]) -> u64 {
+    hash(&numbers.iter().flat_map(|number| number.to_le_bytes()).collect::<Vec<u8>>())
 }
 
 /// FNV-1a with 64 bits.

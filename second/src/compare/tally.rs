@@ -47,7 +47,7 @@ impl Tally {
         *self.orders.entry((given, also)).or_default() += 1;
     }
 
-    /// Something that a collection, an output, an ask of one individual, a row of pairs or a row of marks was, once for a case.
+    /// Something that a collection, an output, an ask of one individual, a row of pairs, of counts or of marks was, once for a case.
     pub fn met(&mut self, met: &'static str) {
         *self.met.entry(met).or_default() += 1;
     }

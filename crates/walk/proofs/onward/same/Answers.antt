@@ -1,6 +1,6 @@
 -- `same`: two sets differ, or one more is equal.
-use Rattle.std.proofs.Common.{ℕ, ◌≡◌, sym, ◌∙◌, below_more, arith}
-use Rattle.std.proofs.lemmas.Bool.{eqb-true, eqb-false, not-false, not-true, true≢false, false≢true}
+use Rattle.std.proofs.Common.{◌≡◌, sym, ◌∙◌, below_more}
+use Rattle.std.proofs.lemmas.Bool.{eqb-true, not-false}
 use Rattle.walk.specs.Sets.{concepts_at}
 use Rattle.walk.proofs.onward.same.Goals as goal
 

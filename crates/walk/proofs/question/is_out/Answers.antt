@@ -1,5 +1,5 @@
 -- `is_out`: one was, or one more was not.
-use Rattle.std.proofs.Common.{below_more, arith}
+use Rattle.std.proofs.Common.{below_more}
 use Rattle.sets.specs.Bits.{Meets}
 use Rattle.walk.specs.Sets.{set_at}
 use Rattle.walk.proofs.OnwardLaws.{refuted}
