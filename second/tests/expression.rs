@@ -160,7 +160,7 @@ fn what_the_library_makes() {
     let steps = vec![1, 0, 1, 1, 0, 0, 1, 2, 1, 1, 1, 1];
     assert_eq!(made(&[0x41, 0x83, 0x82, 0x01]), Ok(Made { states: 3, tables: [steps, vec![0, 1, 2]] }));
     // All 15 marks, each before each: 15 steps from the start and from every mark.
-    let most = [vec![0x80; 8], vec![0x00, 0x82].repeat(14), vec![0x3F], vec![0x81; 8], vec![0x83]].concat();
+    let most = [vec![0x80; 8], [0x00, 0x82].repeat(14), vec![0x3F], vec![0x81; 8], vec![0x83]].concat();
     let lengths = made(&most).map(|made| made.tables.map(|table| table.len()));
     assert_eq!(lengths, Ok([4 * 15 * 16, 16]));
     assert_eq!(made(&[0x00; 15]).map(|made| made.states), Ok(16));
