@@ -10,7 +10,8 @@ use Rattle.laws.specs.Count.{bit}
 use Rattle.laws.specs.Numbers.{numbered, length-numbered, get_d_numbered}
 use Rattle.meaning.specs.Layout.{place_count, byte_bits, bit_in}
 use Rattle.meaning.specs.LawsOfSheet.{Marked}
-use Rattle.meaning.specs.Bytes.{OneSheetSamePlaces, BytesToBits, BitsToBytes, SameAfterRounds, BitsOnce, BytesOnce, BitsThere, BytesThere}
+use Rattle.meaning.specs.Bytes.{OneSheetSamePlaces, BytesToBits, BitsToBytes, SameAfterRounds, BothThere, BitsOnce, BytesOnce, BitsThere, BytesThere}
+use Rattle.meaning.proofs.CalculateLaws.{sheet-lays}
 use Rattle.meaning.proofs.LayoutLaws.{bit_past, same_bit, same_areas, packed, packed-long, packed-bytes, packed-bit}
 
 -- what is at most 1 is one bit
@@ -72,3 +73,16 @@ bytes-there area long bytes = (numbered (bit_in area) place_count, record { wide
     at : (p : ℕ) → Dec (p < place_count) → get_or (numbered (bit_in area) place_count) p 0 ≡ bit_in area p
     at p (yes l) = get_d_numbered (bit_in area) place_count p 0 l
     at p (no l) = get_or-eq_default (numbered (bit_in area) place_count) 0 {n = p} (omega (arith, length-numbered (bit_in area) place_count)) ∙ sym (bit_past area p long (omega arith))
+
+-- LAW: after every round of a collection both hold its sheet
+pub both-there : BothThere
+both-there 𝓒 ok n =
+    let lays = sheet-lays 𝓒 ok n in
+    let there = bytes-there _ lays.long lays.bytes in
+    record {
+      wide = there.0;
+      area = _;
+      bytes-hold = to-bytes (Marked 𝓒 n) there.0 _ there.1 lays;
+      bits-hold = lays;
+      same = there.1;
+    }

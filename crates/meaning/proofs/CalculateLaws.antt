@@ -13,8 +13,8 @@ use Rattle.kinds.specs.Asks.{AskDeclared}
 use Rattle.kinds.specs.Kinds.{most_names, most_roles, most_individuals, most_states, CountsFit, StateDeclared, ConceptDeclared}
 use Rattle.laws.specs.Truth.{test-and, test-below, test-equal, test-every, test-most, test-of, test-same}
 use Rattle.meaning.specs.Collection.{Collection, Letter, role, test, Step, step, StepDeclared, LetterDeclared, ConceptsDeclared, RolesDeclared, ConceptFactDeclared, RoleFactDeclared, NumbersDeclared, WellFormed}
-use Rattle.meaning.specs.Sheet.{Markable, Mark}
-use Rattle.meaning.proofs.SheetLaws.{mark-markable}
+use Rattle.theory.specs.Sheet.{Markable, Mark}
+use Rattle.theory.proofs.SheetLaws.{mark-markable}
 use Rattle.meaning.specs.Lite.{lite}
 use Rattle.meaning.specs.Lent.{Tables, Call, collection_of, records, field, Whole, ShapesOk, TablesOk, NumbersOk, AskOk, rule_width, concept_fact_width, role_fact_width, step_width, final_width, most_concept_rules, most_concept_exclusions, most_role_rules, most_role_exclusions, most_concept_facts, most_role_facts, most_steps, most_finals}
 use Rattle.meaning.specs.Layout.{area_length, Lays}

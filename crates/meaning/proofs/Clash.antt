@@ -8,7 +8,7 @@ use Rattle.kinds.specs.Kinds.{inverse, signed, IndividualDeclared, ConceptDeclar
 use Rattle.laws.specs.Member.{◌∈◌}
 use Rattle.meaning.specs.Collection.{Collection, NumbersDeclared}
 use Rattle.meaning.specs.Orders.{RoleLe}
-use Rattle.meaning.specs.Tree.{root, ◌▹◌}
+use Rattle.theory.specs.Tree.{root, ◌▹◌}
 use Rattle.meaning.specs.Model.{Belongs, ModelEdge, fact, child, parent, individuals, Element, Typed, named, first, second, FactEdge, Contradiction, at-element, at_pair}
 use Rattle.meaning.specs.Clash.{Alive, sprouts, grows, Clash, individual-clash, unnamed-clash, fact-clash, down-clash, up-clash}
 use Rattle.meaning.proofs.ModelLaws.{born}

@@ -6,7 +6,7 @@ use Rattle.kinds.specs.Kinds.{inverse}
 use Rattle.laws.specs.Member.{◌∈◌}
 use Rattle.meaning.specs.Collection.{Collection, NumbersDeclared}
 use Rattle.meaning.specs.Orders.{ConceptLe}
-use Rattle.meaning.specs.Tree.{root, ◌▹◌}
+use Rattle.theory.specs.Tree.{root, ◌▹◌}
 use Rattle.meaning.specs.Model.{Has, Belongs, bare, grown, fact, child, parent, individuals, Element, Contradiction, at-element, at_pair}
 use Rattle.meaning.specs.LawsOfModel.{NothingExcluded}
 use Rattle.meaning.proofs.ModelLaws.{has_above}

@@ -15,7 +15,7 @@ use Rattle.laws.specs.Member.{◌∈◌, map-in, map-out}
 use Rattle.laws.specs.Numbers.{numbered, numbered-in, numbered-out, length-numbered}
 use Rattle.meaning.specs.Collection.{Collection, role, test, step, NumbersDeclared, RoleStep, TestStep}
 use Rattle.meaning.specs.Orders.{RoleLe, ConceptLe, same, then, rule, turned, wider}
-use Rattle.meaning.specs.Kind.{Sane}
+use Rattle.theory.specs.Kind.{Sane}
 use Rattle.meaning.specs.Lite.{signed_roles, valid_concepts, declared_states, lite}
 
 module _ (c : Counts) where

@@ -68,7 +68,7 @@ turned s = record {
     turned_last h = record { long = sym h.long; fields = λ j k i l. sym (h.fields j k i (rw h.long l)) }
 
 -- test 5 says the same of both
-shapes_kept : {t u : Tables} → SameButDeeds t u → ShapesOk t → ShapesOk u
+pub shapes_kept : {t u : Tables} → SameButDeeds t u → ShapesOk t → ShapesOk u
 shapes_kept s h = record {
   concept-rules = rw (← s.concept-rules) h.concept-rules;
   concept-exclusions = rw (← s.concept-exclusions) h.concept-exclusions;

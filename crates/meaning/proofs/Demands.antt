@@ -8,16 +8,16 @@ use Rattle.kinds.specs.declared.Counts.{Counts}
 use Rattle.kinds.specs.Kinds.{CountsFit, StateDeclared, ConceptDeclared}
 use Rattle.kinds.specs.Answer.{answer_number}
 use Rattle.meaning.specs.Collection.{Collection, WellFormed}
-use Rattle.meaning.specs.Sheet.{Mark, Needed}
-use Rattle.meaning.proofs.SheetLaws.{rounds-unique, mark→loop, loop→mark}
-use Rattle.meaning.specs.Tree.{root}
+use Rattle.theory.specs.Sheet.{Mark, Needed}
+use Rattle.theory.proofs.SheetLaws.{rounds-unique, mark→loop, loop→mark}
+use Rattle.theory.specs.Tree.{root}
 use Rattle.meaning.specs.Lite.{lite}
 use Rattle.meaning.specs.Model.{tree_of}
 use Rattle.meaning.specs.Question.{PathIn}
 use Rattle.meaning.proofs.AskLaws.{ask↔word, ask-grows}
 use Rattle.meaning.proofs.ModelWalk.{loop↔tree_of}
 use Rattle.meaning.proofs.Declared.{concepts-count, states-count, state-in, concept-in, lite-sane}
-use Rattle.meaning.proofs.Tests.{rounds-bound}
+use Rattle.theory.proofs.Tests.{rounds-bound}
 use Rattle.meaning.proofs.LiteTests.{lite_tests, lite-decides}
 use Rattle.meaning.specs.Lent.{Call, collection_of, Sound}
 use Rattle.meaning.specs.Outcome.{Outcome, bad-count, bad-table, bad-number, bad-ask, contradiction, spent, says-yes, says-no, Breaks, Reached, RoundsNeeded}

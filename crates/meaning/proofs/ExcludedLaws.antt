@@ -16,8 +16,8 @@ use Rattle.kinds.specs.Kinds.{IndividualDeclared}
 use Rattle.laws.specs.Member.{◌∈◌}
 use Rattle.meaning.specs.Collection.{Collection, Each, NumbersDeclared, WellFormed}
 use Rattle.meaning.specs.Orders.{ConceptLe, same, then, rule, wider}
-use Rattle.meaning.specs.Tree.{root, ◌▹◌}
-use Rattle.meaning.specs.Run.{stop, go}
+use Rattle.theory.specs.Tree.{root, ◌▹◌}
+use Rattle.theory.specs.Run.{stop, go}
 use Rattle.meaning.specs.Model.{Has, Belongs, bare, grown, ModelEdge, fact, child, parent, individuals, Element, canonical, Typed, named, first, second, FactEdge, ahead, behind, Contradiction, at-element, at_pair}
 use Rattle.meaning.specs.Question.{along-role, at_name, PathIn, Yes}
 use Rattle.meaning.specs.Leaving.{Leaves}

@@ -7,8 +7,8 @@ use Rattle.kinds.specs.declared.Concept.TheVariants.{Name, Exists}
 use Rattle.kinds.specs.Kinds.{inverse, inverse-inverse, inverse-forward, forward}
 use Rattle.meaning.specs.Collection.{Collection, NumbersDeclared}
 use Rattle.meaning.specs.Orders.{RoleLe, ConceptLe, same, then, rule, turned, wider}
-use Rattle.meaning.specs.Tree.{root, ◌▹◌}
-use Rattle.meaning.specs.Run.{Run, stop, go, one, carry}
+use Rattle.theory.specs.Tree.{root, ◌▹◌}
+use Rattle.theory.specs.Run.{Run, stop, go, one, carry}
 use Rattle.meaning.specs.Model.{Has, Belongs, bare, ModelEdge, fact, child, parent, individuals, Element, Typed, named, first, second, FactEdge, ahead, behind, canonical, Contradiction, at-element, at_pair}
 use Rattle.meaning.proofs.ModelLaws.{born, edge-back, edge-above, edge-has, has-neighbour, concept-fact-holds, role-fact-holds, concept-rule-kept}
 use Rattle.meaning.specs.Question.{Going, along-role, at_name, Yes}

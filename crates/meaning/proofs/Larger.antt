@@ -8,14 +8,14 @@ use Rattle.kinds.specs.declared.Concept.TheVariants.{Name, Exists}
 use Rattle.kinds.specs.Kinds.{IndividualDeclared}
 use Rattle.meaning.specs.Collection.{Collection, step, role, WellFormed}
 use Rattle.meaning.specs.Orders.{RoleLe, ConceptLe, same, then, rule, turned, wider}
-use Rattle.meaning.specs.Tree.{root, ◌▹◌}
+use Rattle.theory.specs.Tree.{root, ◌▹◌}
 use Rattle.meaning.specs.Model.{Has, Belongs, bare, grown, ModelEdge, fact, child, parent, individuals, canonical, Element, Typed, named, first, second, IndividualHas, FactEdge, ahead, behind, Contradiction, at-element, at_pair}
-use Rattle.meaning.specs.Run.{Run, one, carry}
+use Rattle.theory.specs.Run.{Run, one, carry}
 use Rattle.meaning.specs.Question.{Going, along-role, at_name, Yes}
 use Rattle.meaning.specs.Leaving.{Leaves}
-use Rattle.meaning.specs.Grows.{Grows}
+use Rattle.theory.specs.Grows.{Grows}
 use Rattle.meaning.specs.Demands.{Larger}
-use Rattle.meaning.proofs.Growth.{walk-grows}
+use Rattle.theory.proofs.GrowthLaws.{walk-grows}
 use Rattle.meaning.specs.Lite.{lite}
 use Rattle.meaning.specs.Walk.{Near, IndividualsWalk}
 use Rattle.meaning.proofs.ModelWalk.{path↔individuals-walk}

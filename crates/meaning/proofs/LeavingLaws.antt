@@ -6,19 +6,19 @@ use Rattle.kinds.specs.declared.SignedRole.{SignedRole}
 use Rattle.kinds.specs.Kinds.{IndividualDeclared}
 use Rattle.laws.specs.Member.{◌∈◌}
 use Rattle.meaning.specs.Collection.{Collection, WellFormed}
-use Rattle.meaning.specs.Run.{stop, one, carry}
-use Rattle.meaning.specs.Tree.{Elem, root}
+use Rattle.theory.specs.Run.{stop, one, carry}
+use Rattle.theory.specs.Tree.{Elem, root}
 use Rattle.meaning.specs.Model.{Roots, bare, grown_from, individuals, canonical}
 use Rattle.meaning.specs.Question.{PathIn, Yes}
 use Rattle.meaning.specs.Leaving.{Leaves, SpellsFrom}
 use Rattle.meaning.specs.Lite.{lite}
-use Rattle.meaning.specs.Onward.{WalksOut}
+use Rattle.theory.specs.Onward.{WalksOut}
 use Rattle.meaning.specs.Walk.{Near, IndividualsWalkOut}
 use Rattle.meaning.proofs.QuestionLaws.{path→word, word→path}
 use Rattle.meaning.proofs.ModelMoves.{to-move}
 use Rattle.meaning.proofs.ModelPaths.{RootsKeep, from-moves}
 use Rattle.meaning.proofs.ModelWalk.{individuals-keep}
-use Rattle.meaning.proofs.Onward.{out↔path}
+use Rattle.theory.proofs.Onward.{out↔path}
 
 -- THEOREM: a path leaves an individual exactly when some path from it spells a word of the question
 pub leaves↔word : (𝓒 : Collection) (a : Individual) → Leaves 𝓒 a ↔ SpellsFrom 𝓒 a

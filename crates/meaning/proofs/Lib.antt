@@ -1,7 +1,4 @@
 -- Theorems about the definitions.
-pub mod SheetLaws
-pub mod Growth
-pub mod MarksGrow
 pub mod RoleTurned
 pub mod Least
 pub mod ModelLaws
@@ -9,7 +6,6 @@ pub mod ModelMoves
 pub mod ModelPaths
 pub mod ModelWalk
 pub mod QuestionLaws
-pub mod Onward
 pub mod LeavingLaws
 pub mod Clash
 pub mod ClashShown
@@ -21,21 +17,18 @@ pub mod Declared
 pub mod RoundLaws
 pub mod RoundFrom
 -- Calculation: the same as tests that compute, and that they say what the definitions say.
-pub mod Tests
 pub mod LiteTests
 pub mod LiteSheet
-pub mod OnwardTests
 pub mod Reply
 pub mod ReplyLaws
 pub mod ClashLaws
 pub mod LayoutLaws
-pub mod BytesLaws
 pub mod AreaLaws
-pub mod MarksLaws
 pub mod LiteMarks
 pub mod Calculate
 pub mod CalculateLaws
--- What follows from both: one outcome for every input, the demands, the worked cases.
+pub mod BytesLaws
+-- What follows from both: one outcome for every input, and the demands.
 pub mod OutcomeExists
 pub mod OutcomeLaws
 pub mod Demands
@@ -43,4 +36,3 @@ pub mod Repeated
 pub mod DeedLaws
 pub mod ExcludedLaws
 pub mod WorldsSay
-pub mod CasesHold

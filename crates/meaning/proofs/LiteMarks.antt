@@ -18,18 +18,19 @@ use Rattle.laws.specs.Search.{and_both, pick}
 use Rattle.laws.specs.Select.{select, select_in, select-out, rises_from, rising}
 use Rattle.laws.specs.Distinct.{Distinct, distinct-both, distinct-long, distinct-map, distinct-numbered, rising-distinct}
 use Rattle.meaning.specs.Collection.{Collection, WellFormed}
-use Rattle.meaning.specs.Sheet.{Needed}
-use Rattle.meaning.specs.Marks.{Stands, Adds, RoundCounts}
+use Rattle.theory.specs.Sheet.{Needed}
+use Rattle.theory.specs.Marks.{Stands, Adds, RoundCounts}
 use Rattle.meaning.specs.Lite.{signed_roles, valid_concepts, declared_states, lite}
 use Rattle.meaning.specs.Layout.{place, place_count, bit_in, Lays, Ones, Standing}
 use Rattle.meaning.specs.Demands.{most_rounds}
 use Rattle.meaning.specs.LawsOfSheet.{Marked}
-use Rattle.meaning.specs.LawsOfMarks.{Countable, first_marks}
+use Rattle.theory.specs.LawsOfMarks.{Countable}
+use Rattle.meaning.specs.LawsOfMarks.{first_marks}
 use Rattle.meaning.proofs.Declared.{concepts-count, states-count, lite-sane}
 use Rattle.meaning.proofs.LiteTests.{lite_tests, lite-decides}
 use Rattle.meaning.proofs.LayoutLaws.{place-once, bit_past}
 use Rattle.meaning.proofs.RoundLaws.{marked-valid}
-use Rattle.meaning.proofs.MarksLaws.{adds-few, stands-sum, counts-make-sheet, counts-most}
+use Rattle.theory.proofs.MarksLaws.{adds-few, stands-sum, counts-make-sheet, counts-most}
 
 -- one number of marks stands in an area
 ones-long : (area x y : List ℕ) → Ones area x → Ones area y → length x ≡ length y

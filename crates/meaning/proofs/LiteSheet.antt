@@ -4,12 +4,12 @@ use Rattle.kinds.specs.declared.State.{State}
 use Rattle.kinds.specs.declared.Concept.{Concept}
 use Rattle.laws.specs.Member.{◌∈◌}
 use Rattle.meaning.specs.Collection.{Collection, NumbersDeclared}
-use Rattle.meaning.specs.Sheet.{Markable, Mark, Needed}
-use Rattle.meaning.proofs.SheetLaws.{mark→loop, loop→mark}
-use Rattle.meaning.specs.Tree.{Loop}
+use Rattle.theory.specs.Sheet.{Markable, Mark, Needed}
+use Rattle.theory.proofs.SheetLaws.{mark→loop, loop→mark}
+use Rattle.theory.specs.Tree.{Loop}
 use Rattle.meaning.specs.Lite.{lite, valid_concepts, declared_states}
 use Rattle.meaning.proofs.Declared.{lite-sane}
-use Rattle.meaning.proofs.Tests.{sheet, work, after, after_is, mark-in, mark-out, sheet-to, works}
+use Rattle.theory.proofs.Tests.{sheet, work, after, after_is, mark-in, mark-out, sheet-to, works}
 use Rattle.meaning.proofs.LiteTests.{lite_tests, lite-decides}
 
 -- the sheet after n rounds; the same with a memory of what was computed; the rounds needed and the closed sheet

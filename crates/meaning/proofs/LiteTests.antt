@@ -18,7 +18,7 @@ use Rattle.meaning.specs.Orders.{RoleLe, ConceptLe, same, then, rule, turned, wi
 use Rattle.meaning.specs.Lite.{signed_roles, valid_concepts, lite}
 use Rattle.meaning.proofs.Declared.{signed-in, signed-out, concept-in, concept-out, role-declared, concept-declared}
 use Rattle.meaning.proofs.RoleTurned.{inverses-follow}
-use Rattle.meaning.specs.Tests.{Tests, AreTestsOf}
+use Rattle.theory.specs.Tests.{Tests, AreTestsOf}
 
 -- equality of each kind
 abbrev pub same_name : ConceptName → ConceptName → Bool

@@ -11,7 +11,7 @@ use Rattle.kinds.specs.Kinds.{inverse, inverse-inverse, inverse-forward, forward
 use Rattle.laws.specs.Member.{◌∈◌}
 use Rattle.meaning.specs.Collection.{Collection}
 use Rattle.meaning.specs.Orders.{RoleLe, ConceptLe, same, then, rule, turned, wider}
-use Rattle.meaning.specs.Tree.{Elem, root, ◌▹◌}
+use Rattle.theory.specs.Tree.{Elem, root, ◌▹◌}
 use Rattle.meaning.specs.Model.{Roots, Has, Belongs, bare, grown, ModelEdge, fact, child, parent, individuals, Element, named, first, second, IndividualHas, FactEdge, ahead, behind, Contradiction, at_pair}
 use Rattle.meaning.specs.LawsOfModel.{followed, JoinedToItself}
 use Rattle.meaning.proofs.RoleTurned.{turn}

@@ -7,7 +7,7 @@ use Rattle.kinds.specs.declared.Concept.TheVariants.{Exists}
 use Rattle.kinds.specs.Kinds.{inverse}
 use Rattle.meaning.specs.Collection.{Collection}
 use Rattle.meaning.specs.Orders.{ConceptLe, same}
-use Rattle.meaning.specs.Tree.{Elem, root, ◌▹◌, Holds, Move, tests, downs, ups, hops}
+use Rattle.theory.specs.Tree.{Elem, root, ◌▹◌, Holds, Move, tests, downs, ups, hops}
 use Rattle.meaning.specs.Model.{Roots, Has, fact, child, parent, grown_from}
 use Rattle.meaning.proofs.ModelLaws.{born}
 use Rattle.meaning.specs.Question.{Going, along-role, at_name}

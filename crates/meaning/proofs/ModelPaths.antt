@@ -7,8 +7,8 @@ use Rattle.kinds.specs.declared.Concept.TheVariants.{Name, Exists}
 use Rattle.kinds.specs.Kinds.{inverse}
 use Rattle.meaning.specs.Collection.{Collection}
 use Rattle.meaning.specs.Orders.{ConceptLe}
-use Rattle.meaning.specs.Run.{Run, stop, go, one, carry}
-use Rattle.meaning.specs.Tree.{Elem, root, ◌▹◌, Holds, Move, tests, downs, ups, hops, Stride, path↔walk}
+use Rattle.theory.specs.Run.{Run, stop, go, one, carry}
+use Rattle.theory.specs.Tree.{Elem, root, ◌▹◌, Holds, Move, tests, downs, ups, hops, Stride, path↔walk}
 use Rattle.meaning.specs.Model.{Roots, Has, Belongs, bare, grown, fact, child, parent, grown_from}
 use Rattle.meaning.proofs.ModelLaws.{born}
 use Rattle.meaning.specs.Question.{along-role, at_name, PathIn}

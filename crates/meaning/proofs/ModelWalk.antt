@@ -7,8 +7,8 @@ use Rattle.kinds.specs.declared.Concept.{Concept}
 use Rattle.kinds.specs.Kinds.{IndividualDeclared}
 use Rattle.meaning.specs.Collection.{Collection, WellFormed}
 use Rattle.meaning.specs.Orders.{ConceptLe, same, then}
-use Rattle.meaning.specs.Run.{Run, stop, go, one}
-use Rattle.meaning.specs.Tree.{root, Loop, here, tested, twice, below, Stride, along, by}
+use Rattle.theory.specs.Run.{Run, stop, go, one}
+use Rattle.theory.specs.Tree.{root, Loop, here, tested, twice, below, Stride, along, by}
 use Rattle.meaning.specs.Model.{individuals, canonical, only, tree_of, FactEdge, ahead, behind}
 use Rattle.meaning.specs.Question.{PathIn}
 use Rattle.meaning.specs.Lite.{lite}

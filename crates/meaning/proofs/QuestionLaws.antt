@@ -3,7 +3,7 @@ use Rattle.std.specs.Prelude.{◌↔◌, List, [], ◌∷◌}
 use Rattle.kinds.specs.declared.Individual.{Individual}
 use Rattle.kinds.specs.declared.State.{State}
 use Rattle.meaning.specs.Collection.{Collection, Letter, role, test}
-use Rattle.meaning.specs.Run.{stop, go}
+use Rattle.theory.specs.Run.{stop, go}
 use Rattle.meaning.specs.Model.{Structure, canonical}
 use Rattle.meaning.specs.Question.{Spells, by-role, by_name, along-role, at_name, PathIn, Yes, Reads, letter, SpellsWord}
 

@@ -7,14 +7,14 @@ use Rattle.kinds.specs.declared.Answer.{Answer}
 use Rattle.laws.specs.Member.{◌∈◌}
 use Rattle.laws.specs.Rounds.{least-same}
 use Rattle.meaning.specs.Collection.{Collection}
-use Rattle.meaning.specs.Sheet.{Mark, Unchanged, Needed}
+use Rattle.theory.specs.Sheet.{Mark, Unchanged, Needed}
 use Rattle.meaning.specs.Lite.{lite}
 use Rattle.meaning.specs.Lent.{Call, Tables, collection, collection_of, NumbersFit, TablesOk, Sound}
 use Rattle.meaning.specs.Layout.{Lays}
 use Rattle.meaning.specs.Outcome.{Outcome, bad-count, bad-table, bad-number, bad-ask, contradiction, spent, says-yes, says-no, Breaks, Reached}
 use Rattle.meaning.specs.Demands.{Larger}
 use Rattle.meaning.specs.SameSets.{step_kinds, SameSets}
-use Rattle.meaning.proofs.MarksGrow.{mark-grows}
+use Rattle.theory.proofs.MarksGrow.{mark-grows}
 use Rattle.meaning.proofs.Larger.{lite-grows, contradiction-grows}
 use Rattle.meaning.proofs.AskLaws.{ask-grows}
 use Rattle.meaning.proofs.OutcomeExists.{sound-well-formed}

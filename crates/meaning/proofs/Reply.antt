@@ -18,7 +18,7 @@ use Rattle.laws.specs.Numbers.{numbered}
 use Rattle.laws.specs.Chain.{closed}
 use Rattle.meaning.specs.Collection.{Collection}
 use Rattle.meaning.specs.Lite.{signed_roles, valid_concepts, declared_states, lite}
-use Rattle.meaning.proofs.OnwardTests.{onward}
+use Rattle.theory.proofs.OnwardTests.{onward}
 use Rattle.meaning.proofs.LiteTests.{same_individual, same_state, same_role, same_concept, leads, role_letter, role_le, concept_le, lite_tests}
 
 unfoldable pub declared_individuals : Counts → List Individual

@@ -21,17 +21,17 @@ use Rattle.laws.specs.Pairs.{pairs, pairs-in, pairs-out}
 use Rattle.laws.specs.Numbers.{numbered-in, numbered-out}
 use Rattle.laws.specs.Chain.{Chain, link, chain, closed_in, closed-out}
 use Rattle.meaning.specs.Collection.{Collection, WellFormed}
-use Rattle.meaning.specs.Run.{stop, go, one, join}
-use Rattle.meaning.specs.Tree.{Loop, here, tested, twice, below, along, by}
+use Rattle.theory.specs.Run.{stop, go, one, join}
+use Rattle.theory.specs.Tree.{Loop, here, tested, twice, below, along, by}
 use Rattle.meaning.specs.Lite.{valid_concepts, declared_states, lite}
 use Rattle.meaning.specs.Model.{Typed, named, first, second, IndividualHas, FactEdge, ahead, behind}
 use Rattle.meaning.specs.Question.{Yes}
 use Rattle.meaning.specs.Leaving.{Leaves}
 use Rattle.meaning.specs.Asks.{IsYes}
-use Rattle.meaning.specs.Onward.{LeadsOn}
+use Rattle.theory.specs.Onward.{LeadsOn}
 use Rattle.meaning.specs.Walk.{IndividualsWalk, IndividualsWalkOut}
 use Rattle.meaning.proofs.LeavingLaws.{leaves↔walk}
-use Rattle.meaning.proofs.OnwardTests.{onward-is}
+use Rattle.theory.proofs.OnwardTests.{onward-is}
 use Rattle.meaning.proofs.ModelWalk.{edge-declared, path↔individuals-walk}
 use Rattle.meaning.proofs.Declared.{concept-in, state-in, concept-declared, role-step-to, test-step-to, lite-sane}
 use Rattle.meaning.proofs.LiteTests.{same_individual, same_state, same_concept, individual-same, state-same, concept-same, leads, role_letter, role_le, role_le-in, role_le-out, concept_le, concept_le-in, concept_le-out, role-step-in, role-step-out, lite_tests, lite-decides}

@@ -4,7 +4,7 @@ use Rattle.kinds.specs.declared.State.{State}
 use Rattle.kinds.specs.declared.Concept.{Concept}
 use Rattle.meaning.specs.Collection.{Collection}
 use Rattle.meaning.specs.Lite.{lite}
-use Rattle.meaning.specs.Sheet.{Round, kept, tested, joined, hung, Mark}
+use Rattle.theory.specs.Sheet.{Round, kept, tested, joined, hung, Mark}
 use Rattle.meaning.specs.LawsOfSheet.{Marked, Before, stood, by-test, by-meeting, by-child}
 
 module _ (𝓒 : Collection) where

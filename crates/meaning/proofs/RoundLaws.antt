@@ -4,10 +4,10 @@ use Rattle.kinds.specs.declared.State.{State}
 use Rattle.kinds.specs.declared.Concept.{Concept}
 use Rattle.meaning.specs.Collection.{Collection}
 use Rattle.meaning.specs.Lite.{lite}
-use Rattle.meaning.specs.Sheet.{Markable, hung}
+use Rattle.theory.specs.Sheet.{Markable, hung}
 use Rattle.meaning.specs.LawsOfSheet.{Marked, Valid, ByChild}
 use Rattle.meaning.proofs.Declared.{state-in, state-out, concept-in, concept-out}
-use Rattle.meaning.proofs.SheetLaws.{mark-markable}
+use Rattle.theory.proofs.SheetLaws.{mark-markable}
 
 module _ (𝓒 : Collection) where
   pub valid-out : {s t : State} {B : Concept} → Markable (lite 𝓒) s t B → Valid 𝓒 s t B

@@ -9,8 +9,8 @@ use Rattle.kinds.specs.Kinds.{inverse, inverse-inverse, IndividualDeclared}
 use Rattle.laws.specs.Truth.{test-equals, test-false}
 use Rattle.meaning.specs.Collection.{Collection, WellFormed}
 use Rattle.meaning.specs.Orders.{RoleLe, ConceptLe}
-use Rattle.meaning.specs.Run.{stop, go, one, carry}
-use Rattle.meaning.specs.Tree.{root, ◌▹◌}
+use Rattle.theory.specs.Run.{stop, go, one, carry}
+use Rattle.theory.specs.Tree.{root, ◌▹◌}
 use Rattle.meaning.specs.Model.{Has, Belongs, ModelEdge, individuals, Element, canonical, Contradiction}
 use Rattle.meaning.specs.StraightBack.{GoesBack, Lean, bare, grown, LeanEdge, fact, child, parent, lean_model, LeanContradiction, at-element, at_pair, LeanYes}
 use Rattle.meaning.proofs.ModelLaws.{born, has_above}

@@ -3,7 +3,7 @@
 use Rattle.std.specs.Prelude.{◌≡◌, ◌↔◌, List, ℕ, ◌^◌, ◌≤◌, ◌<◌, length, slice_index}
 use Rattle.kinds.specs.declared.State.{State}
 use Rattle.kinds.specs.declared.Concept.{Concept}
-use Rattle.meaning.specs.Collection.{Collection}
+use Rattle.meaning.specs.Collection.{Collection, WellFormed}
 use Rattle.meaning.specs.Layout.{place_count, byte_bits, area_length, bit_in, IsPlaceOf, Lays}
 use Rattle.meaning.specs.LawsOfSheet.{Marked}
 
@@ -38,6 +38,18 @@ module _ (f : State → State → Concept → Type 0) where
 abbrev pub SameAfterRounds : Type 0
 SameAfterRounds = (𝓒 : Collection) (n : ℕ) (wide area : List ℕ)
     → LaysBytes (Marked 𝓒 n) wide → Lays (Marked 𝓒 n) area ↔ SamePlaces wide area
+
+-- bytes and an area that both hold the sheet of a collection after n rounds, place by place the same
+pub record BothLayouts (𝓒 : Collection) (n : ℕ) : Type 0 where
+  pub wide : List ℕ
+  pub area : List ℕ
+  pub bytes-hold : LaysBytes (Marked 𝓒 n) wide
+  pub bits-hold : Lays (Marked 𝓒 n) area
+  pub same : SamePlaces wide area
+
+-- after every round of a collection there are such
+abbrev pub BothThere : Type 0
+BothThere = (𝓒 : Collection) → WellFormed 𝓒 → (n : ℕ) → BothLayouts 𝓒 n
 
 -- each of the two determines the other
 abbrev pub BitsOnce : Type 0

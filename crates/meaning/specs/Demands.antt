@@ -21,11 +21,15 @@ Enough c = (n : ℕ) × RoundsNeeded c n × (n ≤ c.allowance)
 abbrev pub Spelled : Call → Type 0
 Spelled c = IsSpelled (collection_of c) c.ask
 
--- contradiction when the model breaks an exclusion, otherwise yes when such a path is there
-pub record AsModelSays (c : Call) (r : Answer) : Type 0 where
-  pub contradiction : (answer_number r ≡ 2) ↔ Breaks c
-  pub yes : (Breaks c → ⊥) → (answer_number r ≡ 1) ↔ Spelled c
-  pub no : (Breaks c → ⊥) → (answer_number r ≡ 0) ↔ (Spelled c → ⊥)
+-- the number that answers a call: contradiction exactly when the model breaks an exclusion, and
+-- otherwise yes exactly when the path is there that is asked for
+pub record NumberSays (c : Call) (Path : Type 0) (number : ℕ) : Type 0 where
+  pub contradiction : (number ≡ 2) ↔ Breaks c
+  pub yes : (Breaks c → ⊥) → (number ≡ 1) ↔ Path
+  pub no : (Breaks c → ⊥) → (number ≡ 0) ↔ (Path → ⊥)
+
+abbrev pub AsModelSays : Call → Answer → Type 0
+AsModelSays c r = NumberSays c (Spelled c) (answer_number r)
 
 -- a larger collection: the same start state, and every record of the first
 pub record Larger (𝓒 𝓓 : Collection) : Type 0 where
@@ -44,12 +48,15 @@ pub record GrowsTo (c d : Call) : Type 0 where
   pub larger : Larger (collection_of c) (collection_of d)
   pub ask : c.ask ≡ d.ask
 
--- its answer q keeps a yes of r or turns it into contradiction, keeps a contradiction, and its no
--- was a no before
-pub record Grown (r q : Answer) : Type 0 where
-  pub yes-kept : answer_number r ≡ 1 → (answer_number q ≡ 1) ⊎ (answer_number q ≡ 2)
-  pub contradiction-kept : answer_number r ≡ 2 → answer_number q ≡ 2
-  pub no-before : answer_number q ≡ 0 → answer_number r ≡ 0
+-- the number that answers the second call keeps a yes or turns it into contradiction, keeps a
+-- contradiction, and where it is no the first was no
+pub record NumberGrown (first second : ℕ) : Type 0 where
+  pub yes-kept : first ≡ 1 → (second ≡ 1) ⊎ (second ≡ 2)
+  pub contradiction-kept : first ≡ 2 → second ≡ 2
+  pub no-before : second ≡ 0 → first ≡ 0
+
+abbrev pub Grown : Answer → Answer → Type 0
+Grown r q = NumberGrown (answer_number r) (answer_number q)
 
 -- the same call with another allowance
 abbrev pub allowed : Call → ℕ → Call

@@ -1,19 +1,16 @@
--- Laws of a library call's outcome, of growth, and the cases worked on paper.
-use Rattle.std.specs.Prelude.{◌≡◌, ◌≢◌, List, ℕ, ◌≤◌, length}
+-- Laws of a library call's outcome, and of growth.
+use Rattle.std.specs.Prelude.{◌≡◌, ◌≢◌, List, ℕ, ◌≤◌}
 use Rattle.kinds.specs.declared.Individual.{Individual}
 use Rattle.kinds.specs.declared.Answer.{Answer}
 use Rattle.kinds.specs.Kinds.{IndividualDeclared}
 use Rattle.kinds.specs.Answer.{answer_number}
-use Rattle.laws.specs.Member.{◌∈◌}
 use Rattle.meaning.specs.Collection.{Collection, WellFormed}
 use Rattle.meaning.specs.Model.{Contradiction}
 use Rattle.meaning.specs.Question.{Yes}
 use Rattle.meaning.specs.Leaving.{Leaves}
 use Rattle.meaning.specs.Lent.{Call, Sound}
-use Rattle.meaning.specs.Layout.{area_length}
 use Rattle.meaning.specs.Outcome.{Outcome}
 use Rattle.meaning.specs.Demands.{most_rounds, Enough, AsModelSays, Larger, GrowsTo, Grown, allowed}
-use Rattle.meaning.specs.Cases.{Case, cases, Says}
 
 -- every input gets one of the listed answers, 0 to 8 but never 7,
 abbrev pub EveryInputAnswered : Type 0
@@ -60,9 +57,3 @@ LeavesGrows = (𝓒 𝓓 : Collection) → Larger 𝓒 𝓓 → WellFormed 𝓒 
 abbrev pub AnswerReturns : Type 0
 AnswerReturns = (c : Call) (n : ℕ) → c.allowance ≤ n → (r : Answer) (x y : List ℕ)
     → Outcome c r x y → answer_number r ≤ 2 → Outcome (allowed c n) r x y
-
--- the cases worked on paper: whatever two areas of the right length hold, each row's call has the
--- outcome that the row says: its number, its count, and so many marks in the first area
-abbrev pub CasesHold : Type 0
-CasesHold = (area spare : List ℕ) → length area ≡ area_length → length spare ≡ area_length
-    → (k : Case) → k ∈ cases → Says area spare k

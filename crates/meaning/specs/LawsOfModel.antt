@@ -12,7 +12,7 @@ use Rattle.kinds.specs.Kinds.{inverse, forward, backward, IndividualDeclared}
 use Rattle.laws.specs.Member.{◌∈◌}
 use Rattle.meaning.specs.Collection.{Collection, RoleStep, TestStep, NumbersDeclared, WellFormed}
 use Rattle.meaning.specs.Orders.{RoleLe, ConceptLe}
-use Rattle.meaning.specs.Tree.{root, ◌▹◌}
+use Rattle.theory.specs.Tree.{root, ◌▹◌}
 use Rattle.meaning.specs.Model as model
 use Rattle.meaning.specs.Model.{Element, individuals, canonical, Contradiction}
 use Rattle.meaning.specs.Question.{PathIn, Yes, SpellsWord}

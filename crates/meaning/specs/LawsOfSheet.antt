@@ -1,6 +1,5 @@
--- Laws of the loop sheet: of any rules' kind, then of a collection's, and of the area that holds
--- it.
-use Rattle.std.specs.Prelude.{◌≡◌, ◌↔◌, List, ℕ, suc, ◌+◌, ◌*◌, ◌-◌, ◌≤◌, length}
+-- Laws of a collection's loop sheet, and of the area that holds it.
+use Rattle.std.specs.Prelude.{◌≡◌, ◌↔◌, List, ℕ, suc, ◌+◌, ◌*◌, ◌≤◌, length}
 use Rattle.kinds.specs.declared.ConceptName.{ConceptName}
 use Rattle.kinds.specs.declared.State.{State}
 use Rattle.kinds.specs.declared.SignedRole.{SignedRole}
@@ -8,53 +7,15 @@ use Rattle.kinds.specs.declared.Concept.{Concept}
 use Rattle.kinds.specs.declared.Concept.TheVariants.{Name, Exists}
 use Rattle.kinds.specs.declared.Counts.{Counts}
 use Rattle.kinds.specs.Kinds.{inverse, CountsFit, StateDeclared, ConceptDeclared}
-use Rattle.laws.specs.Member.{◌∈◌}
 use Rattle.meaning.specs.Collection.{Collection, RoleStep, TestStep, WellFormed}
 use Rattle.meaning.specs.Orders.{RoleLe, ConceptLe}
-use Rattle.meaning.specs.Tree.{root, Tree}
+use Rattle.theory.specs.Tree.{root}
 use Rattle.meaning.specs.Model.{tree_of}
 use Rattle.meaning.specs.Question.{PathIn}
-use Rattle.meaning.specs.Kind.{Kind, Sane}
-use Rattle.meaning.specs.Tests.{Tests, AreTestsOf}
-use Rattle.meaning.specs.Sheet.{Mark, Needed, Closed}
+use Rattle.theory.specs.Sheet.{Mark, Needed}
 use Rattle.meaning.specs.Lite.{valid_concepts, lite}
 use Rattle.meaning.specs.Layout.{place, bit_in, Lays}
 use Rattle.meaning.specs.Demands.{most_rounds}
-
-module _ (𝓚 : Kind) where
-  -- a mark of a round stands in every later one
-  abbrev pub MarksStay : Type 0
-  MarksStay = (m n : ℕ) → n ≤ m → (s t : 𝓚.State) (B : 𝓚.Concept) → Mark 𝓚 n s t B
-      → Mark 𝓚 m s t B
-
-  -- the rounds needed are one number
-  abbrev pub RoundsOnce : Type 0
-  RoundsOnce = (m n : ℕ) → Needed 𝓚 m → Needed 𝓚 n → m ≡ n
-
-  -- after them the sheet no longer changes
-  abbrev pub SheetStays : Type 0
-  SheetStays = (n : ℕ) → Needed 𝓚 n → (m : ℕ) → n ≤ m → (s t : 𝓚.State) (B : 𝓚.Concept)
-      → Mark 𝓚 m s t B ↔ Mark 𝓚 n s t B
-
-  -- the sheet after them is closed
-  abbrev pub SheetClosed : Type 0
-  SheetClosed = (n : ℕ) → Needed 𝓚 n → Closed 𝓚 (Mark 𝓚 n)
-
-  -- and the smallest closed one: each mark of every round stands in each closed sheet f
-  abbrev pub SheetLeast : (𝓚.State → 𝓚.State → 𝓚.Concept → Type 0) → Type 0
-  SheetLeast f = Closed 𝓚 f → (n : ℕ) (s t : 𝓚.State) (B : 𝓚.Concept) → Mark 𝓚 n s t B → f s t B
-
-  -- a mark stands in it exactly when, in the tree grown from its concept, a path leads from the
-  -- root back to the root
-  abbrev pub MarkIsPath : Type 0
-  MarkIsPath = Sane 𝓚 → (n : ℕ) → Needed 𝓚 n → (s t : 𝓚.State) (B : 𝓚.Concept)
-      → s ∈ 𝓚.states → B ∈ 𝓚.concepts → Mark 𝓚 n s t B ↔ Tree 𝓚 (root B) s (root B) t
-
-  -- where tests decide the rules, rounds needed there are, and never more than
-  -- concepts × states × (states − 1)
-  abbrev pub RoundsBound : Type 0
-  RoundsBound = (𝓣 : Tests 𝓚) → AreTestsOf 𝓚 𝓣 → Sane 𝓚
-      → (n : ℕ) × (n ≤ length 𝓚.concepts * length 𝓚.states * (length 𝓚.states - 1)) × Needed 𝓚 n
 
 -- the sheet of a collection after n rounds
 abbrev pub Marked : Collection → ℕ → State → State → Concept → Type 0

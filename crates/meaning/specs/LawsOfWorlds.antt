@@ -3,7 +3,7 @@ use Rattle.std.specs.Prelude.{List, ℕ}
 use Rattle.kinds.specs.declared.Individual.{Individual}
 use Rattle.kinds.specs.declared.Answer.TheVariants.{No, Yes, Contradiction, AllowanceSpent}
 use Rattle.meaning.specs.Collection.{Collection, NumbersDeclared}
-use Rattle.meaning.specs.Tree.{root}
+use Rattle.theory.specs.Tree.{root}
 use Rattle.meaning.specs.Model as model
 use Rattle.meaning.specs.Question as question
 use Rattle.meaning.specs.Leaving.{LeavesIn, Leaves}

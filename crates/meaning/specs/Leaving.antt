@@ -5,7 +5,7 @@ use Rattle.kinds.specs.declared.Individual.{Individual}
 use Rattle.kinds.specs.declared.State.{State}
 use Rattle.laws.specs.Member.{◌∈◌}
 use Rattle.meaning.specs.Collection.{Collection, Letter}
-use Rattle.meaning.specs.Tree.{root}
+use Rattle.theory.specs.Tree.{root}
 use Rattle.meaning.specs.Model.{Structure, Element, canonical}
 use Rattle.meaning.specs.Question.{PathIn, Spells, Word}
 

@@ -175,7 +175,7 @@ pub record NumbersFit (c : Counts) (t : Tables) : Type 0 where
 abbrev pub NumbersOk : Call → Type 0
 NumbersOk c = NumbersFit c.counts c.tables
 
--- test 8: both asked individuals are declared
+-- test 8: each asked individual is declared, both of a pair
 abbrev pub AskOk : Call → Type 0
 AskOk c = AskDeclared c.counts c.ask
 

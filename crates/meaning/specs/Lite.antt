@@ -11,7 +11,7 @@ use Rattle.kinds.specs.Kinds.{inverse, concept_name, signed, state}
 use Rattle.laws.specs.Numbers.{numbered}
 use Rattle.meaning.specs.Collection.{Collection, RoleStep, TestStep}
 use Rattle.meaning.specs.Orders.{RoleLe, ConceptLe}
-use Rattle.meaning.specs.Kind.{Kind}
+use Rattle.theory.specs.Kind.{Kind}
 
 -- what is declared, in order
 unfoldable pub signed_roles : Counts → List SignedRole

@@ -10,7 +10,7 @@ use Rattle.kinds.specs.Kinds.{inverse, forward, backward, IndividualDeclared}
 use Rattle.laws.specs.Member.{◌∈◌}
 use Rattle.meaning.specs.Collection.{Collection}
 use Rattle.meaning.specs.Orders.{RoleLe, ConceptLe}
-use Rattle.meaning.specs.Tree.{Elem, root, ◌▹◌}
+use Rattle.theory.specs.Tree.{Elem, root, ◌▹◌}
 
 -- a structure: things, the names they have, the signed roles of an ordered pair
 pub record Structure : Type 1 where

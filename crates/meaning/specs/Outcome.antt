@@ -3,7 +3,7 @@
 use Rattle.std.specs.Prelude.{List, ℕ, ◌≤◌, ◌<◌}
 use Rattle.kinds.specs.declared.Answer.{Answer}
 use Rattle.kinds.specs.declared.Answer.TheVariants.{No, Yes, Contradiction, AllowanceSpent, BadCount, BadTable, BadNumber, BadAsk}
-use Rattle.meaning.specs.Sheet.{Mark, Needed}
+use Rattle.theory.specs.Sheet.{Mark, Needed}
 use Rattle.meaning.specs.Model as model
 use Rattle.meaning.specs.Asks.{IsYes}
 use Rattle.meaning.specs.Lite.{lite}

@@ -7,8 +7,8 @@ use Rattle.kinds.specs.declared.State.{State}
 use Rattle.kinds.specs.declared.SignedRole.{SignedRole}
 use Rattle.laws.specs.Member.{◌∈◌}
 use Rattle.meaning.specs.Collection.{Collection, Letter, role, test, step, RoleStep, TestStep}
-use Rattle.meaning.specs.Tree.{root}
-use Rattle.meaning.specs.Run.{Run}
+use Rattle.theory.specs.Tree.{root}
+use Rattle.theory.specs.Run.{Run}
 use Rattle.meaning.specs.Model.{Structure, canonical}
 
 -- a path from x to y spells a word by the labels of its steps

@@ -10,7 +10,7 @@ use Rattle.kinds.specs.Kinds.{inverse, IndividualDeclared}
 use Rattle.laws.specs.Member.{◌∈◌}
 use Rattle.meaning.specs.Collection.{Collection}
 use Rattle.meaning.specs.Orders.{RoleLe}
-use Rattle.meaning.specs.Tree.{root, ◌▹◌}
+use Rattle.theory.specs.Tree.{root, ◌▹◌}
 use Rattle.meaning.specs.Model.{Structure, Has, individuals, Element, FactEdge}
 use Rattle.meaning.specs.Question.{PathIn}
 

@@ -4,11 +4,11 @@ use Rattle.kinds.specs.declared.Individual.{Individual}
 use Rattle.kinds.specs.declared.State.{State}
 use Rattle.kinds.specs.declared.SignedRole.{SignedRole}
 use Rattle.meaning.specs.Collection.{Collection, RoleStep}
-use Rattle.meaning.specs.Run.{Run}
-use Rattle.meaning.specs.Tree.{Stride}
+use Rattle.theory.specs.Run.{Run}
+use Rattle.theory.specs.Tree.{Stride}
 use Rattle.meaning.specs.Model.{Roots, individuals}
 use Rattle.meaning.specs.Lite.{lite}
-use Rattle.meaning.specs.Onward.{WalksOut}
+use Rattle.theory.specs.Onward.{WalksOut}
 use Rattle.laws.specs.Member.{◌∈◌}
 
 -- a role step along an edge between roots

@@ -12,7 +12,7 @@ use Rattle.kinds.specs.declared.Concept.TheVariants.{Name, Exists}
 use Rattle.kinds.specs.Kinds.{inverse, forward}
 use Rattle.laws.specs.Member.{◌∈◌}
 use Rattle.meaning.specs.Collection.{Collection}
-use Rattle.meaning.specs.Tree.{root}
+use Rattle.theory.specs.Tree.{root}
 use Rattle.meaning.specs.Model.{Structure, Element, Belongs, individuals, canonical}
 use Rattle.meaning.specs.Question.{PathIn}
 use Rattle.meaning.specs.Leaving.{LeavesIn}

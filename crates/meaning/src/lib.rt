@@ -4,7 +4,6 @@
 
 pub mod calls;
 pub mod excluded;
-pub mod leaving;
 pub mod model;
 pub mod orders;
 pub mod sheet;

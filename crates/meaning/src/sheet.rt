@@ -1,57 +1,24 @@
-// Laws of the loop sheet. What holds for a type that names any rules' kind, or any sheet of one,
-// holds of every kind and every sheet.
+// Laws of a collection's loop sheet, and of the area that holds it. What holds for a type that names
+// any sheet holds of every sheet.
 ghost use Rattle.kinds.specs.declared.State.{State};
 ghost use Rattle.kinds.specs.declared.Concept.{Concept};
-ghost use Rattle.meaning.specs.Kind.{Kind};
-ghost use Rattle.meaning.specs.LawsOfSheet.{MarksStay, RoundsOnce, SheetStays, SheetClosed};
-ghost use Rattle.meaning.specs.LawsOfSheet.{SheetLeast, MarkIsPath, RoundsBound};
 ghost use Rattle.meaning.specs.LawsOfSheet.{OnlyValidMarked, RoundZero, RoundKeeps, RoundTests};
 ghost use Rattle.meaning.specs.LawsOfSheet.{RoundMeets, RoundHangs, RoundAdds, MarkMeans};
 ghost use Rattle.meaning.specs.LawsOfSheet.{RoundsSuffice, RoundsAtMost, MostRounds};
 ghost use Rattle.meaning.specs.LawsOfSheet.{ConceptsCounted, MarkIsOne};
 ghost use Rattle.meaning.specs.LawsOfSheet.{AreaThere, AreaOnce};
 ghost use Rattle.meaning.specs.Bytes.{OneSheetSamePlaces, BytesToBits, BitsToBytes};
-ghost use Rattle.meaning.specs.Bytes.{SameAfterRounds, BitsOnce, BytesOnce};
+ghost use Rattle.meaning.specs.Bytes.{SameAfterRounds, BothThere, BitsOnce, BytesOnce};
 ghost use Rattle.meaning.specs.Bytes.{BitsThere, BytesThere};
-ghost use Rattle.meaning.specs.LawsOfMarks.{StandsOnce, AddsOnce, CountsOnce};
-ghost use Rattle.meaning.specs.LawsOfMarks.{StandsThere, CountsThere, CountsMakeSheet};
-ghost use Rattle.meaning.specs.LawsOfMarks.{AddsSome, AddsNone, SumAtMost, CountsAtMost};
 ghost use Rattle.meaning.specs.LawsOfMarks.{CollectionCountable, CollectionCounts};
 ghost use Rattle.meaning.specs.LawsOfMarks.{CollectionStands, AreaStands, StandingOnce};
 ghost use Rattle.meaning.specs.LawsOfMarks.{CollectionAddsSome, CollectionAddsFew};
 ghost use Rattle.meaning.specs.LawsOfMarks.{CollectionCountsAtMost};
 
-// A type that names a rules' kind: any.
-pub trait AnyKind {
-    ghost kind: { Kind };
-}
-
-// A type that names a rules' kind and a sheet of it: any.
-pub trait AnySheet {
-    ghost kind: { Kind };
-
-    ghost marks: { kind.State → kind.State → kind.Concept → Type 0 };
-}
-
 // A type that names a sheet of states and concepts: any.
 pub trait AnyMarks {
     ghost marks: { State → State → Concept → Type 0 };
 }
-
-// The rounds of any kind.
-pub fn any_rounds<K: AnyKind>()
-    ensures stay { MarksStay K.kind }
-    ensures rounds_once { RoundsOnce K.kind }
-    ensures stays { SheetStays K.kind }
-    ensures closed { SheetClosed K.kind }
-    ensures path { MarkIsPath K.kind }
-    ensures bound { RoundsBound K.kind }
-{}
-
-// The closed sheet is the smallest closed one.
-pub fn least_sheet<F: AnySheet>()
-    ensures least { SheetLeast F.kind F.marks }
-{}
 
 // The rounds of a collection.
 pub fn rounds()
@@ -90,27 +57,15 @@ pub fn any_packed<F: AnyMarks>()
 // after every round, and each determines the other.
 pub fn packed()
     ensures after_rounds { SameAfterRounds }
+    ensures both_there { BothThere }
     ensures bits_once { BitsOnce }
     ensures bytes_once { BytesOnce }
     ensures bits_there { BitsThere }
     ensures bytes_there { BytesThere }
 {}
 
-// How many marks the rounds of any kind make.
-pub fn any_counts<K: AnyKind>()
-    ensures stands_once { StandsOnce K.kind }
-    ensures adds_once { AddsOnce K.kind }
-    ensures counts_once { CountsOnce K.kind }
-    ensures stands_there { StandsThere K.kind }
-    ensures counts_there { CountsThere K.kind }
-    ensures make_sheet { CountsMakeSheet K.kind }
-    ensures some { AddsSome K.kind }
-    ensures none { AddsNone K.kind }
-    ensures sum_at_most { SumAtMost K.kind }
-    ensures counts_at_most { CountsAtMost K.kind }
-{}
-
-// And those of a collection, with what then stands in the area that holds its sheet.
+// How many marks the rounds of a collection make, and what then stands in the area that holds its
+// sheet.
 pub fn counts()
     ensures countable { CollectionCountable }
     ensures there { CollectionCounts }

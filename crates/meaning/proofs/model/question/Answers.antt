@@ -1,5 +1,5 @@
 -- Paths: the words that they spell, the empty one, and the individuals' walk.
-use Rattle.meaning.specs.Run.{stop, one}
+use Rattle.theory.specs.Run.{stop, one}
 use Rattle.meaning.specs.Question.{along-role, at_name}
 use Rattle.meaning.proofs.QuestionLaws.{yes↔word}
 use Rattle.meaning.proofs.ModelWalk.{path↔individuals-walk}

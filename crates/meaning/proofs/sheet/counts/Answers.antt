@@ -1,6 +1,6 @@
 -- And those of a collection: the laws of LiteMarks.
 use Rattle.meaning.specs.Lite.{lite}
-use Rattle.meaning.proofs.MarksLaws.{counts-there, adds-some}
+use Rattle.theory.proofs.MarksLaws.{counts-there, adds-some}
 use Rattle.meaning.proofs.LiteMarks.{standing-once, lite-countable, lite-make, area-stands, lite-few, lite-most}
 use Rattle.meaning.proofs.sheet.counts.Goals as goal
 

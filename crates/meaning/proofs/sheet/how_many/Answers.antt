@@ -1,7 +1,7 @@
 -- How many rounds: by the bound, and since the rounds needed are one number.
 use Rattle.std.proofs.Common.{arith}
 use Rattle.meaning.specs.Lite.{lite}
-use Rattle.meaning.proofs.SheetLaws.{rounds-unique}
+use Rattle.theory.proofs.SheetLaws.{rounds-unique}
 use Rattle.meaning.proofs.Declared.{concepts-count}
 use Rattle.meaning.proofs.Demands.{rounds-suffice, most-rounds}
 use Rattle.meaning.proofs.sheet.how_many.Goals as goal

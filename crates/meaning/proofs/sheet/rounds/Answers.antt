@@ -1,7 +1,7 @@
 -- The rounds: by the constructors of a round, and those of RoundLaws.
-use Rattle.meaning.specs.Sheet.{tested, joined}
+use Rattle.theory.specs.Sheet.{tested, joined}
 use Rattle.meaning.specs.Lite.{lite}
-use Rattle.meaning.proofs.SheetLaws.{marks_stay}
+use Rattle.theory.proofs.SheetLaws.{marks_stay}
 use Rattle.meaning.proofs.RoundLaws.{valid-in, marked-valid, hangs}
 use Rattle.meaning.proofs.RoundFrom.{adds}
 use Rattle.meaning.proofs.Demands.{mark-means}

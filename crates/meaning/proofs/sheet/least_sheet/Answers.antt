@@ -1,6 +1,0 @@
--- Each round adds what a closed sheet has.
-use Rattle.meaning.proofs.SheetLaws.{sheet-smallest}
-use Rattle.meaning.proofs.sheet.least_sheet.Goals as goal
-
-pub returns : goal.returns
-returns g c = record { least = sheet-smallest g.F.AnySheet.kind g.F.AnySheet.marks }

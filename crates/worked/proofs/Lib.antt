@@ -1,0 +1,2 @@
+-- That the cases hold: one test that the checker computes.
+pub mod CasesHold

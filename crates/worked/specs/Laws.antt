@@ -1,0 +1,11 @@
+-- The law of the cases worked on paper.
+use Rattle.std.specs.Prelude.{◌≡◌, List, ℕ, length}
+use Rattle.laws.specs.Member.{◌∈◌}
+use Rattle.meaning.specs.Layout.{area_length}
+use Rattle.worked.specs.Cases.{Case, cases, Says}
+
+-- the cases worked on paper: whatever two areas of the right length hold, each row's call has the
+-- outcome that the row says: its number, its count, and so many marks in the first area
+abbrev pub CasesHold : Type 0
+CasesHold = (area spare : List ℕ) → length area ≡ area_length → length spare ≡ area_length
+    → (k : Case) → k ∈ cases → Says area spare k
