@@ -14,7 +14,7 @@ use Rattle.meaning.specs.Clash.{Alive}
 use Rattle.meaning.proofs.Clash.{typed-declared, typed-valid}
 use Rattle.meaning.proofs.Declared.{concept-declared}
 use Rattle.meaning.proofs.ModelLaws.{born}
-use Rattle.meaning.specs.Tree.{root, ◌▹◌}
+use Rattle.theory.specs.Tree.{root, ◌▹◌}
 use Rattle.meaning.specs.Model.{Belongs, bare, grown, individuals, Element}
 use Rattle.sets.proofs.RowLaws.{same_test}
 use Rattle.orders.specs.Rows.{IsConceptOrder}

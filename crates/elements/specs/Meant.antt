@@ -7,7 +7,7 @@ use Rattle.kinds.specs.declared.Concept.{Concept}
 use Rattle.kinds.specs.declared.Counts.{Counts}
 use Rattle.kinds.specs.Kinds.{number_of, SignedDeclared, IndividualDeclared, ConceptDeclared}
 use Rattle.meaning.specs.Lent.{Tables, collection}
-use Rattle.meaning.specs.Tree.{◌▹◌}
+use Rattle.theory.specs.Tree.{◌▹◌}
 use Rattle.meaning.specs.Model.{IndividualHas, Belongs, individuals, Element}
 use Rattle.meaning.specs.Clash.{Alive}
 use Rattle.orders.specs.Rows.{IsConceptOrder}

@@ -1,5 +1,5 @@
 -- The laws of the chains: none at first, and one fact more.
-use Rattle.std.specs.Prelude.{◌≡◌, List, ℕ, ◌+◌, ◌-◌, ◌*◌, ◌/◌, ◌%◌, ◌≤◌, ◌<◌, length, get_or, set, replicate}
+use Rattle.std.specs.Prelude.{◌≡◌, refl, List, ℕ, ◌+◌, ◌-◌, ◌*◌, ◌/◌, ◌%◌, ◌≤◌, ◌<◌, length, get_or, set, replicate}
 use Rattle.std.proofs.Common.{sym, ◌∙◌, ap, arith, length-set, get_or-set_same, get_or-set_other}
 use Rattle.std.proofs.Math.Decide.{ℕ_discrete}
 use Rattle.std.proofs.lemmas.List.{length-replicate, get_or-replicate}
@@ -8,7 +8,7 @@ use Rattle.meaning.specs.Lent.{role_fact_width}
 use Rattle.tables.specs.declared.records.RoleFact.{RoleFact}
 use Rattle.tables.specs.Records.{read_role_fact}
 use Rattle.hops.specs.Chains.{hops, no_hop, source, IsHopFrom, IsFirst, Begins, Follows}
-use Rattle.hops.specs.Making.{ChainedFrom}
+use Rattle.hops.specs.Making.{ChainedFrom, KeepsOthers}
 
 module _ (facts : List ℕ) where
   pub few : hops facts ≤ no_hop
@@ -144,3 +144,13 @@ module _ (facts : List ℕ) where
   pub one_left : (k : ℕ) (first next : List ℕ) → ChainedFrom facts (2 * (k + 1)) first next
       → (2 * k < hops facts) × ChainedFrom facts (2 * k + 1 + 1) first next
   one_left k first next c = let e : 2 * k + 1 + 1 ≡ 2 * (k + 1) = omega arith in rw e (let w = c.within in omega arith, c)
+
+  -- two hops written, all else is as it was
+  pub keeps_two : (links : List ℕ) (h x y a b : ℕ) → IsHopFrom facts b (h + 1) → IsHopFrom facts a h → KeepsOthers facts links (set (set links (h + 1) x) h y)
+  keeps_two links h x y a b d e = record {
+    at = λ k no.
+        get_or-set_other (set links (h + 1) x) h k y 0 (λ q. no a (rw q e)) ∙ get_or-set_other links (h + 1) k x 0 (λ q. no b (rw q d));
+  }
+
+  pub keeps_all : (links : List ℕ) → KeepsOthers facts links links
+  keeps_all links = record { at = λ h no. refl }

@@ -3,7 +3,7 @@
 ghost use Rattle.std.specs.Prelude.{◌≡◌, ◌+◌, ◌*◌, ◌<◌, slice_index, slice_set};
 ghost use Rattle.kinds.specs.Kinds.{most_individuals};
 ghost use Rattle.hops.specs.Chains.{hops, no_hop, Begins, Follows};
-ghost use Rattle.hops.specs.Making.{ChainedFrom};
+ghost use Rattle.hops.specs.Making.{ChainedFrom, KeepsOthers};
 
 use crate::{NO_HOP, ROLE_FACTS};
 use kinds::{Individual, RoleName};
@@ -40,7 +40,8 @@ fn add_fact(
 )
     requires fact { 2 * k < hops facts.numbers.now }
     requires later { ChainedFrom facts.numbers.now (2 * k + 1 + 1) first.old next.old }
-    ensures { ChainedFrom facts.entry.numbers.now (2 * k) first.new next.new }
+    ensures chained { ChainedFrom facts.entry.numbers.now (2 * k) first.new next.new }
+    ensures kept { KeepsOthers facts.entry.numbers.now next.old next.new }
 {
     let Some(fact) = facts.get(k) else {
         return;
@@ -63,9 +64,10 @@ fn fact_count(facts: Table<RoleFact>) -> usize
 }
 
 impl<'a> Hops<'a> {
-    /// The chains of some facts, in a lent array: it needs no clearing, and holds what comes after each hop of a chain.
+    /// The chains of some facts, in a lent array: it needs no clearing, holds what comes after each hop of a chain, and is else as it was.
     pub fn new(facts: Table<'a, RoleFact>, next: &'a mut [u16; NO_HOP]) -> Hops<'a>
-        ensures { result.facts.numbers ≡ facts.entry.numbers }
+        ensures facts { result.facts.numbers ≡ facts.entry.numbers }
+        ensures kept { KeepsOthers facts.entry.numbers.now next.old result.next.now }
     {
         let mut first = [NO_HOP as u16; Individual::NUMBERS];
         let count = fact_count(facts);

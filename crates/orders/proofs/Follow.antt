@@ -14,7 +14,7 @@ use Rattle.laws.specs.Gains.{Either}
 use Rattle.orders.specs.Rows.{role_rules, concept_rules, IsRoleOrder, IsConceptOrder}
 use Rattle.sets.specs.Rows.{Adds}
 use Rattle.sets.proofs.RowLaws.{adds_same, adds_then}
-use Rattle.orders.specs.Marks.{Shows, Pair, Listed, RoleListed, Turned, turn, Wide}
+use Rattle.orders.specs.Marks.{Shows, Pair, Listed, RoleListed, Turned, turn, Wide, IsPair, IsClosedOver}
 use Rattle.sets.specs.Bits.{concept_width, role_width}
 use Rattle.orders.proofs.Table.{rule-in, rule-out}
 
@@ -136,3 +136,16 @@ module _ (t roles : List ℕ) (from : ℕ → ℕ → Bool) (o : IsRoleOrder rol
       record {
         at = closed concept_of number_of number-concept concept_width (ConceptFollows (concept_rules t) (role_rules roles)) m r (λ C. same) (λ C D E. then) concept-sound (λ C D. concept-whole) c;
       }
+
+-- THEOREM: closing the pairs that a table lists and marks of roles widen marks what follows from them, whatever the roles' order is
+module _ (rules : List ℕ) (roles m r : ℕ → ℕ → Bool) (e : Shows concept_width m (Either (Wide roles) (Listed rules))) (c : Closes concept_width m r) where
+  pub closed-over : IsClosedOver rules roles r
+  closed-over = record {
+    at =
+        closed (λ i. i) (λ i. i) (λ i. refl) concept_width (Star (IsPair rules roles)) m r (λ a. here) (λ a b c p q. warshall.then p q)
+        (λ i j d. edge (record { row = d.row; col = d.col; pair = (e.at i j d.row d.col).0 d.mark })) whole c;
+  }
+    where
+      whole : (a b : ℕ) → Star (IsPair rules roles) a b → Star (MarkedPair concept_width m) a b
+      whole a b =
+          smallest (λ a. here) (λ a b p. edge (record { row = p.row; col = p.col; mark = (e.at a b p.row p.col).1 p.pair })) (λ a b c p q. warshall.then p q)

@@ -10,7 +10,7 @@ use Rattle.sets.specs.declared.concepts.ConceptSet.{ConceptSet}
 use Rattle.sets.specs.declared.roles.RoleSet.{RoleSet}
 use Rattle.sets.proofs.Once.{concept_rows_once, role_rows_once}
 use Rattle.orders.specs.Rows.{IsRoleOrder, IsConceptOrder, IsTurned}
-use Rattle.orders.specs.Marks.{OrRow}
+use Rattle.orders.specs.Marks.{IsClosedOver, OrRow}
 
 -- THEOREM: of one table only one order, and of two tables
 pub role-order-once : {rules : List ℕ} (m n : List RoleSet) → IsRoleOrder rules (role_marks m) → IsRoleOrder rules (role_marks n) → RoleRows role_width m → RoleRows role_width n → m ≡ n
@@ -20,6 +20,13 @@ role-order-once m n o p s u =
 pub concept-order-once : {rules roles : List ℕ} (m n : List ConceptSet) → IsConceptOrder rules roles (concept_marks m) → IsConceptOrder rules roles (concept_marks n)
     → ConceptRows concept_width m → ConceptRows concept_width n → m ≡ n
 concept-order-once m n o p s u =
+    concept_rows_once concept_width m n s u
+    (λ i j hi hj. test-once (concept_marks m i j) (concept_marks n i j) (o.at i j hi hj) (p.at i j hi hj))
+
+-- THEOREM: of one table and one order of the roles, whatever it is
+pub closed-order-once : {rules : List ℕ} {roles : ℕ → ℕ → Bool} (m n : List ConceptSet) → IsClosedOver rules roles (concept_marks m) → IsClosedOver rules roles (concept_marks n)
+    → ConceptRows concept_width m → ConceptRows concept_width n → m ≡ n
+closed-order-once m n o p s u =
     concept_rows_once concept_width m n s u
     (λ i j hi hj. test-once (concept_marks m i j) (concept_marks n i j) (o.at i j hi hj) (p.at i j hi hj))
 

@@ -3,8 +3,9 @@ use Rattle.std.specs.Prelude.{ℕ, ◌-◌, ◌/◌, ◌<◌, ◌≤◌, ◌≡�
 use Rattle.kinds.specs.Kinds.{base, signed, inverse}
 use Rattle.meaning.specs.Lent.{field, rule_width}
 use Rattle.laws.specs.Marks.{mark}
-use Rattle.laws.specs.Gains.{OneOf}
-use Rattle.sets.specs.Bits.{has, role_width}
+use Rattle.laws.specs.Gains.{OneOf, Either}
+use Rattle.laws.specs.Warshall.{Star}
+use Rattle.sets.specs.Bits.{has, concept_width, role_width}
 use Rattle.sets.specs.Rows.{role_marks}
 use Rattle.sets.specs.declared.roles.RoleSet.{RoleSet}
 
@@ -43,6 +44,17 @@ RoleListed t = OneOf (RoleHit t) (length t / rule_width)
 -- the numbers of ∃R and ∃S where m marks R and S
 abbrev pub Wide : (ℕ → ℕ → Bool) → ℕ → ℕ → Type 0
 Wide m i j = (base ≤ i) × (base ≤ j) × IsTrue (m (i - base) (j - base))
+
+-- a pair below the width that a table lists, or that marks of roles widen
+pub record IsPair (rules : List ℕ) (roles : ℕ → ℕ → Bool) (i j : ℕ) : Type 0 where
+  pub row : i < concept_width
+  pub col : j < concept_width
+  pub pair : Either (Wide roles) (Listed rules) i j
+
+-- m marks what follows from those pairs
+pub record IsClosedOver (rules : List ℕ) (roles m : ℕ → ℕ → Bool) : Type 0 where
+  pub at : (i j : ℕ) → i < concept_width → j < concept_width
+      → IsTrue (m i j) ↔ Star (IsPair rules roles) i j
 
 -- m marks exactly the pairs of E
 pub record Shows (n : ℕ) (m : ℕ → ℕ → Bool) (E : ℕ → ℕ → Type 0) : Type 0 where

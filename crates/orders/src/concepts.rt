@@ -6,7 +6,7 @@ ghost use Rattle.laws.specs.Warshall.{Stepped, Closes};
 ghost use Rattle.sets.specs.Bits.{concept_width};
 ghost use Rattle.sets.specs.Rows.{Adds, concept_marks, role_marks, no_concepts};
 ghost use Rattle.orders.specs.Rows.{IsRoleOrder, IsConceptOrder, IsTurned};
-ghost use Rattle.orders.specs.Marks.{Shows, Pair, Diagonal, Listed, Wide};
+ghost use Rattle.orders.specs.Marks.{Shows, Pair, Diagonal, Listed, Wide, IsClosedOver};
 
 use crate::roles::RoleOrder;
 use kinds::{Concept, SignedRole};
@@ -127,8 +127,11 @@ pub struct ConceptOrder {
 }
 
 impl ConceptOrder {
-    /// From the rules of a table, and the order of the roles by the rules of any table; a rule with a number that no concept has is passed over.
+    /// From the rules of a table, and any order of the roles: what follows from both. Where the roles are in the order of some table, it is C ≤ D by both tables.
+    /// A rule with a number that no concept has is passed over.
     pub fn new(rules: Table<ConceptPair>, roles: &RoleOrder) -> ConceptOrder
+        ensures closed { IsClosedOver rules.entry.numbers.now (role_marks roles.now.above)
+            (concept_marks result.above) }
         ensures order { (table : List ℕ) → IsRoleOrder table (role_marks roles.now.above)
             → IsConceptOrder rules.entry.numbers.now table (concept_marks result.above) }
         ensures turned { IsTurned concept_width

@@ -11,7 +11,7 @@ ghost use Rattle.sets.specs.Bits.{concept_width, role_width};
 ghost use Rattle.sets.specs.Rows.{ConceptRows, RoleRows, concept_marks, role_marks, Adds};
 ghost use Rattle.sets.specs.declared.concepts.ConceptSet.{ConceptSet};
 ghost use Rattle.orders.specs.Rows.{IsRoleOrder, IsConceptOrder, IsTurned};
-ghost use Rattle.orders.specs.Marks.{Listed, OrRow};
+ghost use Rattle.orders.specs.Marks.{Listed, IsClosedOver, OrRow};
 ghost use Rattle.orders.specs.Meant.{RoleMarksMean, ConceptMarksMean};
 
 /// Only one value satisfies each contract.
@@ -20,6 +20,9 @@ pub fn unique()
         (λ rows. IsRoleOrder rules (role_marks rows)) }
     ensures one_concept_order { (rules roles : List ℕ) → AtMostOneOf (ConceptRows concept_width)
         (λ rows. IsConceptOrder rules roles (concept_marks rows)) }
+    ensures one_closed_order { (rules : List ℕ) (roles : ℕ → ℕ → Bool)
+        → AtMostOneOf (ConceptRows concept_width)
+        (λ rows. IsClosedOver rules roles (concept_marks rows)) }
     ensures one_turned { (m : ℕ → ℕ → Bool) → AtMostOneOf (ConceptRows concept_width)
         (λ rows. IsTurned concept_width m (concept_marks rows)) }
     ensures one_listing { (pairs : List ℕ) (m : ℕ → ℕ → Bool)

@@ -1,8 +1,8 @@
 -- What may be marked, by the numbers of the rows.
 use Rattle.std.specs.Prelude.{ℕ, ◌<◌}
 use Rattle.kinds.specs.Kinds.{most_states}
-use Rattle.meaning.specs.Kind.{Kind}
-use Rattle.meaning.specs.Sheet.{Markable}
+use Rattle.theory.specs.Kind.{Kind}
+use Rattle.theory.specs.Sheet.{Markable}
 use Rattle.rules.specs.declared.rows.Rows.{Rows}
 use Rattle.rules.specs.Rows.{most_concepts, kind_of, May}
 use Rattle.rules.proofs.Members.{member_in, member_out}

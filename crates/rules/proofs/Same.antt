@@ -6,10 +6,10 @@ use Rattle.kinds.specs.declared.SignedRole.{SignedRole}
 use Rattle.kinds.specs.declared.Concept.TheVariants.{Exists}
 use Rattle.kinds.specs.Kinds.{base, flip, inverse, state, signed, concept_of, role-concept}
 use Rattle.meaning.specs.Collection.{Collection}
-use Rattle.meaning.specs.Kind.{Kind}
+use Rattle.theory.specs.Kind.{Kind}
 use Rattle.meaning.specs.Lite.{lite}
-use Rattle.meaning.specs.Sheet.{Markable, Round, kept, tested, joined, hung, Mark}
-use Rattle.meaning.proofs.SheetLaws.{mark-markable}
+use Rattle.theory.specs.Sheet.{Markable, Round, kept, tested, joined, hung, Mark}
+use Rattle.theory.proofs.SheetLaws.{mark-markable}
 use Rattle.rules.specs.declared.rows.Rows.{Rows}
 use Rattle.rules.specs.Rows.{kind_of}
 use Rattle.rules.specs.RowsOf.{RowsOf}

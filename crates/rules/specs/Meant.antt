@@ -3,7 +3,7 @@ use Rattle.std.specs.Prelude.{◌≡◌, ◌↔◌, List, ℕ, ◌<◌, length}
 use Rattle.kinds.specs.Kinds.{most_states, state, signed, concept_of}
 use Rattle.meaning.specs.Collection.{Collection}
 use Rattle.meaning.specs.Lite.{lite, StepDown}
-use Rattle.meaning.specs.Sheet.{Mark}
+use Rattle.theory.specs.Sheet.{Mark}
 use Rattle.sets.specs.declared.concepts.ConceptSet.{ConceptSet}
 use Rattle.sets.specs.declared.roles.RoleSet.{RoleSet}
 use Rattle.sets.specs.declared.states.StateSet.{StateSet}

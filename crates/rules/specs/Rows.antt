@@ -1,7 +1,7 @@
 -- What rows of sets say: the rules' kind that they come to. Concepts, states, edges are numbers here.
 use Rattle.std.specs.Prelude.{◌≡◌, ◌↔◌, ◌⊎◌, List, [], ℕ, ◌+◌, ◌*◌, ◌<◌, length, slice_index_or}
 use Rattle.kinds.specs.Kinds.{most_states}
-use Rattle.meaning.specs.Kind.{Kind}
+use Rattle.theory.specs.Kind.{Kind}
 use Rattle.sets.specs.Bits.{concept_width, role_width, Has, members}
 use Rattle.sets.specs.Rows.{no_concepts, no_roles, no_states}
 use Rattle.sets.specs.declared.concepts.ConceptSet.{ConceptSet}

@@ -6,10 +6,10 @@ use Rattle.std.proofs.Math.ListN.{get_or-append}
 use Rattle.std.proofs.Math.Seq.{get_or-append_seam}
 use Rattle.std.proofs.Math.Decide.{dec_lt}
 use Rattle.kinds.specs.Told.{Told, Failed}
-use Rattle.meaning.specs.Marks.{Adds, RoundCounts}
+use Rattle.theory.specs.Marks.{Adds, RoundCounts}
 use Rattle.rules.specs.declared.rows.Rows.{Rows}
 use Rattle.rules.specs.Rows.{kind_of}
-use Rattle.meaning.specs.Sheet.{Unchanged}
+use Rattle.theory.specs.Sheet.{Unchanged}
 use Rattle.sheet.specs.Ends.{Going}
 use Rattle.sheet.proofs.Ending.{changed}
 

@@ -2,7 +2,7 @@
 use Rattle.std.specs.Prelude.{◌≡◌, ◌↔◌, Bool, true, false, IsTrue, ℕ, ◌+◌, ◌<◌, ◌≤◌}
 use Rattle.std.proofs.Common.{arith, rules}
 use Rattle.std.proofs.Math.Decide.{dec_lt}
-use Rattle.meaning.specs.Sheet.{Unchanged}
+use Rattle.theory.specs.Sheet.{Unchanged}
 use Rattle.rules.specs.declared.rows.Rows.{Rows}
 use Rattle.rules.specs.Rows.{kind_of}
 use Rattle.sheet.specs.declared.allowed.Ran.TheVariants.{Needed, Spent}

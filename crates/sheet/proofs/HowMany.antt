@@ -11,14 +11,14 @@ use Rattle.laws.specs.Distinct.{distinct-map, rising-distinct}
 use Rattle.laws.specs.Search.{and_both}
 use Rattle.laws.specs.Select.{Rising, rising, rises_from}
 use Rattle.kinds.specs.Kinds.{most_states}
-use Rattle.meaning.specs.Sheet.{Mark, Unchanged}
-use Rattle.meaning.proofs.SheetLaws.{mark-markable}
+use Rattle.theory.specs.Sheet.{Mark, Unchanged}
+use Rattle.theory.proofs.SheetLaws.{mark-markable}
 use Rattle.sets.specs.Bits.{has, members}
 use Rattle.sets.specs.declared.concepts.ConceptSet.{ConceptSet}
 use Rattle.rules.specs.declared.rows.Rows.{Rows}
 use Rattle.rules.specs.Rows.{most_concepts, pair, At, kind_of}
 use Rattle.sheet.specs.Finds.{size, total_from, total}
-use Rattle.meaning.specs.Marks.{Added, Adds}
+use Rattle.theory.specs.Marks.{Added, Adds}
 use Rattle.sheet.specs.Sheets.{Holds, place}
 use Rattle.rules.proofs.Members.{in_from, out_from, has_is, has_of, member_in, member_out}
 use Rattle.rules.proofs.Able.{low_of}

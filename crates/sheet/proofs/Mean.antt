@@ -10,13 +10,13 @@ use Rattle.laws.specs.Member.{◌∈◌, map-in, map-out}
 use Rattle.laws.specs.Distinct.{distinct-map}
 use Rattle.laws.specs.Rounds.{least-same}
 use Rattle.meaning.specs.Collection.{Collection}
-use Rattle.meaning.specs.Kind.{Kind}
+use Rattle.theory.specs.Kind.{Kind}
 use Rattle.meaning.specs.Lite.{lite}
-use Rattle.meaning.specs.Sheet.{Mark, Unchanged, Needed}
-use Rattle.meaning.specs.Marks.{Added, Adds}
+use Rattle.theory.specs.Sheet.{Mark, Unchanged, Needed}
+use Rattle.theory.specs.Marks.{Added, Adds}
 use Rattle.meaning.specs.Layout as layout
 use Rattle.meaning.proofs.Declared.{concept-out}
-use Rattle.meaning.proofs.SheetLaws.{mark-markable}
+use Rattle.theory.proofs.SheetLaws.{mark-markable}
 use Rattle.rules.specs.declared.rows.Rows.{Rows}
 use Rattle.rules.specs.Rows.{kind_of}
 use Rattle.rules.specs.RowsOf.{RowsOf}

@@ -2,8 +2,8 @@
 use Rattle.std.specs.Prelude.{◌≡◌, refl, ◌↔◌, Bool, true, false, List, ℕ, ◌*◌, ◌/◌, ◌%◌, ◌<◌}
 use Rattle.std.proofs.Common.{sym, ◌∙◌, ap, arith}
 use Rattle.kinds.specs.Kinds.{most_states}
-use Rattle.meaning.specs.Sheet.{Mark}
-use Rattle.meaning.proofs.SheetLaws.{rounds-unique}
+use Rattle.theory.specs.Sheet.{Mark}
+use Rattle.theory.proofs.SheetLaws.{rounds-unique}
 use Rattle.sets.specs.declared.concepts.ConceptSet.{ConceptSet}
 use Rattle.sets.proofs.Once.{concept_rows_once}
 use Rattle.rules.proofs.Members.{has_is, has_of}
@@ -12,7 +12,7 @@ use Rattle.rules.specs.Rows.{most_concepts, pair, At, kind_of}
 use Rattle.sheet.specs.declared.closing.Closing.{Closing}
 use Rattle.sheet.specs.declared.allowed.Ran.{Ran}
 use Rattle.sheet.specs.declared.allowed.Ran.TheVariants.{Needed}
-use Rattle.meaning.specs.Marks.{Added}
+use Rattle.theory.specs.Marks.{Added}
 use Rattle.sheet.specs.Sheets.{Holds}
 use Rattle.sheet.specs.Ends.{Ended, needed, spent, rounds_made}
 use Rattle.meaning.proofs.LayoutLaws.{packs-once}

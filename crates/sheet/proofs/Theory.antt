@@ -4,15 +4,15 @@ use Rattle.std.proofs.Common.{◌∙◌, inl, inr, ⊎_elim, arith}
 use Rattle.std.proofs.Math.Decide.{ℕ_discrete}
 use Rattle.std.specs.Int.{bit_at}
 use Rattle.kinds.specs.Kinds.{most_states}
-use Rattle.meaning.specs.Kind.{Kind}
-use Rattle.meaning.specs.Sheet.{Markable, Round, kept, tested, joined, hung, Mark}
-use Rattle.meaning.proofs.SheetLaws.{mark-markable, marks_stay}
+use Rattle.theory.specs.Kind.{Kind}
+use Rattle.theory.specs.Sheet.{Markable, Round, kept, tested, joined, hung, Mark}
+use Rattle.theory.proofs.SheetLaws.{mark-markable, marks_stay}
 use Rattle.sets.specs.declared.concepts.ConceptSet.{ConceptSet}
 use Rattle.rules.specs.declared.rows.Rows.{Rows}
 use Rattle.rules.specs.Rows.{most_concepts, pair, At, kind_of, Gets}
 use Rattle.rules.proofs.Able.{Low, low_of, may_of, of_may}
 use Rattle.sheet.specs.Finds.{Turns, Joins, Hangs, RowsOf, Blank, IsTurn, Settled, First, FirstTurn}
-use Rattle.meaning.specs.Marks.{Added}
+use Rattle.theory.specs.Marks.{Added}
 use Rattle.sheet.specs.Sheets.{Holds}
 use Rattle.sheet.specs.Meant.{Uses, first, second, child_of, IsKnown, AddsByNew}
 

@@ -1,7 +1,7 @@
 -- How rounds end against an allowance.
 use Rattle.std.specs.Prelude.{ℕ, ◌≤◌, ◌<◌}
-use Rattle.meaning.specs.Sheet.{Unchanged}
-use Rattle.meaning.specs.Sheet as sheet
+use Rattle.theory.specs.Sheet.{Unchanged}
+use Rattle.theory.specs.Sheet as sheet
 use Rattle.rules.specs.declared.rows.Rows.{Rows}
 use Rattle.rules.specs.Rows.{kind_of}
 use Rattle.sheet.specs.declared.allowed.Ran.{Ran}

@@ -1,7 +1,7 @@
 -- What a listener was told of rounds, and where it failed, by what holds of the counts.
 use Rattle.std.specs.Prelude.{ℕ, List, ◌++◌}
 use Rattle.kinds.specs.Told.{Told, Failed}
-use Rattle.meaning.specs.Marks.{RoundCounts}
+use Rattle.theory.specs.Marks.{RoundCounts}
 use Rattle.rules.specs.declared.rows.Rows.{Rows}
 use Rattle.rules.specs.Rows.{kind_of}
 use Rattle.sheet.specs.Ends.{Going}

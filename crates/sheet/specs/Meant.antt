@@ -2,11 +2,11 @@
 use Rattle.std.specs.Prelude.{◌≡◌, ◌↔◌, ◌⊎◌, List, ℕ, suc, ◌*◌}
 use Rattle.kinds.specs.Kinds.{most_states}
 use Rattle.meaning.specs.Collection.{Collection}
-use Rattle.meaning.specs.Kind.{Kind}
+use Rattle.theory.specs.Kind.{Kind}
 use Rattle.meaning.specs.Layout.{Lays, zeros}
 use Rattle.meaning.specs.Lite.{lite}
-use Rattle.meaning.specs.Sheet.{Markable, Mark}
-use Rattle.meaning.specs.Sheet as sheet
+use Rattle.theory.specs.Sheet.{Markable, Mark}
+use Rattle.theory.specs.Sheet as sheet
 use Rattle.sets.specs.Rows.{ConceptRows}
 use Rattle.sets.specs.declared.concepts.ConceptSet.{ConceptSet}
 use Rattle.rules.specs.declared.rows.Rows.{Rows}
@@ -15,7 +15,7 @@ use Rattle.sheet.specs.declared.allowed.Ran.{Ran}
 use Rattle.sheet.specs.declared.closing.Closing.{Closing}
 use Rattle.sheet.specs.Areas.{LaysMarks}
 use Rattle.sheet.specs.Ends.{Ended, rounds_made}
-use Rattle.meaning.specs.Marks.{Added, RoundCounts}
+use Rattle.theory.specs.Marks.{Added, RoundCounts}
 use Rattle.sheet.specs.Sheets.{IsRound}
 
 -- ---- one outcome

@@ -1,8 +1,8 @@
 -- What a closing holds: the sheet of round n, and what one more round adds to it.
 use Rattle.std.specs.Prelude.{◌≡◌, ◌↔◌, List, ℕ, ◌+◌, ◌*◌, ◌<◌, length}
 use Rattle.kinds.specs.Kinds.{most_states}
-use Rattle.meaning.specs.Marks.{Added}
-use Rattle.meaning.specs.Sheet.{Mark}
+use Rattle.theory.specs.Marks.{Added}
+use Rattle.theory.specs.Sheet.{Mark}
 use Rattle.sets.specs.declared.concepts.ConceptSet.{ConceptSet}
 use Rattle.rules.specs.declared.rows.Rows.{Rows}
 use Rattle.rules.specs.Rows.{most_concepts, pair, At, kind_of}

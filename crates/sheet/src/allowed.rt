@@ -1,7 +1,7 @@
 // Rounds against an allowance.
 
 ghost use Rattle.std.specs.Prelude.{IfOk, IfErr};
-ghost use Rattle.meaning.specs.Marks.{RoundCounts};
+ghost use Rattle.theory.specs.Marks.{RoundCounts};
 ghost use Rattle.rules.specs.Rows.{kind_of};
 ghost use Rattle.sheet.specs.Sheets.{IsRound};
 ghost use Rattle.sheet.specs.Ends.{Ended, rounds_made};

@@ -1,7 +1,7 @@
 // Where a mark stands in an area: a bit to a mark. Nothing else knows it.
 
 ghost use Rattle.std.specs.Prelude.{ℕ, ◌≡◌};
-ghost use Rattle.meaning.specs.Sheet.{Mark};
+ghost use Rattle.theory.specs.Sheet.{Mark};
 ghost use Rattle.rules.specs.Rows.{kind_of};
 ghost use Rattle.rules.specs.declared.rows.Rows.{Rows as TheRows};
 ghost use Rattle.sheet.specs.Sheets.{IsRound};
@@ -24,8 +24,9 @@ pub fn lay(sheet: &Sheet, area: &mut [u8; AREA])
 }
 
 impl Closing {
-    /// The first area is left the sheet, and the second is cleared.
+    /// The first area is left the sheet, which is that of n rounds where n rounds were made; the second is cleared.
     pub fn leave(&self, first: &mut [u8; AREA], second: &mut [u8; AREA])
+        ensures laid { LaysRows self.now.sheet first.new }
         ensures first { (rows : TheRows) (n : ℕ) → IsRound rows n self.now
             → LaysMarks (Mark (kind_of rows) n) first.new }
         ensures second { second.new ≡ zeros }

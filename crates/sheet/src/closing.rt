@@ -30,10 +30,10 @@ pub struct Closing {
 
 impl Closing {
     ghost use Rattle.std.specs.Prelude.{ℕ, ◌≡◌, ◌+◌, ◌↔◌, IsTrue};
-    ghost use Rattle.meaning.specs.Sheet.{Unchanged};
+    ghost use Rattle.theory.specs.Sheet.{Unchanged};
     ghost use Rattle.rules.specs.Rows.{kind_of};
     ghost use Rattle.rules.specs.declared.rows.Rows.{Rows as TheRows};
-    ghost use Rattle.meaning.specs.Marks.{Adds};
+    ghost use Rattle.theory.specs.Marks.{Adds};
     ghost use Rattle.sheet.specs.Sheets.{IsRound};
 
     /// A sheet with no mark, before any round.
@@ -45,15 +45,15 @@ impl Closing {
         }
     }
 
-    /// The sheet of round 0, whatever stood here.
-    pub fn start(&mut self, rows: &Rows)
+    // The sheet of round 0, whatever stood here.
+    pub(crate) fn start(&mut self, rows: &Rows)
         ensures { IsRound rows.now 0 self.new }
     {
         begin(&mut self.sheet, &mut self.next, &mut self.found, rows);
     }
 
-    /// One round. How many marks it added.
-    pub fn advance(&mut self, rows: &Rows) -> MarkCount
+    // One round. How many marks it added.
+    pub(crate) fn advance(&mut self, rows: &Rows) -> MarkCount
         ensures round { (n : ℕ) → IsRound rows.now n self.old
             → IsRound rows.now (n + 1) self.new }
         ensures added { (n : ℕ) → IsRound rows.now n self.old
@@ -64,8 +64,8 @@ impl Closing {
         added
     }
 
-    /// Whether one more round adds nothing.
-    pub fn is_closed(&self) -> bool
+    // Whether one more round adds nothing.
+    pub(crate) fn is_closed(&self) -> bool
         ensures { (rows : TheRows) (n : ℕ) → IsRound rows n self.now
             → IsTrue result ↔ Unchanged (kind_of rows) n }
     {

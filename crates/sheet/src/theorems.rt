@@ -3,8 +3,8 @@ ghost use Rattle.std.specs.Prelude.{◌≡◌, ℕ, List};
 ghost use Rattle.kinds.specs.Kinds.{CountsFit};
 ghost use Rattle.laws.specs.Once.{AtMostOne};
 ghost use Rattle.meaning.specs.Collection.{Collection};
-ghost use Rattle.meaning.specs.Marks.{Adds};
-ghost use Rattle.meaning.specs.Sheet.{Mark};
+ghost use Rattle.theory.specs.Marks.{Adds};
+ghost use Rattle.theory.specs.Sheet.{Mark};
 ghost use Rattle.rules.specs.declared.rows.Rows.{Rows};
 ghost use Rattle.rules.specs.Rows.{kind_of};
 ghost use Rattle.rules.specs.RowsOf.{RowsOf};
@@ -16,7 +16,7 @@ ghost use Rattle.sheet.specs.Ends.{Ended};
 ghost use Rattle.sheet.specs.Meant.{HasRound, SameRound, Closes};
 ghost use Rattle.sheet.specs.Meant.{IsKnown, AddsByNew, NeededMeans, AreaMeans, CountsMean};
 
-use meaning::sheet::AnyKind;
+use theory::sheet::AnyKind;
 
 /// Only one value satisfies each contract.
 pub fn unique()

@@ -6,8 +6,8 @@ use Rattle.std.proofs.Math.Decide.{dec_lt}
 use Rattle.kinds.specs.Kinds.{most_individuals}
 use Rattle.sets.specs.Bits.{Has, IsUnion, Meets, state_width}
 use Rattle.sets.specs.declared.states.StateSet.{StateSet}
-use Rattle.meaning.specs.Run.{Run}
-use Rattle.meaning.specs.Run as run
+use Rattle.theory.specs.Run.{Run}
+use Rattle.theory.specs.Run as run
 use Rattle.walk.specs.declared.pivot.Pivot.{Pivot}
 use Rattle.walk.specs.declared.walk.Walk.{Walk}
 use Rattle.walk.specs.Sets.{set_at}

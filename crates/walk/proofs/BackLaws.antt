@@ -7,8 +7,8 @@ use Rattle.kinds.specs.Kinds.{most_roles, flip, flip-below}
 use Rattle.sets.specs.declared.states.StateSet.{StateSet}
 use Rattle.hops.specs.Chains.{source, target, role_of, IsHopFrom}
 use Rattle.meaning.specs.Lent.{role_fact_width}
-use Rattle.meaning.specs.Run.{Run, stop, go, one}
-use Rattle.meaning.specs.Run as run
+use Rattle.theory.specs.Run.{Run, stop, go, one}
+use Rattle.theory.specs.Run as run
 use Rattle.walk.specs.declared.course.Course.TheVariants.{Ahead, Back}
 use Rattle.walk.specs.declared.pivot.Pivot.{Pivot}
 use Rattle.walk.specs.Strides.{Walked}

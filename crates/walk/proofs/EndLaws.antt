@@ -9,7 +9,7 @@ use Rattle.kinds.specs.declared.State.{State}
 use Rattle.kinds.specs.Kinds.{most_individuals, most_states}
 use Rattle.sets.specs.Bits.{Has, IsOnly, state_width}
 use Rattle.sets.specs.declared.states.StateSet.{StateSet}
-use Rattle.meaning.specs.Run.{Run, stop, go}
+use Rattle.theory.specs.Run.{Run, stop, go}
 use Rattle.walk.specs.Sets.{set_at, empty_set}
 use Rattle.walk.specs.Passes.{total, Ready, AllFollowed, Walking, Visited, Found}
 use Rattle.walk.proofs.SetLaws.{none_has, past_end, set_at-set_same, set_at-set_other}

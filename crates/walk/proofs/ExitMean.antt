@@ -11,10 +11,10 @@ use Rattle.laws.specs.Member.{◌∈◌}
 use Rattle.meaning.specs.Collection.{NumbersDeclared, Collection, step, role}
 use Rattle.meaning.specs.Lent.{Tables, collection}
 use Rattle.meaning.specs.Lite.{lite, declared_states}
-use Rattle.meaning.specs.Onward as meaning
-use Rattle.meaning.specs.Onward.{ends, around, deeper}
-use Rattle.meaning.specs.Sheet.{Needed}
-use Rattle.meaning.proofs.SheetLaws.{mark-markable, mark→loop, loop→mark}
+use Rattle.theory.specs.Onward as meaning
+use Rattle.theory.specs.Onward.{ends, around, deeper}
+use Rattle.theory.specs.Sheet.{Needed}
+use Rattle.theory.proofs.SheetLaws.{mark-markable, mark→loop, loop→mark}
 use Rattle.meaning.proofs.Clash.{typed-valid}
 use Rattle.meaning.proofs.Declared.{state-in, state-out, concept-in, concept-out, concept-declared, role-above-declared, concept-above-declared, role-step-to, lite-sane}
 use Rattle.sets.specs.Bits.{Has, concept_width, role_width}

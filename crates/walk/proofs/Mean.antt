@@ -24,18 +24,18 @@ use Rattle.kinds.specs.declared.Ask.{Ask}
 use Rattle.kinds.specs.declared.Ask.TheVariants.{Pair, From}
 use Rattle.kinds.specs.Asks.{AskDeclared}
 use Rattle.meaning.specs.Model.{individuals, canonical}
-use Rattle.meaning.specs.Run.{Run, stop, go}
+use Rattle.theory.specs.Run.{Run, stop, go}
 use Rattle.meaning.specs.Lite.{lite, declared_states}
-use Rattle.meaning.specs.Tree as tree
-use Rattle.meaning.specs.Tree.{root}
+use Rattle.theory.specs.Tree as tree
+use Rattle.theory.specs.Tree.{root}
 use Rattle.meaning.proofs.Clash.{typed-valid}
 use Rattle.meaning.specs.Walk.{Near, IndividualsWalk, IndividualsWalkOut}
 use Rattle.meaning.proofs.ModelWalk.{edge-declared, path↔individuals-walk}
 use Rattle.meaning.proofs.LeavingLaws.{leaves↔walk}
 use Rattle.meaning.proofs.ReplyLaws.{loop-state}
 use Rattle.meaning.proofs.Declared.{state-in, state-out, concept-in, concept-out, concept-declared, role-step-to, lite-sane}
-use Rattle.meaning.specs.Sheet.{Needed}
-use Rattle.meaning.proofs.SheetLaws.{mark-markable, mark→loop, loop→mark}
+use Rattle.theory.specs.Sheet.{Needed}
+use Rattle.theory.proofs.SheetLaws.{mark-markable, mark→loop, loop→mark}
 use Rattle.walk.specs.declared.question.Question.{Question}
 use Rattle.walk.specs.Asks.{PairAsked, FromAsked, Asked}
 use Rattle.walk.specs.Finals.{AreFinals}

@@ -10,7 +10,7 @@ use Rattle.kinds.specs.Kinds.{most_states, base}
 use Rattle.sets.specs.Bits.{Has, Meets, IsUnion, IsIntersection, concept_width, role_width}
 use Rattle.sets.specs.declared.states.StateSet.{StateSet}
 use Rattle.sets.specs.declared.concepts.ConceptSet.{ConceptSet}
-use Rattle.meaning.specs.Onward.{ends, around, deeper}
+use Rattle.theory.specs.Onward.{ends, around, deeper}
 use Rattle.walk.specs.declared.onward.Tree.{Tree}
 use Rattle.walk.specs.Sets.{set_at, concepts_at, row_at, IsGathered}
 use Rattle.walk.specs.Loops.{pair}

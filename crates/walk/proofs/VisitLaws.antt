@@ -7,8 +7,8 @@ use Rattle.std.specs.Int.{bit_at}
 use Rattle.kinds.specs.Kinds.{most_individuals}
 use Rattle.sets.specs.Bits.{Has, IsMinus, state_width}
 use Rattle.sets.specs.declared.states.StateSet.{StateSet}
-use Rattle.meaning.specs.Run.{Run, stop, one}
-use Rattle.meaning.specs.Run as run
+use Rattle.theory.specs.Run.{Run, stop, one}
+use Rattle.theory.specs.Run as run
 use Rattle.walk.specs.declared.walk.Guide.{Guide}
 use Rattle.walk.specs.Sets.{set_at, row_at}
 use Rattle.walk.specs.Courses.{Led, along, loop}

@@ -4,7 +4,7 @@ use Rattle.std.proofs.Common.{sym, ap, ◌∙◌, ext_get_or}
 use Rattle.kinds.specs.declared.Individual.{Individual}
 use Rattle.kinds.specs.declared.State.{State}
 use Rattle.sets.specs.declared.states.StateSet.{StateSet}
-use Rattle.meaning.specs.Run.{Run, stop, go}
+use Rattle.theory.specs.Run.{Run, stop, go}
 use Rattle.walk.specs.declared.course.Course.TheVariants.{Ahead}
 use Rattle.walk.specs.Sets.{set_at, empty_set}
 use Rattle.walk.specs.Strides.{TableStride, Walked}

@@ -11,11 +11,11 @@ use Rattle.laws.specs.Member.{◌∈◌}
 use Rattle.meaning.specs.Collection.{Collection}
 use Rattle.meaning.specs.Lent.{Tables, collection}
 use Rattle.meaning.specs.Lite.{lite, StepDown}
-use Rattle.meaning.specs.Onward.{LeadsOn}
+use Rattle.theory.specs.Onward.{LeadsOn}
 use Rattle.meaning.specs.Orders.{ConceptLe}
 use Rattle.meaning.specs.Model.{IndividualHas}
 use Rattle.meaning.specs.Asks.{IsYes}
-use Rattle.meaning.specs.Sheet.{Mark, Needed}
+use Rattle.theory.specs.Sheet.{Mark, Needed}
 use Rattle.meaning.specs.Walk.{IndividualsWalk}
 use Rattle.sets.specs.Bits.{Has, concept_width, role_width}
 use Rattle.sets.specs.declared.states.StateSet.{StateSet}

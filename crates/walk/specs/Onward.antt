@@ -2,8 +2,8 @@
 -- and states are numbers here.
 use Rattle.std.specs.Prelude.{ℕ, List, [], ◌≡◌, ◌↔◌, ◌⊎◌, ◌+◌, ◌^◌, ◌<◌, length}
 use Rattle.kinds.specs.Kinds.{most_states, base, flip}
-use Rattle.meaning.specs.Kind.{Kind}
-use Rattle.meaning.specs.Onward as meaning
+use Rattle.theory.specs.Kind.{Kind}
+use Rattle.theory.specs.Onward as meaning
 use Rattle.sets.specs.Bits.{Has, Meets, concept_width, role_width}
 use Rattle.sets.specs.declared.states.StateSet.{StateSet}
 use Rattle.sets.specs.declared.concepts.ConceptSet.{ConceptSet}

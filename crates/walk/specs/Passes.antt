@@ -8,7 +8,7 @@ use Rattle.sets.specs.Bits.{Has, state_width}
 use Rattle.sets.specs.declared.states.StateSet.{StateSet}
 use Rattle.hops.specs.Chains.{target, IsHopFrom}
 use Rattle.hops.specs.declared.Hop.{Hop}
-use Rattle.meaning.specs.Run.{Run}
+use Rattle.theory.specs.Run.{Run}
 use Rattle.walk.specs.declared.walk.Guide.{Guide}
 use Rattle.walk.specs.declared.walk.Walk.{Walk}
 use Rattle.walk.specs.Sets.{set_at, row_at}

@@ -3,7 +3,7 @@
 -- strides lead to it. Which nodes are pivots is not said, nor that all that lead to one are kept.
 use Rattle.std.specs.Prelude.{List, [], ℕ, ◌<◌, length, slice_index_or}
 use Rattle.sets.specs.Bits.{Has}
-use Rattle.meaning.specs.Run.{Run}
+use Rattle.theory.specs.Run.{Run}
 use Rattle.walk.specs.declared.pivot.Pivot.{Pivot}
 use Rattle.walk.specs.Sets.{set_at}
 

@@ -6,7 +6,7 @@ use Rattle.kinds.specs.Kinds.{most_individuals, most_states}
 use Rattle.sets.specs.Bits.{Has}
 use Rattle.sets.specs.declared.states.StateSet.{StateSet}
 use Rattle.hops.specs.Chains.{target, role_of, IsHopFrom}
-use Rattle.meaning.specs.Run.{Run}
+use Rattle.theory.specs.Run.{Run}
 use Rattle.walk.specs.Sets.{set_at, row_at}
 
 module _ (loops ways : List (List StateSet)) (facts : List ℕ) where

@@ -1,5 +1,5 @@
 -- Each contract leaves one value.
-use Rattle.orders.proofs.Once.{role-order-once, concept-order-once, turned-once, pairs-once, closes-once, or_row-once}
+use Rattle.orders.proofs.Once.{role-order-once, concept-order-once, closed-order-once, turned-once, pairs-once, closes-once, or_row-once}
 use Rattle.orders.specs.Marks.{Listed}
 use Rattle.orders.proofs.theorems.unique.Goals as goal
 
@@ -8,6 +8,9 @@ returns-clause-one_role_order c rules m n p q = role-order-once m n p.1 q.1 p.0 
 
 pub returns-clause-one_concept_order : goal.returns-clause-one_concept_order
 returns-clause-one_concept_order c rules roles m n p q = concept-order-once m n p.1 q.1 p.0 q.0
+
+pub returns-clause-one_closed_order : goal.returns-clause-one_closed_order
+returns-clause-one_closed_order c rules roles m n p q = closed-order-once m n p.1 q.1 p.0 q.0
 
 pub returns-clause-one_turned : goal.returns-clause-one_turned
 returns-clause-one_turned c t m n p q = turned-once t m n p.1 q.1 p.0 q.0

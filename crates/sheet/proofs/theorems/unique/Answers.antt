@@ -1,7 +1,7 @@
 -- Each contract leaves one value.
-use Rattle.meaning.specs.Marks.{Added}
-use Rattle.meaning.specs.Sheet.{Mark}
-use Rattle.meaning.proofs.MarksLaws.{counted-once}
+use Rattle.theory.specs.Marks.{Added}
+use Rattle.theory.specs.Sheet.{Mark}
+use Rattle.theory.proofs.MarksLaws.{counted-once}
 use Rattle.rules.specs.Rows.{kind_of}
 use Rattle.sheet.proofs.Once.{round_once, ended_once, lays_once, rows_lay_once, runs_once}
 use Rattle.sheet.proofs.theorems.unique.Goals as goal

@@ -1,7 +1,7 @@
 -- At the head of a turn the rounds are those of n, each round before changed the sheet, and the listener was told of each.
 use Rattle.std.specs.Prelude.{ℕ, List, ◌-◌}
 use Rattle.kinds.specs.Told.{Told}
-use Rattle.meaning.specs.Marks.{RoundCounts}
+use Rattle.theory.specs.Marks.{RoundCounts}
 use Rattle.rules.specs.Rows.{kind_of}
 use Rattle.sheet.specs.Sheets.{IsRound}
 use Rattle.sheet.specs.Ends.{Going}
