@@ -1,17 +1,16 @@
 -- What preparing leaves in both areas.
-use Rattle.std.specs.Prelude.{◌≡◌, refl, List, ℕ, min, Result, Err, Ok, length}
+use Rattle.std.specs.Prelude.{◌≡◌, refl, List, ℕ, min, length}
 use Rattle.std.proofs.Common.{arith}
-use Rattle.meaning.proofs.SheetLaws.{rounds-unique}
+use Rattle.theory.proofs.SheetLaws.{rounds-unique}
 use Rattle.meaning.specs.Lite.{lite}
-use Rattle.meaning.specs.Layout.{zeros}
 use Rattle.tables.specs.declared.collection.Refusal.{Refusal}
 use Rattle.tables.specs.declared.collection.Refusal.TheVariants.{BadCount, BadTable, BadNumber}
 use Rattle.index.specs.declared.lent.Lent.{Lent}
 use Rattle.index.specs.declared.work.Found.{Found}
 use Rattle.index.specs.declared.work.Found.TheVariants.{Contradiction, Spent, Needed}
-use Rattle.index.specs.Works.{meant, Passes, HasAreas, IsFound, LeavesFirst, LeavesSecond}
-use Rattle.index.specs.Preparation.{Preparation, preparation, Fits, HasSheet, RoundsNeeded, HoldsSheet}
-use Rattle.index.specs.Worked.{IsRefused, IsSettled, IsWorked, FirstLeft, SecondLeft}
+use Rattle.index.specs.Works.{meant, Passes, HasAreas, LeavesFirst, LeavesSecond}
+use Rattle.index.specs.Preparation.{Preparation, preparation, Fits, HasSheet, Left}
+use Rattle.index.specs.Worked.{IsRefused, IsSettled}
 
 pub refused-fits : (l : Lent) (area spare : ℕ) (e : Refusal) → IsRefused l area spare e → Fits (preparation l area spare) → ⊥
 refused-fits l area spare BadCount h f = h.bad_count.0 refl f.counts
@@ -22,22 +21,16 @@ module _ (l : Lent) (area spare x y : List ℕ) where
   abbrev p : Preparation
   p = preparation l (length area) (length spare)
 
-  -- what each clause says
-  pub record Leaves : Type 0 where
-    pub sheet : HasSheet p → (n : ℕ) → RoundsNeeded p n → HoldsSheet p (min n l.allowance) x
-    pub cleared : HasSheet p → y ≡ zeros
-    pub untouched : (HasSheet p → ⊥) → x ≡ area
-    pub spared : (HasSheet p → ⊥) → y ≡ spare
-
   pub fits : Passes l.collection → HasAreas (length area) (length spare) → Fits p
   fits s a = record { counts = s.counts; tables = record { tables = s.tables; area = a.area; spare = a.spare }; numbers = s.numbers }
 
   has : {f : Found} → IsSettled l (length area) (length spare) f → Fits p
   has s = fits s.passes s.areas
 
-  left-found : (f : Found) → IsSettled l (length area) (length spare) f → IsFound l f → LeavesFirst l f area x → LeavesSecond f spare y → Leaves
-  left-found Contradiction s b h k = record { sheet = λ w. absurd (w.sane b); cleared = λ w. absurd (w.sane b); untouched = λ w. h; spared = λ w. k }
-  left-found Spent s b h k =
+  pub left-found : (f : Found) → IsSettled l (length area) (length spare) f → LeavesFirst l f area x → LeavesSecond f spare y → Left p area spare x y
+  left-found Contradiction s h k = record { sheet = λ w. absurd (w.sane s.found); cleared = λ w. absurd (w.sane s.found); untouched = λ w. h; spared = λ w. k }
+  left-found Spent s h k =
+      let b = s.found in
       let a : HasSheet p = record { fits = has s; sane = b.1.sane } in
       record {
         sheet = λ w n need.
@@ -48,7 +41,8 @@ module _ (l : Lent) (area spare x y : List ℕ) where
         untouched = λ w. absurd (w a);
         spared = λ w. absurd (w a);
       }
-  left-found (Needed m r) s b h k =
+  left-found (Needed m r) s h k =
+      let b = s.found in
       let a : HasSheet p = record { fits = has s; sane = b.sane } in
       record {
         sheet = λ w n need.
@@ -60,8 +54,7 @@ module _ (l : Lent) (area spare x y : List ℕ) where
         spared = λ w. absurd (w a);
       }
 
-  pub left : (w : Result Found Refusal) → IsWorked l (length area) (length spare) w → FirstLeft l w area x → SecondLeft w spare y → Leaves
-  left (Err e) h i j =
+  pub left-refused : (e : Refusal) → IsRefused l (length area) (length spare) e → x ≡ area → y ≡ spare → Left p area spare x y
+  left-refused e h i j =
       let no : HasSheet p → ⊥ = λ s. refused-fits l (length area) (length spare) e h s.fits in
       record { sheet = λ w. absurd (no w); cleared = λ w. absurd (no w); untouched = λ w. i; spared = λ w. j }
-  left (Ok f) h i j = left-found f h h.found i j

@@ -1,6 +1,6 @@
 -- Each clause of a call follows from its outcome.
-use Rattle.std.specs.Prelude.{◌≡◌, ◌≢◌, refl, ◌↔◌, IfSome, IfNone, List, ℕ, ◌≤◌, ◌<◌}
-use Rattle.std.proofs.Common.{subst, arith}
+use Rattle.std.specs.Prelude.{◌≡◌, ◌≢◌, refl, ◌↔◌, Option, Some, None, IfSome, IfNone, List, ℕ, ◌≤◌, ◌<◌}
+use Rattle.std.proofs.Common.{sym, ◌∙◌, subst, arith}
 use Rattle.kinds.specs.declared.Answer.{Answer}
 use Rattle.kinds.specs.declared.Answer.TheVariants.{No, Yes, Contradiction, AllowanceSpent, BadCount, BadTable, BadNumber, BadAsk}
 use Rattle.kinds.specs.Answer.{answer_number, sheet_rounds, number-listed, seven-never}
@@ -11,7 +11,7 @@ use Rattle.meaning.specs.SameSets.{SameSets}
 use Rattle.meaning.specs.Deeds.{SameButDeeds, lent_with}
 use Rattle.meaning.specs.Outcome.{Outcome, Breaks, HoldsSheet, bad-count, bad-table, bad-number, bad-ask, contradiction, spent, says-yes, says-no}
 use Rattle.meaning.specs.Worlds.{model_world}
-use Rattle.meaning.proofs.SheetLaws.{rounds-unique}
+use Rattle.theory.proofs.SheetLaws.{rounds-unique}
 use Rattle.meaning.proofs.OutcomeLaws.{outcome-unique}
 use Rattle.meaning.proofs.OutcomeExists.{holds-sheet, sound-well-formed}
 use Rattle.meaning.specs.Demands.{Enough, AsModelSays, GrowsTo, Grown, allowed, most_rounds}
@@ -22,6 +22,8 @@ use Rattle.meaning.proofs.DeedLaws.{deeds-decide-nothing}
 use Rattle.meaning.proofs.AskLaws.{ask-in, ask-out}
 use Rattle.meaning.proofs.Forced.{model-keeps, model-respects, no-world}
 use Rattle.index.specs.Clauses.{FailsTables, FailsNumbers, FailsAsk, IsContradicted, Settles, RunsOut, IsYesAfter, IsNoAfter, SameOutcome}
+use Rattle.meaning.proofs.LayoutLaws.{lays-once}
+use Rattle.index.specs.Once.{AnswerFixesAreas}
 use Rattle.index.specs.Worlds.{world_of, IsWorldOf, HasPath, IsForced, HasNoWorld}
 
 -- what comes with the answer 3, 1 or 0 and the count n
@@ -178,3 +180,15 @@ module _ (c : Call) where
     grows = λ d q u v g p s e s' e'. theorem.grows c d g.larger g.ask s s' e e' o p;
     returns = λ n h k. theorem.returns c n h o k;
   }
+
+-- THEOREM: two calls that differ only in what is asked, and have one answer, leave the same in both areas
+pub answer-fixes-areas : AnswerFixesAreas
+answer-fixes-areas c ask r x y u v o p =
+    let a = clauses c r x y o in
+    let b = clauses (record c { ask = ask }) r u v p in
+    by (sheet_rounds r) a.sheet a.cleared a.untouched a.spared b.sheet b.cleared b.untouched b.spared
+  where
+    by : (s : Option ℕ) → IfSome s (λ n. HoldsSheet c n x) → IfSome s (λ n. y ≡ zeros) → IfNone s (x ≡ c.area) → IfNone s (y ≡ c.spare)
+        → IfSome s (λ n. HoldsSheet c n u) → IfSome s (λ n. v ≡ zeros) → IfNone s (u ≡ c.area) → IfNone s (v ≡ c.spare) → SameOutcome r x y r u v
+    by (Some n) h z i j h' z' i' j' = (refl, lays-once _ x u h h', z ∙ sym z')
+    by None h z i j h' z' i' j' = (refl, i ∙ sym i', j ∙ sym j')

@@ -1,18 +1,18 @@
 -- How many marks rounds added, as a listener is told: of what was found, and of what rounds would still add.
-use Rattle.std.specs.Prelude.{◌≡◌, List, ◌++◌, ℕ, ◌+◌, ◌-◌, ◌≤◌, ◌<◌, min, drop, Result, Err, Ok, length, slice_index}
+use Rattle.std.specs.Prelude.{◌≡◌, refl, List, [], ◌++◌, ℕ, ◌+◌, ◌-◌, ◌≤◌, ◌<◌, min, drop, length, slice_index}
 use Rattle.std.proofs.Common.{◌∙◌, arith, length-append}
 use Rattle.std.proofs.Math.Decide.{dec_lt}
 use Rattle.std.proofs.Math.ListN.{get_or-append}
 use Rattle.std.proofs.lemmas.List.{get_or-drop, length-drop, get_or-append-add}
-use Rattle.meaning.specs.Kind.{Kind}
+use Rattle.theory.specs.Kind.{Kind}
 use Rattle.meaning.specs.Lite.{lite}
-use Rattle.meaning.specs.Marks.{Adds, RoundCounts}
+use Rattle.theory.specs.Marks.{Adds, RoundCounts}
 use Rattle.meaning.specs.Model as model
-use Rattle.meaning.specs.Sheet.{Unchanged}
+use Rattle.theory.specs.Sheet.{Unchanged}
 use Rattle.meaning.proofs.Demands.{rounds-suffice}
 use Rattle.meaning.proofs.LiteMarks.{lite-countable}
-use Rattle.meaning.proofs.MarksLaws.{counts-there}
-use Rattle.meaning.proofs.SheetLaws.{rounds-unique}
+use Rattle.theory.proofs.MarksLaws.{counts-there}
+use Rattle.theory.proofs.SheetLaws.{rounds-unique}
 use Rattle.rules.specs.declared.rows.Rows.{Rows}
 use Rattle.rules.specs.Rows.{kind_of}
 use Rattle.rules.specs.RowsOf.{RowsOf}
@@ -24,8 +24,8 @@ use Rattle.index.specs.declared.work.Found.{Found}
 use Rattle.index.specs.declared.work.Found.TheVariants.{Contradiction, Spent, Needed}
 use Rattle.index.specs.Preparation.{Preparation, preparation}
 use Rattle.index.specs.Marks.{MarksTold}
-use Rattle.index.specs.Works.{meant, Passes, Counts, CountsOf, BeginsCounts}
-use Rattle.index.specs.Worked.{IsSettled, IsWorked, CountsMade, IsInterrupted}
+use Rattle.index.specs.Works.{meant, Passes, HasAreas, Counts, CountsOf, BeginsCounts}
+use Rattle.index.specs.Worked.{IsRefused, IsSettled}
 use Rattle.index.proofs.Areas.{fits, refused-fits}
 use Rattle.index.proofs.Joined.{well}
 
@@ -75,7 +75,8 @@ module _ (l : Lent) (area spare : List ℕ) where
   abbrev p : Preparation
   p = preparation l (length area) (length spare)
 
-  told-found : (f : Found) → IsSettled l (length area) (length spare) f → (counts : List ℕ) → CountsOf l f counts → MarksTold p counts
+  -- THEOREM: what was told is what is to be told
+  pub told-found : (f : Found) → IsSettled l (length area) (length spare) f → (counts : List ℕ) → CountsOf l f counts → MarksTold p counts
   told-found Contradiction s counts h = record { rounds = λ w. absurd (w.sane s.found); none = λ no. h }
   told-found Spent s counts h =
       let b = s.found in
@@ -96,16 +97,12 @@ module _ (l : Lent) (area spare : List ℕ) where
         none = λ no. absurd (no (record { fits = fits l area spare area spare s.passes s.areas; sane = b.sane }));
       }
 
-  -- THEOREM: what was told is what is to be told
-  pub told : (w : Result Found Refusal) → IsWorked l (length area) (length spare) w → (counts : List ℕ) → CountsMade l w counts → MarksTold p counts
-  told (Err e) h counts c = record { rounds = λ w. absurd (refused-fits l (length area) (length spare) e h w.fits); none = λ no. c }
-  told (Ok f) h counts c = told-found f h counts c
+  pub told-refused : (e : Refusal) → IsRefused l (length area) (length spare) e → MarksTold p []
+  told-refused e h = record { rounds = λ w. absurd (refused-fits l (length area) (length spare) e h w.fits); none = λ no. refl }
 
-  -- THEOREM: and where the listener failed, a start of it
-  pub begun : (counts : List ℕ) → (i : IsInterrupted l (length area) (length spare) counts) → MarksTold p (counts ++ i.begins.rest)
-  begun counts i =
-      let b = i.begins in
-      record {
-        rounds = λ w n need. let e = rounds-unique (lite (meant l.collection)) n b.n need b.needed in rw e b.all;
-        none = λ no. absurd (no (record { fits = fits l area spare area spare i.passes i.areas; sane = b.sane }));
-      }
+  -- THEOREM: and where the listener failed, what was told is a start of it
+  pub begun : Passes l.collection → HasAreas (length area) (length spare) → (counts : List ℕ) → (b : BeginsCounts l counts) → MarksTold p (counts ++ b.rest)
+  begun passes areas counts b = record {
+    rounds = λ w n need. let e = rounds-unique (lite (meant l.collection)) n b.n need b.needed in rw e b.all;
+    none = λ no. absurd (no (record { fits = fits l area spare area spare passes areas; sane = b.sane }));
+  }

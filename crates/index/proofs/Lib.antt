@@ -9,3 +9,4 @@ pub mod Rows
 pub mod Unique
 pub mod ToldOnce
 pub mod Settled
+pub mod Deeds

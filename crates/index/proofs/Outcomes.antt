@@ -12,10 +12,9 @@ use Rattle.tables.specs.Tests.{PassesTests, IsChecked}
 use Rattle.kinds.specs.declared.Ask.{Ask}
 use Rattle.index.specs.declared.lent.Lent.{Lent}
 use Rattle.index.specs.Works.{Passes, HasAreas}
-use Rattle.index.specs.Preparation.{Preparation, preparation, HasSheet}
+use Rattle.index.specs.Preparation.{Preparation, preparation, HasSheet, Left}
 use Rattle.kinds.specs.Asks.{AskDeclared}
 use Rattle.index.specs.Asked.{asked, IsAnswer}
-use Rattle.index.specs.Once.{Left}
 use Rattle.index.specs.Clauses.{called, Refuses}
 
 module _ (l : Lent) (area spare : ℕ) where

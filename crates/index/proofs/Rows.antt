@@ -1,5 +1,5 @@
 -- A row of asks, as far as it is answered; and answered whole, it is asked in turn.
-use Rattle.std.specs.Prelude.{◌≡◌, refl, ◌⊎◌, Some, IfSome, List, ℕ, zero, suc, ◌<◌, min, length, slice_get}
+use Rattle.std.specs.Prelude.{◌≡◌, refl, ◌⊎◌, IfSome, List, ℕ, zero, suc, ◌<◌, min, length, slice_get}
 use Rattle.std.proofs.Common.{subst, inl, inr, arith}
 use Rattle.std.proofs.Math.Decide.{dec_lt}
 use Rattle.std.proofs.lemmas.Option.{slice_get-get_or}
@@ -10,18 +10,13 @@ use Rattle.meaning.specs.Outcome.{Outcome, bad-count, bad-table, bad-number, bad
 use Rattle.kinds.specs.declared.Ask.{Ask}
 use Rattle.kinds.specs.declared.Ask.TheVariants.{Pair, From}
 use Rattle.index.specs.declared.lent.Lent.{Lent}
-use Rattle.index.specs.Preparation.{Preparation, preparation}
+use Rattle.index.specs.Preparation.{Preparation, preparation, Left}
 use Rattle.kinds.specs.Asks.{AskDeclared}
 use Rattle.tables.specs.Asks.{read_ask}
 use Rattle.index.specs.Asked.{asked, IsAnswer}
 use Rattle.index.specs.Clauses.{Refuses}
-use Rattle.index.specs.Row.{ask_count, AnswersEach, AllAlike, SomeDeclared, InTurn, none, next}
+use Rattle.index.specs.Row.{ask_count, AnswersEach, AllAlike, StandsAt, SomeDeclared, InTurn, none, next}
 use Rattle.index.proofs.Outcomes.{replied}
-use Rattle.index.specs.Once.{Left}
-
--- the answer stands at entry k
-abbrev pub StandsAt : List Answer → ℕ → Answer → Type 0
-StandsAt answers k r = slice_get answers k ≡ Some r
 
 -- an entry that is there
 pub stands : (P : Answer → Type 0) (answers : List Answer) (k : ℕ) → k < length answers → IfSome (slice_get answers k) P → (r : Answer) × StandsAt answers k r × P r

@@ -11,7 +11,7 @@ use Rattle.tables.specs.declared.collection.Refusal.{Refusal}
 use Rattle.tables.specs.declared.collection.Refusal.TheVariants.{BadCount, BadTable, BadNumber}
 use Rattle.tables.specs.Refusals.{answer_of}
 use Rattle.index.specs.declared.lent.Lent.{Lent}
-use Rattle.meaning.proofs.SheetLaws.{rounds-unique}
+use Rattle.theory.proofs.SheetLaws.{rounds-unique}
 use Rattle.index.specs.Preparation.{Preparation, preparation, collection_in, Fits}
 use Rattle.index.specs.Rounds.{HasRounds, NoRounds}
 use Rattle.index.specs.Works.{meant, Passes, HasAreas, Needs, NeedsMore}

@@ -6,10 +6,10 @@ use Rattle.meaning.specs.Lite.{lite}
 use Rattle.meaning.specs.Demands.{most_rounds}
 use Rattle.meaning.proofs.Demands.{rounds-suffice}
 use Rattle.meaning.proofs.LiteMarks.{lite-countable, lite-most, area-stands}
-use Rattle.meaning.proofs.MarksLaws.{round-counts-once, counts-there}
-use Rattle.meaning.proofs.SheetLaws.{rounds-unique}
-use Rattle.index.specs.Preparation.{Preparation, collection_in, HasSheet}
-use Rattle.index.specs.Marks.{MarksTold, MakesSheet, ToldAtMost}
+use Rattle.theory.proofs.MarksLaws.{round-counts-once, counts-there}
+use Rattle.theory.proofs.SheetLaws.{rounds-unique}
+use Rattle.index.specs.Preparation.{Preparation, collection_in, HasSheet, HoldsPrepared}
+use Rattle.index.specs.Marks.{MarksTold, MakesSheet, MarksStand, ToldAtMost}
 use Rattle.index.proofs.Unique.{well, dec-sheet}
 
 module _ (p : Preparation) where
@@ -37,6 +37,12 @@ module _ (p : Preparation) where
   -- THEOREM: with states × concepts they make the number of marks standing in the area that holds the sheet
   pub told-make : MakesSheet p
   told-make counts area t s n need lays = area-stands (collection_in p) (well p s.fits) (min n p.allowance) area lays counts (t.rounds s n need)
+
+  -- THEOREM: an area that holds what was prepared has that many
+  pub told-stand : (area : List ℕ) → HoldsPrepared p area → MarksStand p area
+  told-stand area holds s counts t =
+      let w = rounds-suffice (collection_in p) (well p s.fits) in
+      told-make counts area t s w.0 w.2 (holds s w.0 w.2)
 
   -- THEOREM: there are no more of them than concepts × states × (states − 1), nor than rounds are allowed
   pub told-most : ToldAtMost p

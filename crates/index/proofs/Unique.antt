@@ -16,10 +16,10 @@ use Rattle.meaning.proofs.Reply.{clash}
 use Rattle.meaning.proofs.ClashLaws.{clash-is}
 use Rattle.kinds.specs.declared.Ask.{Ask}
 use Rattle.kinds.specs.declared.Ask.TheVariants.{Pair}
-use Rattle.index.specs.Preparation.{Preparation, collection_in, Fits, HasSheet}
+use Rattle.index.specs.Preparation.{Preparation, collection_in, Fits, HasSheet, Left}
 use Rattle.index.specs.Asked.{asked, IsAnswer}
 use Rattle.index.specs.Row.{InTurn, none, next}
-use Rattle.index.specs.Once.{Left, SameAt}
+use Rattle.index.specs.Once.{SameAt}
 
 -- THEOREM: two answers to one ask of one preparation are equal
 pub answer-once : (p : Preparation) (ask : Ask) (r q : Answer) → IsAnswer p ask r → IsAnswer p ask q → r ≡ q

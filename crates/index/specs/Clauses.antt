@@ -5,13 +5,13 @@ use Rattle.meaning.specs.Lent.{Call, CountsOk, TablesOk, NumbersOk, AskOk, Sound
 use Rattle.meaning.specs.Outcome.{Outcome, Breaks, Reached, RoundsNeeded}
 use Rattle.kinds.specs.declared.Ask.{Ask}
 use Rattle.index.specs.declared.lent.Lent.{Lent}
-use Rattle.index.specs.Preparation.{preparation}
+use Rattle.index.specs.Preparation.{prepared_of}
 use Rattle.kinds.specs.Asks.{AskDeclared}
 use Rattle.index.specs.Asked.{asked}
 
 -- the call that asks it of what is lent, with these areas
 abbrev pub called : Lent → Ask → List ℕ → List ℕ → Call
-called l ask area spare = asked (preparation l (length area) (length spare)) ask area spare
+called l ask area spare = asked (prepared_of l area spare) ask area spare
 
 -- test 5 is the first that fails, or 6, or 8
 abbrev pub FailsTables : Call → Type 0

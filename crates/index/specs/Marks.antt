@@ -4,7 +4,7 @@ use Rattle.meaning.specs.Demands.{most_rounds}
 use Rattle.meaning.specs.Layout.{Standing}
 use Rattle.meaning.specs.LawsOfMarks.{first_marks}
 use Rattle.meaning.specs.Lite.{lite}
-use Rattle.meaning.specs.Marks.{RoundCounts}
+use Rattle.theory.specs.Marks.{RoundCounts}
 use Rattle.index.specs.Preparation.{Preparation, collection_in, HasSheet, RoundsNeeded, HoldsSheet}
 
 -- the counts that are told: where there is a sheet, of rounds 1 to the lesser of those needed and
@@ -20,6 +20,13 @@ abbrev pub MakesSheet : Preparation → Type 0
 MakesSheet p =
     (counts area : List ℕ) → MarksTold p counts → HasSheet p
     → (n : ℕ) → RoundsNeeded p n → HoldsSheet p (min n p.allowance) area
+    → Standing area (sum counts + first_marks p.counts)
+
+-- where there is a sheet, the counts that are told and states × concepts make the marks that stand
+-- in an area
+abbrev pub MarksStand : Preparation → List ℕ → Type 0
+MarksStand p area =
+    HasSheet p → (counts : List ℕ) → MarksTold p counts
     → Standing area (sum counts + first_marks p.counts)
 
 -- there are no more of them than concepts × states × (states − 1), nor than rounds are allowed

@@ -1,5 +1,5 @@
 -- A row of asks, and their answers in order.
-use Rattle.std.specs.Prelude.{◌≡◌, IfSome, List, ℕ, suc, ◌/◌, ◌≤◌, ◌<◌, length, slice_get}
+use Rattle.std.specs.Prelude.{◌≡◌, Some, IfSome, List, ℕ, suc, ◌/◌, ◌≤◌, ◌<◌, length, slice_get}
 use Rattle.kinds.specs.declared.Counts.{Counts}
 use Rattle.kinds.specs.declared.Answer.{Answer}
 use Rattle.kinds.specs.declared.Ask.{Ask}
@@ -27,6 +27,10 @@ pub record AnswersBetween (p : Preparation) (t : List ℕ) (from to : ℕ)
   pub before : (k : ℕ) → k < from → slice_get new k ≡ slice_get old k
   pub after : (k : ℕ) → to ≤ k → slice_get new k ≡ slice_get old k
   pub rest : (k : ℕ) → ask_count t ≤ k → slice_get new k ≡ slice_get old k
+
+-- the answer stands at entry k
+abbrev pub StandsAt : List Answer → ℕ → Answer → Type 0
+StandsAt answers k r = slice_get answers k ≡ Some r
 
 -- each entry that has an ask is r
 abbrev pub AllAlike : List ℕ → Answer → List Answer → Type 0

@@ -5,9 +5,9 @@ use Rattle.meaning.specs.Collection.{Collection}
 use Rattle.meaning.specs.Lent.{collection, ShapesOk, NumbersFit}
 use Rattle.meaning.specs.Model.{Contradiction}
 use Rattle.meaning.specs.Asks.{IsYes}
-use Rattle.meaning.specs.Marks.{RoundCounts}
-use Rattle.meaning.specs.Sheet.{Mark}
-use Rattle.meaning.specs.Sheet as sheet
+use Rattle.theory.specs.Marks.{RoundCounts}
+use Rattle.theory.specs.Sheet.{Mark}
+use Rattle.theory.specs.Sheet as sheet
 use Rattle.meaning.specs.Lite.{lite}
 use Rattle.meaning.specs.Layout.{area_length, Lays, zeros}
 use Rattle.kinds.specs.declared.Ask.{Ask}
@@ -15,6 +15,8 @@ use Rattle.tables.specs.declared.collection.Collection as code
 use Rattle.kinds.specs.Asks.{AskDeclared}
 use Rattle.tables.specs.Lists.{lists}
 use Rattle.walk.specs.Asks.{Asked}
+use Rattle.walk.specs.Meant.{SheetOf}
+use Rattle.sets.specs.declared.concepts.ConceptSet.{ConceptSet}
 use Rattle.index.specs.declared.lent.Lent.{Lent}
 use Rattle.index.specs.declared.routes.Paths.{Paths}
 use Rattle.index.specs.declared.work.Found.{Found}
@@ -45,7 +47,13 @@ module _ (𝓒 : Collection) where
   abbrev pub Counts : ℕ → List ℕ → Type 0
   Counts = RoundCounts (lite 𝓒)
 
--- strides lead from the first individual of an ask in the start state to its second in a final one
+-- the closed sheet, as rows hold it: that of the rounds needed
+pub record IsClosedSheet (𝓒 : Collection) (rows : List ConceptSet) : Type 0 where
+  pub rounds : ℕ
+  pub needed : Needs 𝓒 rounds
+  pub sheet : SheetOf 𝓒 rounds rows
+
+-- strides lead from the first individual of an ask in the start state to what it asks for
 abbrev pub StridesLead : Paths → Ask → Type 0
 StridesLead r = Asked r.loops.now.rows r.ways.now r.hops.facts.numbers.now r.question
 

@@ -24,7 +24,7 @@ use tables::Record;
 pub(crate) fn undeclared(lent: &Lent, area: usize, spare: usize) -> Answer
     ensures { Refuses lent.now area spare result }
 {
-    match lent.collection.check(area, spare) {
+    match lent.check(area, spare) {
         Ok(()) => Answer::BadAsk,
         Err(refusal) => refusal.answer(),
     }

@@ -3,6 +3,7 @@
 #![tactic(auto)]
 
 mod call;
+mod ground;
 mod lent;
 mod prepared;
 mod routes;

@@ -1,14 +1,14 @@
 // A collection prepared once, that answers any number of asks.
-ghost use Rattle.std.specs.Prelude.{◌≡◌, ◌↔◌, min, length, IsTrue, IfSome, IfOk, IfErr};
-ghost use Rattle.std.specs.Prelude.{OnOk, OnErr, ℕ};
-ghost use Rattle.sheet.specs.Heard.{ToldOf, FailedOf, FailedAmong};
+ghost use Rattle.std.specs.Prelude.{◌≡◌, ◌↔◌, length, IsTrue, IfSome, IfOk, IfErr};
+ghost use Rattle.std.specs.Prelude.{OnOk, OnErr};
+ghost use Rattle.sheet.specs.Heard.{ToldOf, FailedAmong};
 ghost use Rattle.meaning.specs.Layout.{zeros};
 ghost use Rattle.index.specs.Works.{StridesLead};
-ghost use Rattle.index.specs.Worked.{IsWorked, FirstLeft, SecondLeft};
-ghost use Rattle.index.specs.Worked.{CountsMade, IsInterrupted};
-ghost use Rattle.index.specs.Marks.{MarksTold};
+ghost use Rattle.index.specs.Worked.{IsWorked};
+ghost use Rattle.index.specs.Marks.{MarksTold, MarksStand};
 ghost use Rattle.index.specs.Rounds.{HasRounds, NoRounds};
-ghost use Rattle.index.specs.Preparation.{Preparation, preparation, HasSheet, RoundsNeeded, HoldsSheet};
+ghost use Rattle.index.specs.Preparation.{Preparation, preparation, prepared_of, WhateverDeeds};
+ghost use Rattle.index.specs.Preparation.{HasSheet, HoldsPrepared, Left};
 
 use crate::lent::Lent;
 use crate::routes::{Paths, Routes};
@@ -56,6 +56,10 @@ impl<'a> Prepared<'a> {
     pub fn rounds(&self) -> Result<Rounds, Answer>
         ensures needed { IfOk result (HasRounds self.now) }
         ensures none { IfErr result (NoRounds self.now) }
+
+        // Of a collection with other deed numbers it would be the same.
+        ensures deeds_needed { IfOk result (λ n. WhateverDeeds self.now (λ q. HasRounds q n)) }
+        ensures deeds_none { IfErr result (λ r. WhateverDeeds self.now (λ q. NoRounds q r)) }
     {
         let found = match &self.worked {
             Err(refusal) => return Err(refusal.answer()),
@@ -70,12 +74,13 @@ impl<'a> Prepared<'a> {
 
     // What asking it of the collection answers: nothing else is read.
     pub fn reply(&self, ask: Ask) -> Answer
-        ensures { IsAnswer self.now ask result }
+        ensures answer { IsAnswer self.now ask result }
+        ensures deeds { WhateverDeeds self.now (λ q. IsAnswer q ask result) }
     {
         self.reply_told(ask, None)
     }
 
-    // The same, where walks may have told of the ask.
+    // Its answer, where walks may have told whether the ask is yes.
     pub(crate) fn reply_told(&self, ask: Ask, told: Option<bool>) -> Answer
         requires { IsTold self.now ask told }
         ensures { IsAnswer self.now ask result }
@@ -123,17 +128,16 @@ fn work<'r, L: RoundListener>(
     listener: &mut L,
 ) -> Result<Result<Found<'r>, Refusal>, L::Error>
     ensures worked { IfOk result (IsWorked lent.now (length area.old) (length spare.old)) }
-    ensures first { IfOk result (λ worked. FirstLeft lent.now worked area.old area.new) }
-    ensures second { IfOk result (λ worked. SecondLeft worked spare.old spare.new) }
-    ensures told { IfOk result (λ worked.
-        ToldOf L.hears (CountsMade lent.now worked) listener.old listener.new) }
-    ensures failed { let long = length area.old in let long' = length spare.old in
-        IfErr result (λ e. FailedOf L.hears L.fails (IsInterrupted lent.now long long')
-        listener.old e listener.new) }
+    ensures left { OnOk result (Left (prepared_of lent.now area.old spare.old)
+        area.old spare.old area.new spare.new) }
+    ensures told { OnOk result (ToldOf L.hears
+        (MarksTold (prepared_of lent.now area.old spare.old)) listener.old listener.new) }
+    ensures failed { IfErr result (λ e. FailedAmong L.hears L.fails
+        (MarksTold (prepared_of lent.now area.old spare.old)) listener.old e listener.new) }
     ensures area_kept { OnErr result (area.new ≡ area.old) }
     ensures spare_kept { OnErr result (spare.new ≡ spare.old) }
 {
-    match lent.collection.check(area.len(), spare.len()) {
+    match lent.check(area.len(), spare.len()) {
         Err(refusal) => Ok(Err(refusal)),
         Ok(()) => {
             let area = area.as_mut_array().unwrap();
@@ -147,12 +151,13 @@ fn work<'r, L: RoundListener>(
 impl<'a> Lent<'a> {
     // The tests 4, 5 and 6, then all that does not depend on an ask. The first area is left the sheet.
     pub fn prepare(&self, area: &mut [u8], spare: &mut [u8], routes: &'a mut Routes) -> Prepared<'a>
-        ensures own { result ≡ preparation self.now (length area.old) (length spare.old) }
-        ensures sheet { HasSheet result → (n : ℕ) → RoundsNeeded result n
-            → HoldsSheet result (min n result.allowance) area.new }
+        ensures own { result ≡ prepared_of self.now area.old spare.old }
+        ensures sheet { HoldsPrepared result area.new }
         ensures cleared { HasSheet result → spare.new ≡ zeros }
         ensures untouched { (¬ HasSheet result) → area.new ≡ area.old }
         ensures spared { (¬ HasSheet result) → spare.new ≡ spare.old }
+        ensures deeds { WhateverDeeds result
+            (λ q. Left q area.old spare.old area.new spare.new) }
     {
         match self.prepare_telling(area, spare, routes, &mut NoListener) {
             Ok(prepared) => prepared,
@@ -161,8 +166,8 @@ impl<'a> Lent<'a> {
         }
     }
 
-    // The same, and a listener is told of each round, as it is made, how many marks it added. Where
-    // the listener fails, no more rounds are made, and both areas are as they came.
+    // As `prepare`, and a listener is told of each round, as it is made, how many marks it added.
+    // Where the listener fails, no more rounds are made, and both areas are as they came.
     pub fn prepare_telling<L: RoundListener>(
         &self,
         area: &mut [u8],
@@ -170,26 +175,36 @@ impl<'a> Lent<'a> {
         routes: &'a mut Routes,
         listener: &mut L,
     ) -> Result<Prepared<'a>, L::Error>
-        ensures own { let p = preparation self.now (length area.old) (length spare.old) in
-            IfOk result (λ prepared. prepared ≡ p) }
-        ensures sheet { let p = preparation self.now (length area.old) (length spare.old) in
-            OnOk result (HasSheet p → (n : ℕ) → RoundsNeeded p n
-            → HoldsSheet p (min n p.allowance) area.new) }
-        ensures cleared { let p = preparation self.now (length area.old) (length spare.old) in
-            OnOk result (HasSheet p → spare.new ≡ zeros) }
-        ensures untouched { let p = preparation self.now (length area.old) (length spare.old) in
-            OnOk result ((¬ HasSheet p) → area.new ≡ area.old) }
-        ensures spared { let p = preparation self.now (length area.old) (length spare.old) in
-            OnOk result ((¬ HasSheet p) → spare.new ≡ spare.old) }
-        ensures told { let p = preparation self.now (length area.old) (length spare.old) in
-            OnOk result (ToldOf L.hears (MarksTold p) listener.old listener.new) }
+        ensures own { IfOk result (λ p. p ≡ prepared_of self.now area.old spare.old) }
+        ensures sheet { OnOk result
+            (HoldsPrepared (prepared_of self.now area.old spare.old) area.new) }
+        ensures cleared { OnOk result
+            (HasSheet (prepared_of self.now area.old spare.old) → spare.new ≡ zeros) }
+        ensures untouched { OnOk result
+            ((¬ HasSheet (prepared_of self.now area.old spare.old)) → area.new ≡ area.old) }
+        ensures spared { OnOk result
+            ((¬ HasSheet (prepared_of self.now area.old spare.old)) → spare.new ≡ spare.old) }
+        ensures told { OnOk result (ToldOf L.hears
+            (MarksTold (prepared_of self.now area.old spare.old)) listener.old listener.new) }
+
+        // The counts told and states × concepts make the marks that stand in the first area.
+        ensures stand { OnOk result
+            (MarksStand (prepared_of self.now area.old spare.old) area.new) }
 
         // Where it fails, all counts up to the one that it failed at are of those to be told.
-        ensures failed { let p = preparation self.now (length area.old) (length spare.old) in
-            IfErr result (λ e.
-            FailedAmong L.hears L.fails (MarksTold p) listener.old e listener.new) }
+        ensures failed { IfErr result (λ e. FailedAmong L.hears L.fails
+            (MarksTold (prepared_of self.now area.old spare.old)) listener.old e listener.new) }
         ensures area_kept { OnErr result (area.new ≡ area.old) }
         ensures spare_kept { OnErr result (spare.new ≡ spare.old) }
+
+        // Of a collection with other deed numbers all would be the same.
+        ensures deeds { OnOk result (WhateverDeeds (prepared_of self.now area.old spare.old)
+            (λ q. Left q area.old spare.old area.new spare.new)) }
+        ensures deeds_told { OnOk result (WhateverDeeds (prepared_of self.now area.old spare.old)
+            (λ q. ToldOf L.hears (MarksTold q) listener.old listener.new)) }
+        ensures deeds_failed { IfErr result (λ e.
+            WhateverDeeds (prepared_of self.now area.old spare.old)
+            (λ q. FailedAmong L.hears L.fails (MarksTold q) listener.old e listener.new)) }
     {
         let area_len = area.len();
         let spare_len = spare.len();

@@ -1,9 +1,9 @@
 // A row of asks of a collection, answered in one call.
-ghost use Rattle.std.specs.Prelude.{◌≡◌, ◌↔◌, ◌+◌, IsTrue, Some, length, min, slice_get};
+ghost use Rattle.std.specs.Prelude.{◌↔◌, ◌+◌, IsTrue, length, min};
 ghost use Rattle.tables.specs.Asks.{read_ask};
-ghost use Rattle.index.specs.Preparation.{preparation};
+ghost use Rattle.index.specs.Preparation.{prepared_of, WhateverDeeds};
 ghost use Rattle.index.specs.Row.{ask_count, AnswersEach, AllAlike, KeepsRest};
-ghost use Rattle.index.specs.Row.{SomeDeclared, InTurn};
+ghost use Rattle.index.specs.Row.{SomeDeclared, StandsAt, InTurn};
 
 use crate::call::undeclared;
 use crate::lent::Lent;
@@ -76,11 +76,14 @@ impl<'a> Lent<'a> {
         area: &mut [u8],
         spare: &mut [u8],
     )
-        ensures in_turn { let p = preparation self.now (length area.old) (length spare.old) in
+        ensures in_turn { let p = prepared_of self.now area.old spare.old in
             let t = asks.now.numbers.now in
-            let n = min (ask_count t) (length answers.old) in
-            InTurn p (read_ask t) (λ k r. slice_get answers.new k ≡ Some r) area.old spare.old n
-            area.new spare.new }
+            InTurn p (read_ask t) (StandsAt answers.new) area.old spare.old
+            (min (ask_count t) (length answers.old)) area.new spare.new }
+        ensures deeds { WhateverDeeds (prepared_of self.now area.old spare.old) (λ q.
+            let t = asks.now.numbers.now in
+            InTurn q (read_ask t) (StandsAt answers.new) area.old spare.old
+            (min (ask_count t) (length answers.old)) area.new spare.new) }
         ensures rest { KeepsRest asks.now.numbers.now answers.old answers.new }
     {
         let n = answers.len().min(asks.len());

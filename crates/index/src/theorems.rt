@@ -3,12 +3,12 @@ ghost use Rattle.std.specs.Prelude.{◌≡◌, ◌<◌, ℕ, List};
 ghost use Rattle.kinds.specs.declared.Ask.{Ask};
 ghost use Rattle.kinds.specs.declared.Answer.{Answer};
 ghost use Rattle.laws.specs.Once.{AtMostOne};
-ghost use Rattle.index.specs.Preparation.{Preparation};
+ghost use Rattle.index.specs.Preparation.{Preparation, Left};
 ghost use Rattle.index.specs.Marks.{MarksTold, MakesSheet, ToldAtMost};
 ghost use Rattle.index.specs.Rounds.{HasRounds, NoRounds};
 ghost use Rattle.index.specs.Asked.{IsAnswer};
 ghost use Rattle.index.specs.Row.{InTurn};
-ghost use Rattle.index.specs.Once.{Left, SameAt};
+ghost use Rattle.index.specs.Once.{SameAt, AnswerFixesAreas};
 
 // A type that names where answers to a row of asks stand, whether answer r to ask k does: any.
 pub trait AnyPlace {
@@ -28,6 +28,11 @@ pub fn unique<A: AnyPlace, B: AnyPlace>()
         (area spare x y u v : List ℕ) (n : ℕ)
         → InTurn p ask A.tells area spare n x y → InTurn p ask B.tells area spare n u v
         → (x ≡ u) × (y ≡ v) × ((k : ℕ) → k < n → SameAt A.tells B.tells k) }
+{}
+
+// An ask leaves in both areas what the same answer to another ask would: to a pair, or to one end.
+pub fn areas()
+    ensures by_answer { AnswerFixesAreas }
 {}
 
 // What a listener is told of a preparation: one row of counts, and what it comes to.

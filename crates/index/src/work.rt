@@ -5,16 +5,12 @@ ghost use Rattle.sheet.specs.Heard.{ToldOf, FailedOf};
 ghost use Rattle.index.specs.Works.{Passes, IsFound, LeavesFirst, LeavesSecond};
 ghost use Rattle.index.specs.Works.{CountsOf, BeginsCounts};
 
+use crate::ground::Ground;
 use crate::lent::Lent;
 use crate::routes::{Paths, Routes};
-use clash::Exclusions;
-use elements::Elements;
-use hops::Hops;
 use kinds::{AREA, RoundListener, Rounds};
-use orders::{ConceptOrder, RoleOrder};
 use rules::Rows;
 use sheet::{Closing, Ran};
-use walk::{Question, Tree};
 
 // What is found of a collection that passed its tests.
 #[derive(Clone, Copy)]
@@ -24,8 +20,8 @@ pub enum Found<'r> {
     Needed(Rounds, Paths<'r>),
 }
 
-// The orders, and who has what; the contradiction test; the rounds against the allowance, of which a
-// listener is told; and what walks go by. All of it stays where it is made, and is lent.
+// The contradiction test; the rounds against the allowance, of which a listener is told; and what
+// walks follow. All of it stays where it is made, and is lent.
 pub(crate) fn settle<'r, L: RoundListener>(
     lent: &Lent<'r>,
     area: &mut [u8; AREA],
@@ -44,44 +40,26 @@ pub(crate) fn settle<'r, L: RoundListener>(
     ensures area_kept { OnErr result (area.new ≡ area.old) }
     ensures spare_kept { OnErr result (spare.new ≡ spare.old) }
 {
-    let of = lent.collection;
     let Routes {
         next,
         loops,
         ways,
         exits,
     } = routes;
-    let roles = RoleOrder::new(of.role_rules);
-    let order = ConceptOrder::new(of.concept_rules, &roles);
-    let mut elements = Elements::EMPTY;
-    elements.fill(of.concept_facts, of.role_facts, &order);
-    let hops = Hops::new(of.role_facts, next);
-    let exclusions = Exclusions::new(of.concept_exclusions, of.role_exclusions);
-    if exclusions.clash(&roles, &order, &elements, &hops) {
+    let ground = Ground::new(&lent.collection, next);
+    if ground.contradicts() {
         return Ok(Found::Contradiction);
     }
-    ways.fill(of.steps, &roles);
     let mut rows = Rows::NONE;
-    rows.fill(of.counts, &order, ways, of.steps);
+    ground.lay_out(ways, &mut rows);
     let mut closing = Closing::new();
     let ran = closing.run(&rows, lent.allowance, listener)?;
     closing.leave(area, spare);
     match ran {
         Ran::Spent => Ok(Found::Spent),
         Ran::Needed(rounds) => {
-            loops.fill(&elements.individuals, &closing.sheet);
-            let ways = &ways.by;
-            let tree = Tree::new(&order.below, ways, &closing.sheet, of.finals);
-            let question = Question::new(of.counts.start, &tree, &elements.individuals, exits);
-            Ok(Found::Needed(
-                rounds,
-                Paths {
-                    loops,
-                    ways,
-                    hops,
-                    question,
-                },
-            ))
+            let paths = ground.paths(&ways.by, &closing.sheet, loops, exits);
+            Ok(Found::Needed(rounds, paths))
         }
     }
 }

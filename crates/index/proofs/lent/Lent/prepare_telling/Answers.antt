@@ -1,27 +1,22 @@
--- `prepare_telling`: both areas by what was found, and what the listener was told.
-use Rattle.index.proofs.Areas.{left}
-use Rattle.index.proofs.Counted.{told, begun}
+-- `prepare_telling`: the counts that were told make the marks that stand, and with other deed numbers all is the same.
 use Rattle.sheet.proofs.Counts.{passed_on}
+use Rattle.index.proofs.Deeds.{left-whatever, told-whatever}
+use Rattle.index.proofs.ToldOnce.{told-stand}
 use Rattle.index.proofs.lent.Lent.prepare_telling.Goals as goal
 
-pub returns-clause-sheet : goal.returns-clause-sheet
-returns-clause-sheet g c = (left c.args.self.now _ _ _ _ _ c.in_ok-worked.ensures.worked c.in_ok-worked.ensures.first c.in_ok-worked.ensures.second).sheet
+pub returns-clause-stand : goal.returns-clause-stand
+returns-clause-stand g c = told-stand _ _ c.in_ok-worked.ensures.left.sheet
 
-pub returns-clause-cleared : goal.returns-clause-cleared
-returns-clause-cleared g c = (left c.args.self.now _ _ _ _ _ c.in_ok-worked.ensures.worked c.in_ok-worked.ensures.first c.in_ok-worked.ensures.second).cleared
+pub returns-clause-deeds : goal.returns-clause-deeds
+returns-clause-deeds g c = left-whatever _ c.in_ok-worked.ensures.left
 
-pub returns-clause-untouched : goal.returns-clause-untouched
-returns-clause-untouched g c = (left c.args.self.now _ _ _ _ _ c.in_ok-worked.ensures.worked c.in_ok-worked.ensures.first c.in_ok-worked.ensures.second).untouched
-
-pub returns-clause-spared : goal.returns-clause-spared
-returns-clause-spared g c = (left c.args.self.now _ _ _ _ _ c.in_ok-worked.ensures.worked c.in_ok-worked.ensures.first c.in_ok-worked.ensures.second).spared
-
-pub returns-clause-told : goal.returns-clause-told
-returns-clause-told g c =
-    let w = c.in_ok-worked.ensures.told in
-    (w.0, told c.args.self.now _ _ _ c.in_ok-worked.ensures.worked w.0 w.1, w.2)
+pub returns-clause-deeds_told : goal.returns-clause-deeds_told
+returns-clause-deeds_told g c = λ t s. let w = c.in_ok-worked.ensures.told in (w.0, told-whatever _ w.1 t s, w.2)
 
 pub returns-in_err-worked-clause-failed : goal.returns-in_err-worked-clause-failed
-returns-in_err-worked-clause-failed g c =
+returns-in_err-worked-clause-failed g c = passed_on c.from_residual.result _ _ c.from_residual.ensures.1 c.in_err-worked.ensures.failed
+
+pub returns-in_err-worked-clause-deeds_failed : goal.returns-in_err-worked-clause-deeds_failed
+returns-in_err-worked-clause-deeds_failed g c =
     let w = c.in_err-worked.ensures.failed in
-    passed_on c.from_residual.result _ _ c.from_residual.ensures.1 (w.0, w.1.begins.rest, begun c.args.self.now _ _ w.0 w.1, w.2)
+    passed_on c.from_residual.result _ _ c.from_residual.ensures.1 (λ t s. (w.0, w.1, told-whatever _ w.2 t s, w.3))
