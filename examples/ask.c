@@ -36,6 +36,13 @@ int main(void) {
             numbers, 2, counts, 2)) return 1;
     for (int k = 0; k < 2; k++)
         printf("(%d, %d) in a row: number %d, count %d\n", pairs[2 * k], pairs[2 * k + 1], numbers[k], counts[k]);
+    /* The first pair, and then individual 0 alone: does a path of the question lead from it to anything? */
+    static const uint16_t asks[] = {0, 0, 0, 1, 0, 0};
+    if (lampsaffron_ask_row(2, 2, 2, 4, 0, rules, 4, none, 0, none, 0, none, 0,
+            facts, 3, none, 0, steps, 12, finals, 1, asks, 6, 64, area, sizeof area, spare, sizeof spare,
+            numbers, 2, counts, 2)) return 1;
+    printf("(0, 0) in a row of asks: number %d, count %d\n", numbers[0], counts[0]);
+    printf("0 alone in a row of asks: number %d, count %d\n", numbers[1], counts[1]);
     /* The same question from the marks of an expression: signs, test Deed, signs backward. */
     static const uint8_t marks_typed[] = {0x00, 0x41, 0x01};
     static uint16_t made_steps[LAMPSAFFRON_STEPS], made_finals[LAMPSAFFRON_FINALS];

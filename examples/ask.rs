@@ -33,6 +33,23 @@ extern "C" {
         numbers: *mut u8, numbers_len: usize,
         counts: *mut u16, counts_len: usize,
     ) -> bool;
+    fn lampsaffron_ask_row(
+        names: u16, roles: u16, individuals: u16, states: u16, start: u16,
+        concept_rules: *const u16, concept_rules_len: usize,
+        concept_exclusions: *const u16, concept_exclusions_len: usize,
+        role_rules: *const u16, role_rules_len: usize,
+        role_exclusions: *const u16, role_exclusions_len: usize,
+        concept_facts: *const u16, concept_facts_len: usize,
+        role_facts: *const u16, role_facts_len: usize,
+        steps: *const u16, steps_len: usize,
+        finals: *const u16, finals_len: usize,
+        asks: *const u16, asks_len: usize,
+        allowance: u16,
+        area: *mut u8, area_len: usize,
+        spare: *mut u8, spare_len: usize,
+        numbers: *mut u8, numbers_len: usize,
+        counts: *mut u16, counts_len: usize,
+    ) -> u8;
     fn lampsaffron_expression(
         marks: *const u8, marks_len: usize,
         steps: *mut u16, steps_len: usize,
@@ -115,6 +132,31 @@ fn main() {
     for (pair, (number, count)) in pairs.chunks(2).zip(numbers.iter().zip(counts)) {
         println!("({}, {}) in a row: number {number}, count {count}", pair[0], pair[1]);
     }
+    // The first pair, and then individual 0 alone: does a path of the question lead from it to anything?
+    let asks: [u16; 6] = [0, 0, 0, 1, 0, 0];
+    // As above.
+    let number = unsafe {
+        lampsaffron_ask_row(
+            2, 2, 2, 4, 0,
+            rules.as_ptr(), rules.len(),
+            none.as_ptr(), 0,
+            none.as_ptr(), 0,
+            none.as_ptr(), 0,
+            facts.as_ptr(), facts.len(),
+            none.as_ptr(), 0,
+            steps.as_ptr(), steps.len(),
+            finals.as_ptr(), finals.len(),
+            asks.as_ptr(), asks.len(),
+            64,
+            area.as_mut_ptr(), area.len(),
+            spare.as_mut_ptr(), spare.len(),
+            numbers.as_mut_ptr(), numbers.len(),
+            counts.as_mut_ptr(), counts.len(),
+        )
+    };
+    assert_eq!(number, 0);
+    println!("(0, 0) in a row of asks: number {}, count {}", numbers[0], counts[0]);
+    println!("0 alone in a row of asks: number {}, count {}", numbers[1], counts[1]);
     // The same question from the marks of an expression: signs, test Deed, signs backward.
     let typed = [0x00u8, 0x41, 0x01];
     let (mut made_steps, mut made_finals) = ([0u16; 2048], [0u16; 16]);

@@ -1,4 +1,5 @@
-/* The library's calls for C: one pair of individuals asked of a collection, one individual, or a row of pairs; how many marks each round of its loop sheet makes; and the tables of a question from an expression. docs/LINKING.md says how to link it. */
+/* The library's calls for C: one pair of individuals asked of a collection, one individual, a row of pairs, or a row of both; how many marks each round of its loop sheet
+   makes; and the tables of a question from an expression. docs/RULES.md, section 10, says what each takes and gives, and docs/LINKING.md how to link it. */
 #ifndef LAMPSAFFRON_H
 #define LAMPSAFFRON_H
 
@@ -10,8 +11,9 @@
    least, of byte p / 8. */
 #define LAMPSAFFRON_AREA 4096
 
-/* The most pairs of one row. */
+/* The most pairs of one row, and the most asks of one row. */
 #define LAMPSAFFRON_PAIRS 256
+#define LAMPSAFFRON_ASKS 256
 
 /* The numbers of the most steps and of the most final states. */
 #define LAMPSAFFRON_STEPS 2048
@@ -87,6 +89,29 @@ bool lampsaffron_ask_all(
     const uint16_t *steps, size_t steps_len,
     const uint16_t *finals, size_t finals_len,
     const uint16_t *pairs, size_t pairs_len,
+    uint16_t allowance,
+    uint8_t *area, size_t area_len,
+    uint8_t *spare, size_t spare_len,
+    uint8_t *numbers, size_t numbers_len,
+    uint16_t *counts, size_t counts_len);
+
+/* A row of asks of one collection, of pairs and of individuals: what lampsaffron_ask and lampsaffron_ask_from of each do, one after the other,
+   with the same two areas; the collection is worked out once. asks has three numbers for each ask: its kind, 0 for a pair or 1 for one
+   individual, then the first individual and the second, which is not read where the kind is 1; the number of ask k goes to numbers[k] and its
+   count to counts[k], and both areas are as after the last ask.
+   The lengths fit where asks_len is three times a number that is at most LAMPSAFFRON_ASKS, and numbers_len and counts_len are each that number.
+   Returns 0 where all were asked; 5, the lengths do not fit; 6, they fit, and some kind is above 1. After 5 and 6 nothing is written. */
+uint8_t lampsaffron_ask_row(
+    uint16_t names, uint16_t roles, uint16_t individuals, uint16_t states, uint16_t start,
+    const uint16_t *concept_rules, size_t concept_rules_len,
+    const uint16_t *concept_exclusions, size_t concept_exclusions_len,
+    const uint16_t *role_rules, size_t role_rules_len,
+    const uint16_t *role_exclusions, size_t role_exclusions_len,
+    const uint16_t *concept_facts, size_t concept_facts_len,
+    const uint16_t *role_facts, size_t role_facts_len,
+    const uint16_t *steps, size_t steps_len,
+    const uint16_t *finals, size_t finals_len,
+    const uint16_t *asks, size_t asks_len,
     uint16_t allowance,
     uint8_t *area, size_t area_len,
     uint8_t *spare, size_t spare_len,

@@ -1,5 +1,5 @@
 /* The library driver of PROTOCOL.md: reads a call per line, asks lampsaffron_ask, lampsaffron_ask_from, lampsaffron_ask_all,
-   lampsaffron_marks or lampsaffron_expression, writes what they gave and hashes.
+   lampsaffron_ask_row, lampsaffron_marks or lampsaffron_expression, writes what they gave and hashes.
    No stdio and no heap: only read and write, declared by hand, and static buffers. */
 #include "lampsaffron.h"
 
@@ -8,8 +8,8 @@ extern long write(int to, const void *bytes, size_t length);
 
 enum { TABLES = 8, MOST_NUMBERS = 65535, MOST_AREA = 32768, MOST_ENTRIES = 1024, MOST_ROOM = 131072, MOST_MADE = 4096, GUARD = 64 };
 
-/* The tables, and after them the pairs of a row. */
-enum { PAIRS = TABLES };
+/* The tables, and after them the pairs or the asks of a row. */
+enum { ASKED = TABLES };
 static uint16_t tables[TABLES + 1][MOST_NUMBERS + 1];
 static size_t lengths[TABLES + 1];
 static uint8_t areas[2][MOST_AREA + GUARD];
@@ -27,7 +27,7 @@ static size_t marks_length;
 static uint16_t made[2][MOST_MADE + GUARD / 2];
 
 /* The letters that a request of another kind than a pair begins with; none is a digit. */
-enum { ROW = 'R', ONE = 'L', ROUNDS = 'N', EXPRESSION = 'M' };
+enum { ROW = 'R', MIXED = 'Q', ONE = 'L', ROUNDS = 'N', EXPRESSION = 'M' };
 
 /* What a request says beside the tables and marks; one individual stands first in the pair. */
 struct request {
@@ -141,6 +141,11 @@ static void send_line(void) {
     tables[0], lengths[0], tables[1], lengths[1], tables[2], lengths[2], tables[3], lengths[3], \
     tables[4], lengths[4], tables[5], lengths[5], tables[6], lengths[6], tables[7], lengths[7]
 
+/* A row of pairs, or of both kinds of ask. */
+static int asks_row(int kind) {
+    return kind == ROW || kind == MIXED;
+}
+
 static void answer_pair(const struct request *asked) {
     uint16_t count = 0xFFFF;
     uint8_t given = lampsaffron_ask(
@@ -163,10 +168,14 @@ static void answer_row(const struct request *asked) {
     size_t numbers = asked->entries[0], counts = asked->entries[1];
     fill_lent(row_numbers, numbers, asked->fill);
     fill_lent(row_counts, 2 * counts, asked->fill);
-    bool fits = lampsaffron_ask_all(
-        LENT(asked), tables[PAIRS], lengths[PAIRS], asked->allowance,
-        areas[0], asked->sizes[0], areas[1], asked->sizes[1], row_numbers, numbers, row_counts, counts);
-    put(fits, 2);
+    uint8_t given = asked->kind == MIXED
+        ? lampsaffron_ask_row(
+            LENT(asked), tables[ASKED], lengths[ASKED], asked->allowance,
+            areas[0], asked->sizes[0], areas[1], asked->sizes[1], row_numbers, numbers, row_counts, counts)
+        : lampsaffron_ask_all(
+            LENT(asked), tables[ASKED], lengths[ASKED], asked->allowance,
+            areas[0], asked->sizes[0], areas[1], asked->sizes[1], row_numbers, numbers, row_counts, counts);
+    put(given, 2);
     for (size_t i = 0; i < numbers; i++) put(row_numbers[i], 2);
     put(hash(row_numbers + numbers, GUARD), 16);
     for (size_t i = 0; i < counts; i++) put(row_counts[i], 4);
@@ -197,7 +206,7 @@ static void answer_expression(const struct request *asked) {
 
 static void answer_with_areas(const struct request *asked) {
     for (int i = 0; i < 2; i++) fill_lent(areas[i], asked->sizes[i], asked->fills[i]);
-    if (asked->kind == ROW) answer_row(asked);
+    if (asks_row(asked->kind)) answer_row(asked);
     else if (asked->kind == ONE) answer_one(asked);
     else if (asked->kind == ROUNDS) answer_rounds(asked);
     else answer_pair(asked);
@@ -246,13 +255,13 @@ static int individuals(int kind) {
 static void read_ask(struct request *asked) {
     for (int i = 0; i < 5; i++) asked->counts[i] = (uint16_t)number(4);
     for (int i = 0; i < TABLES; i++) read_table(i);
-    if (asked->kind == ROW) read_table(PAIRS);
+    if (asks_row(asked->kind)) read_table(ASKED);
     else
         for (int i = 0; i < individuals(asked->kind); i++) asked->pair[i] = (uint16_t)number(4);
     asked->allowance = (uint16_t)number(4);
     for (int i = 0; i < 2; i++) asked->sizes[i] = length_within(8, MOST_AREA);
     for (int i = 0; i < 2; i++) asked->fills[i] = (uint8_t)number(2);
-    if (asked->kind == ROW) read_entries(asked, MOST_ENTRIES);
+    if (asks_row(asked->kind)) read_entries(asked, MOST_ENTRIES);
     if (asked->kind == ROUNDS) read_room(asked);
 }
 
@@ -262,7 +271,7 @@ static struct request read_request(void) {
         read_marks();
         read_entries(&asked, MOST_MADE);
     } else {
-        if (asked.kind != ROW && asked.kind != ONE && asked.kind != ROUNDS) step_back();
+        if (!asks_row(asked.kind) && asked.kind != ONE && asked.kind != ROUNDS) step_back();
         read_ask(&asked);
     }
     end_of_line();

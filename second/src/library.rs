@@ -18,7 +18,7 @@ pub const SHAPES: [(usize, usize); 8] =
 pub const CONCEPT_FACTS: usize = 4;
 pub const ROLE_FACTS: usize = 5;
 
-/// The most pairs of one row.
+/// The most pairs of one row, and the most asks.
 pub const PAIRS: usize = 256;
 
 /// What is lent for any ask. Every value is possible in every place.
@@ -105,6 +105,29 @@ pub fn ask_all(
     let row: Vec<Asked> = whole.map(|pair| Asked::Pair([pair[0], pair[1]])).collect();
     let fits = !broken && row.len() <= PAIRS && entries == [row.len(); 2];
     fits.then(|| ask_each(call, &row, area, spare))
+}
+
+/// The answers to a row of asks of both kinds, three numbers each: 0 for a pair or 1 for one individual, first, second. Else
+/// the refusal, and nothing written: 5 where an ask is broken, there are too many, or a length is not theirs; then 6 for
+/// another kind.
+pub fn ask_row(
+    call: &Call,
+    asks: &[u16],
+    entries: [usize; 2],
+    area: &mut [u8],
+    spare: &mut [u8],
+) -> Result<Vec<(u8, u16)>, u8> {
+    let whole = asks.chunks_exact(3);
+    if !whole.remainder().is_empty() || whole.len() > PAIRS || entries != [whole.len(); 2] {
+        return Err(5);
+    }
+    let row = whole.map(|ask| match ask[0] {
+        0 => Some(Asked::Pair([ask[1], ask[2]])),
+        1 => Some(Asked::From(ask[1])),
+        _ => None,
+    });
+    let row = row.collect::<Option<Vec<Asked>>>().ok_or(6)?;
+    Ok(ask_each(call, &row, area, spare))
 }
 
 /// The number, and how many marks each worked round adds, round 1 first, for a row that has so much room: 4, then 5 where

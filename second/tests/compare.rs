@@ -42,9 +42,9 @@ fn a_bad_exit_status_fails() {
     let (_, desk) = compare(&of(ending_badly("desk"), None));
     let (_, library) = compare(&of(None, ending_badly("answer")));
     let (_, right) = compare(&of(None, Some(format!("{} answer", env!("CARGO_BIN_EXE_second")))));
-    // Of so few cases each number of the desk, and all else of it, is met too seldom. Five parts have a driver.
+    // Of so few cases each number of the desk, and all else of it, is met too seldom. Six parts have a driver.
     assert_eq!(desk, sound + 40 + (DESK_NUMBERS.len() + desk_met().len()) as u64);
-    assert_eq!(library, right + 5);
+    assert_eq!(library, right + 6);
     std::fs::remove_dir_all(&folder).expect("our own folder");
     for case in 0..40 {
         drop(std::fs::remove_file(

@@ -1,10 +1,10 @@
-//! A row of pairs is what asking each does, one after the other with the same two areas.
+//! A row of pairs, or of both kinds of ask, is what asking each does, one after the other with the same two areas.
 
 use second::area::AREA;
 use second::ask::Ask;
 use second::compare::sample::sample;
 use second::desk::read::read;
-use second::library::{ask, ask_all, Call, PAIRS};
+use second::library::{ask, ask_all, ask_from, ask_row, Call, PAIRS};
 use std::collections::BTreeSet;
 
 /// Sound collections, each with an undeclared pair before its asks, after them and in the middle.
@@ -42,6 +42,30 @@ fn a_row_is_its_pairs_in_turn() {
         met.extend(in_turn.iter().map(|answer| answer.0));
     }
     assert_eq!(met, BTreeSet::from([0, 1, 2, 3, 8]));
+}
+
+#[test]
+fn a_row_of_both_kinds_is_its_asks_in_turn() {
+    for (call, row) in rows() {
+        let ([mut area, mut spare], [mut other, mut other_spare]) = (areas(), areas());
+        let asks = row.iter().enumerate().map(|(k, pair)| [(k % 2) as u16, pair[0], pair[1]]);
+        let mut asks: Vec<[u16; 3]> = asks.collect();
+        let one = |&[kind, first, second]: &[u16; 3]| match kind {
+            0 => ask(&call, [first, second], &mut area, &mut spare),
+            _ => ask_from(&call, first, &mut area, &mut spare),
+        };
+        let in_turn: Vec<_> = asks.iter().map(one).collect();
+        let entries = [asks.len(); 2];
+        let at_once = ask_row(&call, &asks.concat(), entries, &mut other, &mut other_spare);
+        assert_eq!(at_once, Ok(in_turn));
+        assert!(area == other && spare == other_spare);
+        // Of another kind: the lengths are looked at first.
+        let [mut area, mut spare] = areas();
+        asks.last_mut().expect("an ask")[0] = 2;
+        assert_eq!(ask_row(&call, &asks.concat(), entries, &mut area, &mut spare), Err(6));
+        assert_eq!(ask_row(&call, &asks.concat(), [asks.len(), 0], &mut area, &mut spare), Err(5));
+        assert_eq!([area, spare], areas());
+    }
 }
 
 #[test]

@@ -66,12 +66,9 @@ module _ (row : List ℕ) where
     pub scan-found : q + 8 < p → TooDeep row
     scan-found f = record { place = i + 1; within = omega arith; passes = record { over = omega (arith, opens-more, closes-more) } }
 
-  pub scan-end : (i o c : ℕ) → Scanning row i o c → length row ≤ i → TooDeep row → ⊥
-  scan-end i o c w h d = w.none d.place (let a = d.within in omega arith) d.passes
+-- one where the mark is the one counted, and else none
+pub bit-on : {x b : ℕ} → x ≡ b → bit (eqb x b) ≡ 1
+bit-on {x} {b} e = rw (eq-eqb x b e) refl
 
--- one more where the mark is the one counted, and else as before
-pub counted-on : (n x b : ℕ) → x ≡ b → n + 1 ≡ n + bit (eqb x b)
-counted-on n x b e = rw (eq-eqb x b e) refl
-
-pub counted-off : (n x b : ℕ) → (x ≡ b → ⊥) → n ≡ n + bit (eqb x b)
-counted-off n x b e = rw (ne_eqb x b e) (omega arith)
+pub bit-off : {x b : ℕ} → (x ≡ b → ⊥) → bit (eqb x b) ≡ 0
+bit-off {x} {b} e = rw (ne_eqb x b e) refl

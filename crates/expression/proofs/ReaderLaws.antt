@@ -153,8 +153,10 @@ module _ (d : ℕ) (s : List ℕ) (at n : ℕ) where
         found {e} {m} {t} (once x) y = g.only e m t x anything
         found {e} {m} {t} (repeated {c = b} {e = f} x q) y = absurd (h (ap next (g.only f m (b ∷ t) x anything).rest ∙ q))
 
-    pub item-many : {b : Part} {after : List StateSet} → next (drop p s) ≡ 0x83 → IsMany a new after b → Reads (Item d) ItemEnds s at n old was (p + 1) c b after now
-    item-many {b} {after} h w =
+    pub item-many : {b : Part} {after : List StateSet} {q : ℕ} → q ≡ p + 1 → next (drop p s) ≡ 0x83 → IsMany a new after b
+        → Reads (Item d) ItemEnds s at n old was q c b after now
+    item-many {b} {after} {q} i h w =
+        rw i
         let l = in_row s p (λ q. omega arith) in
         let z = row_here s p (λ q. omega arith) in
         let o = g.fewer in

@@ -7,7 +7,7 @@ use Rattle.meaning.specs.Collection.{Collection, Letter}
 use Rattle.meaning.specs.Model.{Element, canonical}
 use Rattle.meaning.specs.Question.{Spells}
 use Rattle.meaning.specs.Asks.{IsSpelled}
-use Rattle.meaning.specs.Tree.{root}
+use Rattle.theory.specs.Tree.{root}
 use Rattle.expression.specs.Tree.{Tree, WordOf}
 use Rattle.expression.specs.Grammar.{Expression, IsExpression}
 use Rattle.expression.specs.Depth.{TooDeep}

@@ -3,3 +3,5 @@ pub mod Told
 pub mod Made
 mod Seven
 pub mod Rounds
+pub mod Deeds
+pub mod AsksLaws

@@ -1,24 +1,31 @@
 -- The number of the call that tells how many marks each round made, and the row that it leaves.
-use Rattle.std.specs.Prelude.{◌≡◌, ◌≢◌, refl, List, [], ◌∷◌, ◌++◌, ℕ, suc, ◌≤◌, ◌<◌, length, drop, slice_index, slice_set, min}
+use Rattle.std.specs.Prelude.{◌≡◌, ◌≢◌, refl, List, [], ◌∷◌, ◌++◌, ℕ, suc, ◌+◌, ◌≤◌, ◌<◌, length, take, drop, slice_index, slice_set, min, sum}
 use Rattle.std.proofs.Math.Decide.{ℕ_discrete}
-use Rattle.std.proofs.Common.{⊎_elim, sym, ap, ◌∙◌, inl, inr, arith, length-append}
+use Rattle.std.proofs.Common.{⊎_elim, sym, subst, ap, ◌∙◌, inl, inr, arith, length-append}
 use Rattle.std.proofs.Math.Seq.{drop-cons, set-append_seam, take-append_seam, drop-append_seam}
 use Rattle.std.proofs.lemmas.List.{length-drop, append_assoc, take-append-drop}
 use Rattle.kinds.specs.declared.Answer.{Answer}
+use Rattle.kinds.specs.declared.Counts.{Counts}
 use Rattle.kinds.specs.Answer.{answer_number}
 use Rattle.kinds.specs.Kinds.{CountsFit}
 use Rattle.kinds.specs.Told.{Told, Failed, none, next}
 use Rattle.laws.specs.First.{fails, holds, first-once}
+use Rattle.meaning.specs.Lent.{Tables}
+use Rattle.meaning.specs.Layout.{zeros, Standing}
+use Rattle.meaning.specs.LawsOfMarks.{first_marks}
 use Rattle.meaning.specs.Lite.{lite}
-use Rattle.meaning.specs.Sheet.{Mark}
+use Rattle.theory.specs.Sheet.{Mark}
 use Rattle.meaning.proofs.Demands.{rounds-suffice}
 use Rattle.meaning.proofs.LayoutLaws.{lays-once}
-use Rattle.meaning.proofs.SheetLaws.{rounds-unique}
-use Rattle.index.specs.Preparation.{Preparation, collection_in, HasSheet}
+use Rattle.theory.proofs.SheetLaws.{rounds-unique}
+use Rattle.tables.specs.Lists.{lists}
+use Rattle.index.specs.declared.lent.Lent as index
+use Rattle.index.specs.Preparation.{Preparation, made_of, preparation, collection_in, HasSheet, RoundsNeeded, HoldsSheet}
 use Rattle.index.specs.Rounds.{HasRounds, NoRounds}
-use Rattle.index.proofs.ToldOnce.{told-once}
+use Rattle.index.proofs.ToldOnce.{told-once, told-make}
 use Rattle.index.proofs.Unique.{well}
-use Rattle.lampsaffron.specs.Marks.{MarksNumber, WorksRounds, IsFront, Puts, Lent, TellsMarks}
+use Rattle.lampsaffron.proofs.Told.{lent-is}
+use Rattle.lampsaffron.specs.Marks.{MarksNumber, WorksRounds, TellsFront, IsFront, Puts, Lent, left, TellsMarks}
 
 module _ (p : Preparation) (room : ℕ) where
   -- the number by why there are no rounds, or by what they are
@@ -108,7 +115,8 @@ module _ {S N : Type 0} (row : S → List ℕ) (told : S → ℕ) (name : S → 
 
   -- where there is a place for each count, the listener does not fail
   pub no-place : {E : Type 0} {fails : S → ℕ → ℕ → E → S → Type 0} {from to : S} {counts : List ℕ} {e : E}
-      → ((x : S) (r m : ℕ) (e : E) (y : S) → fails x r m e y → length (row x) ≤ told x) → told from ≡ 0 → Failed hears fails from counts e to → length counts ≤ length (row from) → ⊥
+      → ((x : S) (r m : ℕ) (e : E) (y : S) → fails x r m e y → length (row x) ≤ told x) → told from ≡ 0
+      → Failed hears fails from counts e to → length counts ≤ length (row from) → ⊥
   no-place {from = from} full z f l =
       let h = held z f.told in
       let g = full f.at _ _ _ _ f.failed in
@@ -121,12 +129,81 @@ module _ {S N : Type 0} (row : S → List ℕ) (told : S → ℕ) (name : S → 
 pub none-put : (rounds : ℕ) (old new : List ℕ) → IsFront [] rounds old new → new ≡ old
 none-put rounds old new f = let r = f.rest in rw f.many at r
 
-abbrev left : List ℕ → List ℕ → List ℕ → ℕ → Lent
-left a s m r = record { area = a; spare = s; marks = m; rounds = r }
+-- where there is no sheet, the row stays
+pub none-kept : (p : Preparation) {rounds : ℕ} {old new : List ℕ} → TellsFront p rounds old new → (HasSheet p → ⊥) → new ≡ old
+none-kept p {rounds} {old} {new} t n = let e = t.1.none n in let f = t.2 in none-put rounds old new (rw e at f)
+
+module _ (l : index.Lent) {counts : Counts} {tables : Tables} {allowance : ℕ} (e : l.collection.counts ≡ counts) (f : lists l.collection ≡ tables) (g : l.allowance ≡ allowance)
+    (old : Lent) where
+  abbrev worked_from : Preparation
+  worked_from = preparation l (length old.area) (length old.spare)
+
+  abbrev lent_from : Preparation
+  lent_from = made_of counts tables allowance (length old.area) (length old.spare)
+
+  module _ {number r : ℕ} {x y m : List ℕ} (n : MarksNumber worked_from (length old.marks) number) where
+    -- all of it, where rounds were worked
+    pub tells-worked : WorksRounds number
+        → (HasSheet worked_from → (n : ℕ) → RoundsNeeded worked_from n → HoldsSheet worked_from (min n worked_from.allowance) x)
+        → (HasSheet worked_from → y ≡ zeros) → TellsFront worked_from r old.marks m → TellsMarks lent_from old number (left x y m r)
+    tells-worked w sheet cleared told =
+        let s = worked worked_from (length old.marks) n w in
+        let all : TellsMarks worked_from old number (left x y m r) = record { number_is = n; sheet = λ v. sheet s; cleared = λ v. cleared s; told = λ v. told; kept = λ v. absurd (v w) } in
+        subst (λ p. TellsMarks p old number (left x y m r)) (lent-is l e f g (length old.area) (length old.spare)) all
+
+    -- and where none were, as what was lent is left
+    pub tells-left : (WorksRounds number → ⊥) → allowance ≤ length old.marks → ((HasSheet worked_from → ⊥) → x ≡ old.area)
+        → ((HasSheet worked_from → ⊥) → y ≡ old.spare)
+        → TellsFront worked_from r old.marks m → TellsMarks lent_from old number (left x y m old.rounds)
+    tells-left w le a b told =
+        let h = idle worked_from (length old.marks) n w (omega (arith, g, le)) in
+        let all : TellsMarks worked_from old number (left x y m old.rounds) = record {
+          number_is = n;
+          sheet = λ v. absurd (w v);
+          cleared = λ v. absurd (w v);
+          told = λ v. absurd (w v);
+          kept = λ v i. record { area = a h i; spare = b h i; marks = none-kept worked_from told h i; rounds = old.rounds };
+        } in
+        subst (λ p. TellsMarks p old number (left x y m old.rounds)) (lent-is l e f g (length old.area) (length old.spare)) all
+
+-- where nothing was worked and nothing is written
+pub tells-kept : (p : Preparation) (old : Lent) {number : ℕ} → MarksNumber p (length old.marks) number → (WorksRounds number → ⊥)
+    → TellsMarks p old number old
+tells-kept p old n w = record {
+  number_is = n;
+  sheet = λ v. absurd (w v);
+  cleared = λ v. absurd (w v);
+  told = λ v. absurd (w v);
+  kept = λ v. refl;
+}
+
+-- 4 and 5 are numbers of no work
+pub idle-four : WorksRounds 4 → ⊥
+idle-four (inl h) = omega arith
+idle-four (inr h) = omega arith
+
+pub idle-five : WorksRounds 5 → ⊥
+idle-five (inl h) = omega arith
+idle-five (inr h) = omega arith
+
+-- the row that is left may be named otherwise
+pub row-named : {p : Preparation} {old : Lent} {number r : ℕ} {x y m m' : List ℕ} → TellsMarks p old number (left x y m r) → m' ≡ m
+    → TellsMarks p old number (left x y m' r)
+row-named t e = rw e t
+
+-- THEOREM: what is told and states × concepts make the marks that stand in the first area
+pub tells-makes : {p : Preparation} {old new : Lent} {number : ℕ} → TellsMarks p old number new → WorksRounds number
+    → Standing new.area (sum (take new.rounds new.marks) + first_marks p.counts)
+tells-makes {p} {old} {new} t w =
+    let s = worked p (length old.marks) t.number_is w in
+    let n = rounds-suffice (collection_in p) (well p s.fits) in
+    let v = t.told w in
+    rw v.2.front (told-make p v.0 new.area v.1 s n.0 n.2 (t.sheet w n.0 n.2))
 
 -- THEOREM: all that the call gives and leaves is fixed
 module _ (p : Preparation) (old : Lent) where
-  pub marks-once : (number number' : ℕ) (new new' : Lent) → TellsMarks p old number new → TellsMarks p old number' new' → (number ≡ number') × (new ≡ new')
+  pub marks-once : (number number' : ℕ) (new new' : Lent) → TellsMarks p old number new → TellsMarks p old number' new'
+      → (number ≡ number') × (new ≡ new')
   marks-once number number' new new' a b = (e, by (ℕ_discrete number 0) (ℕ_discrete number 3))
     where
       e : number ≡ number'
@@ -149,7 +226,8 @@ module _ (p : Preparation) (old : Lent) where
           let m' = rw (y.2.front, y.2.rest) at g in
           same area spare (m ∙ m') r
         where
-          same : new.area ≡ new'.area → new.spare ≡ new'.spare → new.marks ≡ new'.marks → new.rounds ≡ new'.rounds → left new.area new.spare new.marks new.rounds ≡ left new'.area new'.spare new'.marks new'.rounds
+          same : new.area ≡ new'.area → new.spare ≡ new'.spare → new.marks ≡ new'.marks → new.rounds ≡ new'.rounds
+              → left new.area new.spare new.marks new.rounds ≡ left new'.area new'.spare new'.marks new'.rounds
           same i j k l = rw (i, j, k, l) refl
 
       by : Dec (number ≡ 0) → Dec (number ≡ 3) → new ≡ new'

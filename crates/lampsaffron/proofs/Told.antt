@@ -3,18 +3,23 @@ use Rattle.std.specs.Prelude.{◌≡◌, ◌≢◌, refl, IfSome, List, ℕ, ◌
 use Rattle.std.proofs.Common.{sym, ap, ◌∙◌, subst, add-zero, arith, length-set, get_or-set_same, get_or-set_other, length-take, below_more}
 use Rattle.std.proofs.lemmas.List.{get_or-take}
 use Rattle.kinds.specs.declared.Answer.{Answer}
-use Rattle.meaning.specs.Lent.{field}
+use Rattle.kinds.specs.declared.Ask.{Ask}
+use Rattle.kinds.specs.declared.Counts.{Counts}
+use Rattle.meaning.specs.Lent.{Tables, field}
 use Rattle.tables.specs.Asks.{ask_width, read_ask}
-use Rattle.index.specs.Preparation.{Preparation}
-use Rattle.index.specs.Row.{ask_count, InTurn}
-use Rattle.index.proofs.Rows.{StandsAt, retold}
-use Rattle.lampsaffron.specs.Boundary.{pair_width, pair_count, pair_at, most_pairs, RowFits, Tells, TellsEach}
+use Rattle.tables.specs.Lists.{lists}
+use Rattle.index.specs.declared.lent.Lent.{Lent}
+use Rattle.index.specs.Preparation.{Preparation, made_of, preparation}
+use Rattle.index.specs.Row.{ask_count, StandsAt, InTurn}
+use Rattle.index.proofs.Rows.{retold}
+use Rattle.lampsaffron.specs.Boundary.{pair_width, pair_count, pair_at, most_asks, RowFits, Tells, TellsEach}
 use Rattle.lampsaffron.specs.Row.{HasPair, HasPairs}
+use Rattle.lampsaffron.specs.Asks.{AsksFit}
 
-pub pairs_none : (pairs row : List ℕ) → length row ≡ ask_width * most_pairs → HasPairs pairs row 0
+pub pairs_none : (pairs row : List ℕ) → length row ≡ ask_width * most_asks → HasPairs pairs row 0
 pairs_none pairs row e = record { long = e; each = λ k h. absurd (omega arith) }
 
-module _ (pairs row : List ℕ) (n : ℕ) (w : HasPairs pairs row n) (h : n < most_pairs) where
+module _ (pairs row : List ℕ) (n : ℕ) (w : HasPairs pairs row n) (h : n < most_asks) where
   abbrev one : List ℕ
   one = set row (ask_width * n) 0
 
@@ -24,13 +29,13 @@ module _ (pairs row : List ℕ) (n : ℕ) (w : HasPairs pairs row n) (h : n < mo
   abbrev all : List ℕ
   all = set two (ask_width * n + 2) (slice_index pairs (pair_width * n + 1))
 
-  long-one : length one ≡ ask_width * most_pairs
+  long-one : length one ≡ ask_width * most_asks
   long-one = length-set row (ask_width * n) 0 ∙ w.long
 
-  long-two : length two ≡ ask_width * most_pairs
+  long-two : length two ≡ ask_width * most_asks
   long-two = length-set one (ask_width * n + 1) (slice_index pairs (pair_width * n)) ∙ long-one
 
-  long-all : length all ≡ ask_width * most_pairs
+  long-all : length all ≡ ask_width * most_asks
   long-all = length-set two (ask_width * n + 2) (slice_index pairs (pair_width * n + 1)) ∙ long-two
 
   -- the numbers of another ask stay
@@ -76,7 +81,7 @@ pair_is pairs row k h =
     rw (kind, first, second) refl
 
 -- the part of the row that has the pairs
-module _ (pairs row : List ℕ) (w : HasPairs pairs row (min (pair_count pairs) most_pairs)) (few : pair_count pairs ≤ most_pairs) where
+module _ (pairs row : List ℕ) (w : HasPairs pairs row (min (pair_count pairs) most_asks)) (few : pair_count pairs ≤ most_asks) where
   abbrev part : List ℕ
   part = take (ask_width * pair_count pairs) row
 
@@ -92,12 +97,44 @@ module _ (pairs row : List ℕ) (w : HasPairs pairs row (min (pair_count pairs) 
         second = get_or-take (ask_width * pair_count pairs) row (ask_width * k + 2) 0 (omega arith) ∙ v.second;
       })
 
+-- what is lent is what is passed
+pub lent-is : (l : Lent) {counts : Counts} {tables : Tables} {allowance : ℕ} → l.collection.counts ≡ counts
+    → lists l.collection ≡ tables → l.allowance ≡ allowance
+    → (area spare : ℕ) → preparation l area spare ≡ made_of counts tables allowance area spare
+lent-is l e f g area spare = λ i. record { counts = e i; tables = f i; allowance = g i; area = area; spare = spare }
+
+-- so are asks in turn of it asks of that
+pub passed-turns : (l : Lent) {counts : Counts} {tables : Tables} {allowance : ℕ} → l.collection.counts ≡ counts
+    → lists l.collection ≡ tables → l.allowance ≡ allowance
+    → {ask : ℕ → Ask} {tells : ℕ → Answer → Type 0} {area spare x y : List ℕ} {long long' n : ℕ}
+    → InTurn (preparation l long long') ask tells area spare n x y
+    → InTurn (made_of counts tables allowance long long') ask tells area spare n x y
+passed-turns l e f g {ask} {tells} {area} {spare} {x} {y} {long} {long'} {n} turns =
+    subst (λ p. InTurn p ask tells area spare n x y) (lent-is l e f g long long') turns
+
+-- answers that stand in a row, each of which has an entry, are told where they are asked in turn
+pub told-each : (p : Preparation) (ask ask' : ℕ → Ask) (area spare x y : List ℕ) (answers : List Answer) (n : ℕ) (numbers counts : List ℕ)
+    → length numbers ≡ n → length counts ≡ n → ((k : ℕ) → k < n → ask k ≡ ask' k) → TellsEach answers numbers counts
+    → InTurn p ask (StandsAt answers) area spare n x y → InTurn p ask' (Tells numbers counts) area spare n x y
+told-each p ask ask' area spare x y answers n numbers counts e f are each turns =
+    retold n turns are (λ k r h s.
+    let w = each k (omega (arith, h, e)) (omega (arith, h, f)) in
+    subst (λ o. IfSome o (λ r. Tells numbers counts k r)) s w)
+
 pub told : (p : Preparation) (pairs t area spare x y : List ℕ) (answers : List Answer) (long : ℕ) (numbers counts : List ℕ) → 256 ≡ long
-    → RowFits pairs (length numbers) (length counts) → ask_count t ≡ pair_count pairs → ((k : ℕ) → k < pair_count pairs → read_ask t k ≡ pair_at pairs k)
+    → RowFits pairs (length numbers) (length counts) → ask_count t ≡ pair_count pairs
+    → ((k : ℕ) → k < pair_count pairs → read_ask t k ≡ pair_at pairs k)
     → TellsEach answers numbers counts → InTurn p (read_ask t) (StandsAt answers) area spare (min (ask_count t) long) x y
     → InTurn p (pair_at pairs) (Tells numbers counts) area spare (pair_count pairs) x y
 told p pairs t area spare x y answers long numbers counts e fits same are each turns =
     let few : min (ask_count t) long ≡ pair_count pairs = omega (arith, e, same, fits.whole.few) in
-    retold (pair_count pairs) (rw few at turns) are (λ k r h s.
-    let w = each k (omega (arith, h, fits.number_each)) (omega (arith, h, fits.count_each)) in
-    subst (λ o. IfSome o (λ r. Tells numbers counts k r)) s w)
+    told-each p (read_ask t) (pair_at pairs) area spare x y answers (pair_count pairs) numbers counts fits.number_each fits.count_each are each (rw few at turns)
+
+-- a row of asks of both kinds that fits is told so
+pub told-asks : (p : Preparation) (t area spare x y : List ℕ) (answers : List Answer) (long : ℕ) (numbers counts : List ℕ) → 256 ≡ long
+    → AsksFit t (length numbers) (length counts) → TellsEach answers numbers counts
+    → InTurn p (read_ask t) (StandsAt answers) area spare (min (ask_count t) long) x y
+    → InTurn p (read_ask t) (Tells numbers counts) area spare (ask_count t) x y
+told-asks p t area spare x y answers long numbers counts e fits each turns =
+    let few : min (ask_count t) long ≡ ask_count t = omega (arith, e, fits.whole.few) in
+    told-each p (read_ask t) (read_ask t) area spare x y answers (ask_count t) numbers counts fits.number_each fits.count_each (λ k h. refl) each (rw few at turns)

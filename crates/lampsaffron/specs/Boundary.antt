@@ -8,6 +8,7 @@ use Rattle.kinds.specs.Kinds.{individual, state}
 use Rattle.kinds.specs.Answer.{answer_number, answer_count}
 use Rattle.meaning.specs.Lent.{Tables, Call, Whole, field}
 use Rattle.meaning.specs.Outcome.{Outcome}
+use Rattle.index.specs.Preparation.{Preparation, made_of}
 
 -- the five counts, as they are passed
 abbrev pub counted : ℕ → ℕ → ℕ → ℕ → ℕ → Counts
@@ -25,6 +26,18 @@ lent cr ce rr re cf rf st fi = record {
   steps = st;
   finals = fi;
 }
+
+-- all that is passed but what is asked, and of the areas their lengths alone
+abbrev pub passed : (names roles individuals states start : ℕ)
+    → (concept-rules concept-exclusions role-rules role-exclusions : List ℕ)
+    → (concept-facts role-facts steps finals : List ℕ)
+    → (allowance area spare : ℕ) → Preparation
+passed n r i s t cr ce rr re cf rf st fi =
+    made_of (counted n r i s t) (lent cr ce rr re cf rf st fi)
+
+-- the same with other tables
+abbrev pub passed_with : Preparation → Tables → Preparation
+passed_with p t = record p { tables = t }
 
 -- the outcome of a call, its answer as number and count
 pub record Gives (c : Call) (number count : ℕ) (x y : List ℕ) : Type 0 where
@@ -44,13 +57,13 @@ abbrev pub pair_at : List ℕ → ℕ → Ask
 pair_at pairs k =
     Pair (individual (field pair_width pairs 0 k)) (individual (field pair_width pairs 1 k))
 
--- the most pairs of one call
-abbrev pub most_pairs : ℕ
-most_pairs = 256
+-- the most pairs, or asks of both kinds, of one call
+abbrev pub most_asks : ℕ
+most_asks = 256
 
 -- whole pairs, not too many, and an entry for each in both rows that the answers are told in
 pub record RowFits (pairs : List ℕ) (numbers counts : ℕ) : Type 0 where
-  pub whole : Whole pair_width most_pairs pairs
+  pub whole : Whole pair_width most_asks pairs
   pub number_each : numbers ≡ pair_count pairs
   pub count_each : counts ≡ pair_count pairs
 

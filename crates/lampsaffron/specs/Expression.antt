@@ -1,9 +1,10 @@
 -- What making the tables of a question from its marks gives.
-use Rattle.std.specs.Prelude.{◌≡◌, List, ℕ, ◌*◌, ◌≤◌}
-use Rattle.laws.specs.First.{First}
+use Rattle.std.specs.Prelude.{◌≡◌, ◌≢◌, List, ℕ, ◌*◌, ◌≤◌, [], ◌∷◌, length, take, drop}
+use Rattle.laws.specs.First.{FirstOf, ◌else◌}
 use Rattle.meaning.specs.Lent.{step_width, most_steps, final_width, most_finals}
 use Rattle.expression.specs.Depth.{TooDeep}
-use Rattle.expression.specs.Answer.{HasMarks, HasAutomaton}
+use Rattle.expression.specs.Answer.{HasMarks, HasAutomaton, IsAutomatonOf}
+use Rattle.expression.specs.Listed.{Listed}
 use Rattle.expression.specs.declared.listed.Refusal.{Refusal}
 use Rattle.expression.specs.declared.listed.Refusal.TheVariants as refusal
 
@@ -22,8 +23,38 @@ pub record HasRoom (steps finals : ℕ) : Type 0 where
 module _ (row : List ℕ) (steps finals : ℕ) where
   abbrev pub Makes : ℕ → Type 0
   Makes =
-      First (HasRoom steps finals) 5
-      (First (TooDeep row → ⊥) 13
-      (First ((n : ℕ) × HasMarks row n) 12
-      (First (HasAutomaton row) 14
-      (λ number. number ≡ 0))))
+      FirstOf (HasRoom steps finals else 5
+      ∷ (TooDeep row → ⊥) else 13
+      ∷ ((n : ℕ) × HasMarks row n) else 12
+      ∷ HasAutomaton row else 14 ∷ [])
+      (λ number. number ≡ 0)
+
+-- the tables that are told: so many states, and so many numbers at the front of each row
+abbrev pub told_tables : (states steps_used : ℕ) (steps : List ℕ) (finals_used : ℕ)
+    (finals : List ℕ) → Listed
+told_tables states steps_used steps finals_used finals = record {
+  states = states;
+  steps = take steps_used steps;
+  finals = take finals_used finals;
+}
+
+-- what is left of what was lent: both rows, how many states, and how many numbers of each row
+pub record Rows : Type 0 where
+  pub steps : List ℕ
+  pub finals : List ℕ
+  pub states : ℕ
+  pub steps_used : ℕ
+  pub finals_used : ℕ
+
+abbrev pub told_in : Rows → Listed
+told_in r = told_tables r.states r.steps_used r.steps r.finals_used r.finals
+
+-- all that the call gives and leaves
+pub record TellsTables (row : List ℕ) (old : Rows) (number : ℕ) (new : Rows) : Type 0 where
+  pub number_is : Makes row (length old.steps) (length old.finals) number
+  pub made : number ≡ 0 → IsAutomatonOf row (told_in new)
+  pub steps_count : number ≡ 0 → new.steps_used ≡ length (told_in new).steps
+  pub finals_count : number ≡ 0 → new.finals_used ≡ length (told_in new).finals
+  pub steps_rest : drop new.steps_used new.steps ≡ drop new.steps_used old.steps
+  pub finals_rest : drop new.finals_used new.finals ≡ drop new.finals_used old.finals
+  pub kept : number ≢ 0 → new ≡ old

@@ -1,4 +1,5 @@
 pub mod Boundary
 pub mod Row
+pub mod Asks
 pub mod Expression
 pub mod Marks

@@ -1,7 +1,7 @@
 -- What the call that tells how many marks each round made gives (docs/RULES.md, sections 6 and 7).
-use Rattle.std.specs.Prelude.{◌≡◌, ◌⊎◌, List, ℕ, ◌+◌, ◌≤◌, ◌<◌, length, take, drop, slice_set, min}
+use Rattle.std.specs.Prelude.{◌≡◌, ◌⊎◌, List, ℕ, ◌+◌, ◌≤◌, ◌<◌, length, take, drop, slice_set, min, [], ◌∷◌}
 use Rattle.kinds.specs.Kinds.{CountsFit}
-use Rattle.laws.specs.First.{First}
+use Rattle.laws.specs.First.{FirstOf, ◌else◌}
 use Rattle.meaning.specs.Lent.{TablesFit, NumbersFit}
 use Rattle.meaning.specs.Layout.{zeros}
 use Rattle.meaning.specs.Model.{Contradiction}
@@ -12,13 +12,13 @@ use Rattle.index.specs.Marks.{MarksTold}
 -- is allowed is 5
 abbrev pub MarksNumber : Preparation → ℕ → ℕ → Type 0
 MarksNumber p room =
-    First (CountsFit p.counts) 4
-    (First (p.allowance ≤ room) 5
-    (First (TablesFit p.tables p.area p.spare) 5
-    (First (NumbersFit p.counts p.tables) 6
-    (First (Contradiction (collection_in p) → ⊥) 2
-    (First ((n : ℕ) × RoundsNeeded p n × (n ≤ p.allowance)) 3
-    (λ number. number ≡ 0))))))
+    FirstOf (CountsFit p.counts else 4
+    ∷ (p.allowance ≤ room) else 5
+    ∷ TablesFit p.tables p.area p.spare else 5
+    ∷ NumbersFit p.counts p.tables else 6
+    ∷ (Contradiction (collection_in p) → ⊥) else 2
+    ∷ ((n : ℕ) × RoundsNeeded p n × (n ≤ p.allowance)) else 3 ∷ [])
+    (λ number. number ≡ 0)
 
 -- after 0 and 3 rounds were worked
 abbrev pub WorksRounds : ℕ → Type 0
@@ -47,6 +47,10 @@ pub record Lent : Type 0 where
   pub spare : List ℕ
   pub marks : List ℕ
   pub rounds : ℕ
+
+abbrev pub left : List ℕ → List ℕ → List ℕ → ℕ → Lent
+left area spare marks rounds =
+    record { area = area; spare = spare; marks = marks; rounds = rounds }
 
 -- all that the call gives and leaves
 pub record TellsMarks (p : Preparation) (old : Lent) (number : ℕ) (new : Lent) : Type 0 where

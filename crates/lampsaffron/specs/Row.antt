@@ -3,7 +3,7 @@ use Rattle.std.specs.Prelude.{◌≡◌, List, ℕ, ◌+◌, ◌*◌, ◌<◌, l
 use Rattle.tables.specs.Asks.{ask_width}
 use Rattle.index.specs.Preparation.{Preparation}
 use Rattle.index.specs.Row.{InTurn}
-use Rattle.lampsaffron.specs.Boundary.{pair_width, most_pairs, pair_count, pair_at, RowFits, Tells}
+use Rattle.lampsaffron.specs.Boundary.{pair_width, most_asks, pair_count, pair_at, RowFits, Tells}
 
 -- the pairs t, asked in turn, are told as these numbers and counts, and x and y are left
 pub record TellsRow (p : Preparation) (t area spare numbers counts x y : List ℕ) : Type 0 where
@@ -18,5 +18,5 @@ pub record HasPair (pairs row : List ℕ) (k : ℕ) : Type 0 where
 
 -- the first n are
 pub record HasPairs (pairs row : List ℕ) (n : ℕ) : Type 0 where
-  pub long : length row ≡ ask_width * most_pairs
+  pub long : length row ≡ ask_width * most_asks
   pub each : (k : ℕ) → k < n → HasPair pairs row k

@@ -6,29 +6,33 @@ ghost use Rattle.std.specs.Prelude.{◌≡◌, ◌≢◌, ◌↔◌, ◌≤◌, 
 ghost use Rattle.std.specs.Prelude.{length, slice_get, take, drop};
 ghost use Rattle.std.specs.Bool.{OnTrue, OnFalse};
 ghost use Rattle.kinds.specs.Kinds.{individual};
+ghost use Rattle.meaning.specs.Lent.{Tables};
+ghost use Rattle.meaning.specs.Deeds.{SameButDeeds, lent_with};
 ghost use Rattle.index.specs.Asked.{asked};
-ghost use Rattle.index.specs.Preparation.{made_of};
 ghost use Rattle.index.specs.Row.{InTurn};
-ghost use Rattle.lampsaffron.specs.Boundary.{counted, lent, Gives, most_pairs, pair_count, pair_at, RowFits, Tells, TellsEach};
+ghost use Rattle.lampsaffron.specs.Boundary.{passed, passed_with, Gives};
+ghost use Rattle.lampsaffron.specs.Boundary.{most_asks, pair_count, pair_at, RowFits, Tells, TellsEach};
 ghost use Rattle.lampsaffron.specs.Row.{HasPairs};
-ghost use Rattle.expression.specs.Answer.{IsAutomatonOf};
-ghost use Rattle.lampsaffron.specs.Expression.{number_of, Makes};
+ghost use Rattle.expression.specs.Answer.{IsAutomatonOf, ReadsItsWords, AsksForIt};
+ghost use Rattle.lampsaffron.specs.Expression.{number_of, Makes, told_tables};
 
+pub mod asks;
 pub mod marks;
+mod passed;
 pub mod theorems;
 
+use crate::passed::Passed;
 use expression::{Refusal, automaton_of};
-use index::Lent;
-use kinds::{Answer, Ask, Counts, Individual, State};
-use tables::{Collection, Table};
+use kinds::{Answer, Ask, Individual};
+use tables::Table;
 
-// The most pairs of one call.
-const PAIRS: usize = 256;
+// The most asks of one call.
+const ASKS: usize = 256;
 
 // The numbers of a pair, and those of as many asks.
 const PAIR: usize = 2;
 
-const ROW: usize = Ask::WIDTH * PAIRS;
+const ROW: usize = Ask::WIDTH * ASKS;
 
 // One pair asked of a collection, as `Lent::ask` does it.
 #[unsafe(no_mangle)]
@@ -53,37 +57,39 @@ pub extern "C" fn lampsaffron_ask(
     spare: &mut [u8],
     count: &mut u16,
 ) -> u8
-    ensures gives { let counts = counted names roles individuals states start in
-        let tables = lent concept_rules.now concept_exclusions.now role_rules.now
-        role_exclusions.now concept_facts.now role_facts.now steps.now finals.now in
-        let p = made_of counts tables allowance (length area.old) (length spare.old) in
+    ensures gives { let p = passed names roles individuals states start concept_rules.now
+        concept_exclusions.now role_rules.now role_exclusions.now concept_facts.now role_facts.now
+        steps.now finals.now allowance (length area.old) (length spare.old) in
         let ask = Ask.Pair (individual first) (individual second) in
         let c = asked p ask area.old spare.old in
         Gives c result count.new area.new spare.new }
+
+    // Of tables that differ only in deed numbers all of it is the same.
+    ensures deeds { let p = passed names roles individuals states start concept_rules.now
+        concept_exclusions.now role_rules.now role_exclusions.now concept_facts.now role_facts.now
+        steps.now finals.now allowance (length area.old) (length spare.old) in
+        let ask = Ask.Pair (individual first) (individual second) in
+        let c = asked p ask area.old spare.old in
+        (t : Tables) → SameButDeeds p.tables t
+        → Gives (lent_with c t) result count.new area.new spare.new }
     ensures seven_never { result ≢ 7 }
 {
-    let counts = Counts {
+    let passed = Passed {
         names,
         roles,
         individuals,
         states,
-        start: State(start),
+        start,
+        concept_rules,
+        concept_exclusions,
+        role_rules,
+        role_exclusions,
+        concept_facts,
+        role_facts,
+        steps,
+        finals,
     };
-    let collection = Collection {
-        counts,
-        concept_rules: Table::new(concept_rules),
-        concept_exclusions: Table::new(concept_exclusions),
-        role_rules: Table::new(role_rules),
-        role_exclusions: Table::new(role_exclusions),
-        concept_facts: Table::new(concept_facts),
-        role_facts: Table::new(role_facts),
-        steps: Table::new(steps),
-        finals: Table::new(finals),
-    };
-    let lent = Lent {
-        collection,
-        allowance,
-    };
+    let lent = passed.lent(allowance);
     let answer = lent.ask(
         Ask::Pair(Individual(first), Individual(second)),
         area,
@@ -115,37 +121,39 @@ pub extern "C" fn lampsaffron_ask_from(
     spare: &mut [u8],
     count: &mut u16,
 ) -> u8
-    ensures gives { let counts = counted names roles individuals states start in
-        let tables = lent concept_rules.now concept_exclusions.now role_rules.now
-        role_exclusions.now concept_facts.now role_facts.now steps.now finals.now in
-        let p = made_of counts tables allowance (length area.old) (length spare.old) in
+    ensures gives { let p = passed names roles individuals states start concept_rules.now
+        concept_exclusions.now role_rules.now role_exclusions.now concept_facts.now role_facts.now
+        steps.now finals.now allowance (length area.old) (length spare.old) in
         let ask = Ask.From (individual first) in
         let c = asked p ask area.old spare.old in
         Gives c result count.new area.new spare.new }
+
+    // Of tables that differ only in deed numbers all of it is the same.
+    ensures deeds { let p = passed names roles individuals states start concept_rules.now
+        concept_exclusions.now role_rules.now role_exclusions.now concept_facts.now role_facts.now
+        steps.now finals.now allowance (length area.old) (length spare.old) in
+        let ask = Ask.From (individual first) in
+        let c = asked p ask area.old spare.old in
+        (t : Tables) → SameButDeeds p.tables t
+        → Gives (lent_with c t) result count.new area.new spare.new }
     ensures seven_never { result ≢ 7 }
 {
-    let counts = Counts {
+    let passed = Passed {
         names,
         roles,
         individuals,
         states,
-        start: State(start),
+        start,
+        concept_rules,
+        concept_exclusions,
+        role_rules,
+        role_exclusions,
+        concept_facts,
+        role_facts,
+        steps,
+        finals,
     };
-    let collection = Collection {
-        counts,
-        concept_rules: Table::new(concept_rules),
-        concept_exclusions: Table::new(concept_exclusions),
-        role_rules: Table::new(role_rules),
-        role_exclusions: Table::new(role_exclusions),
-        concept_facts: Table::new(concept_facts),
-        role_facts: Table::new(role_facts),
-        steps: Table::new(steps),
-        finals: Table::new(finals),
-    };
-    let lent = Lent {
-        collection,
-        allowance,
-    };
+    let lent = passed.lent(allowance);
     let told = lent.ask(Ask::From(Individual(first)), area, spare);
     *count = told.count();
     told.number()
@@ -156,14 +164,14 @@ fn row_fits(pairs: &[u16], numbers: usize, counts: usize) -> bool
     ensures { IsTrue result ↔ RowFits pairs.now numbers counts }
 {
     let n = pairs.len() / PAIR;
-    pairs.len() % PAIR == 0 && n <= PAIRS && numbers == n && counts == n
+    pairs.len() % PAIR == 0 && n <= ASKS && numbers == n && counts == n
 }
 
 // The pairs as a row of asks, as many as have room.
 fn put_pairs(pairs: &[u16], row: &mut [u16; ROW])
-    ensures { HasPairs pairs.now row.new (min (pair_count pairs.now) most_pairs) }
+    ensures { HasPairs pairs.now row.new (min (pair_count pairs.now) most_asks) }
 {
-    for k in 0..(pairs.len() / PAIR).min(PAIRS) {
+    for k in 0..(pairs.len() / PAIR).min(ASKS) {
         row[Ask::WIDTH * k] = 0;
         row[Ask::WIDTH * k + 1] = pairs[PAIR * k];
         row[Ask::WIDTH * k + 2] = pairs[PAIR * k + 1];
@@ -206,14 +214,23 @@ pub extern "C" fn lampsaffron_ask_all(
 ) -> bool
     ensures fits { let n = length numbers.old in
         IsTrue result ↔ RowFits pairs.now n (length counts.old) }
-    ensures in_turn { let declared = counted names roles individuals states start in
-        let tables = lent concept_rules.now concept_exclusions.now role_rules.now
-        role_exclusions.now concept_facts.now role_facts.now steps.now finals.now in
-        let p = made_of declared tables allowance (length area.old) (length spare.old) in
+    ensures in_turn { let p = passed names roles individuals states start concept_rules.now
+        concept_exclusions.now role_rules.now role_exclusions.now concept_facts.now role_facts.now
+        steps.now finals.now allowance (length area.old) (length spare.old) in
         let told = Tells numbers.new counts.new in
         let n = pair_count pairs.now in
         let ask = pair_at pairs.now in
         OnTrue result (InTurn p ask told area.old spare.old n area.new spare.new) }
+
+    // Of tables that differ only in deed numbers all of it is the same.
+    ensures deeds { let p = passed names roles individuals states start concept_rules.now
+        concept_exclusions.now role_rules.now role_exclusions.now concept_facts.now role_facts.now
+        steps.now finals.now allowance (length area.old) (length spare.old) in
+        let told = Tells numbers.new counts.new in
+        let n = pair_count pairs.now in
+        let ask = pair_at pairs.now in
+        (t : Tables) → SameButDeeds p.tables t → OnTrue result
+        (InTurn (passed_with p t) ask told area.old spare.old n area.new spare.new) }
     ensures seven_never { (k : ℕ) → OnTrue result (slice_get numbers.new k ≢ Some 7) }
 
     // Where the lengths do not fit, nothing is asked, and nothing is written.
@@ -228,29 +245,23 @@ pub extern "C" fn lampsaffron_ask_all(
     let mut row = [0; ROW];
     put_pairs(pairs, &mut row);
     let asks: Table<Ask> = Table::new(&row[..Ask::WIDTH * (pairs.len() / PAIR)]);
-    let declared = Counts {
+    let passed = Passed {
         names,
         roles,
         individuals,
         states,
-        start: State(start),
+        start,
+        concept_rules,
+        concept_exclusions,
+        role_rules,
+        role_exclusions,
+        concept_facts,
+        role_facts,
+        steps,
+        finals,
     };
-    let collection = Collection {
-        counts: declared,
-        concept_rules: Table::new(concept_rules),
-        concept_exclusions: Table::new(concept_exclusions),
-        role_rules: Table::new(role_rules),
-        role_exclusions: Table::new(role_exclusions),
-        concept_facts: Table::new(concept_facts),
-        role_facts: Table::new(role_facts),
-        steps: Table::new(steps),
-        finals: Table::new(finals),
-    };
-    let lent = Lent {
-        collection,
-        allowance,
-    };
-    let mut answers = [Answer::BadAsk; PAIRS];
+    let lent = passed.lent(allowance);
+    let mut answers = [Answer::BadAsk; ASKS];
     lent.ask_all(&asks, &mut answers, area, spare);
     tell(&answers, numbers, counts);
     true
@@ -296,11 +307,26 @@ pub extern "C" fn lampsaffron_expression(
     finals_used: &mut u16,
 ) -> u8
     ensures number { Makes marks.now (length steps.old) (length finals.old) result }
-    ensures made { result ≡ 0 → IsAutomatonOf marks.now (record {
-      states = states.new;
-      steps = take steps_used.new steps.new;
-      finals = take finals_used.new finals.new;
-    }) }
+
+    // After 0 the tables that are told at the front of both rows are those of the row's expression,
+    // and ask for the words of it; and so many numbers stand there.
+    ensures made { let told =
+        told_tables states.new steps_used.new steps.new finals_used.new finals.new in
+        result ≡ 0 → IsAutomatonOf marks.now told }
+    ensures words { let told =
+        told_tables states.new steps_used.new steps.new finals_used.new finals.new in
+        result ≡ 0 → ReadsItsWords marks.now told }
+    ensures asks { let told =
+        told_tables states.new steps_used.new steps.new finals_used.new finals.new in
+        result ≡ 0 → AsksForIt marks.now told }
+    ensures steps_count { let told =
+        told_tables states.new steps_used.new steps.new finals_used.new finals.new in
+        result ≡ 0 → steps_used.new ≡ length told.steps }
+    ensures finals_count { let told =
+        told_tables states.new steps_used.new steps.new finals_used.new finals.new in
+        result ≡ 0 → finals_used.new ≡ length told.finals }
+
+    // What stands behind them stays.
     ensures steps_rest { drop steps_used.new steps.new ≡ drop steps_used.new steps.old }
     ensures finals_rest { drop finals_used.new finals.new ≡ drop finals_used.new finals.old }
 

@@ -1,14 +1,17 @@
 // How many marks each round makes, for programs in other languages.
-ghost use Rattle.std.specs.Prelude.{◌≡◌, ◌≢◌, ◌↔◌, ◌≤◌, IsTrue, ℕ, List, length, min};
+ghost use Rattle.std.specs.Prelude.{◌≡◌, ◌≢◌, ◌↔◌, ◌≤◌, ◌+◌, IsTrue, ℕ, List, length, min, sum, take};
 ghost use Rattle.kinds.specs.Kinds.{CountsFit};
-ghost use Rattle.meaning.specs.Layout.{zeros};
-ghost use Rattle.index.specs.Preparation.{made_of, preparation, HasSheet, RoundsNeeded, HoldsSheet};
-ghost use Rattle.lampsaffron.specs.Boundary.{counted, lent};
-ghost use Rattle.lampsaffron.specs.Marks.{MarksNumber, WorksRounds, TellsFront, Puts};
+ghost use Rattle.meaning.specs.Lent.{Tables};
+ghost use Rattle.meaning.specs.Layout.{zeros, Standing};
+ghost use Rattle.meaning.specs.LawsOfMarks.{first_marks};
+ghost use Rattle.meaning.specs.Deeds.{SameButDeeds};
+ghost use Rattle.index.specs.Preparation.{preparation, HasSheet, RoundsNeeded, HoldsSheet};
+ghost use Rattle.lampsaffron.specs.Boundary.{counted, passed, passed_with};
+ghost use Rattle.lampsaffron.specs.Marks.{MarksNumber, WorksRounds, TellsFront, Puts, left, TellsMarks};
 
+use crate::passed::Passed;
 use index::{Lent, Routes};
-use kinds::{Counts, MarkCount, RoundListener, Rounds, State};
-use tables::{Collection, Table};
+use kinds::{MarkCount, RoundListener, Rounds};
 
 // A row that counts are put into, the first at its front, and how many it has been told.
 #[derive(Drop)]
@@ -103,61 +106,65 @@ pub extern "C" fn lampsaffron_marks(
     marks: &mut [u16],
     rounds: &mut u16,
 ) -> u8
-    ensures number { let counts = counted names roles individuals states start in
-        let tables = lent concept_rules.now concept_exclusions.now role_rules.now
-        role_exclusions.now concept_facts.now role_facts.now steps.now finals.now in
-        let p = made_of counts tables allowance (length area.old) (length spare.old) in
+    ensures number { let p = passed names roles individuals states start concept_rules.now
+        concept_exclusions.now role_rules.now role_exclusions.now concept_facts.now role_facts.now
+        steps.now finals.now allowance (length area.old) (length spare.old) in
         MarksNumber p (length marks.old) result }
     ensures seven_never { result ≢ 7 }
 
     // After 0 and 3 the first area holds the sheet, the second zeros, and the counts are told.
-    ensures sheet { let counts = counted names roles individuals states start in
-        let tables = lent concept_rules.now concept_exclusions.now role_rules.now
-        role_exclusions.now concept_facts.now role_facts.now steps.now finals.now in
-        let p = made_of counts tables allowance (length area.old) (length spare.old) in
+    ensures sheet { let p = passed names roles individuals states start concept_rules.now
+        concept_exclusions.now role_rules.now role_exclusions.now concept_facts.now role_facts.now
+        steps.now finals.now allowance (length area.old) (length spare.old) in
         WorksRounds result → (n : ℕ) → RoundsNeeded p n
         → HoldsSheet p (min n p.allowance) area.new }
     ensures cleared { WorksRounds result → spare.new ≡ zeros }
-    ensures told { let counts = counted names roles individuals states start in
-        let tables = lent concept_rules.now concept_exclusions.now role_rules.now
-        role_exclusions.now concept_facts.now role_facts.now steps.now finals.now in
-        let p = made_of counts tables allowance (length area.old) (length spare.old) in
+    ensures told { let p = passed names roles individuals states start concept_rules.now
+        concept_exclusions.now role_rules.now role_exclusions.now concept_facts.now role_facts.now
+        steps.now finals.now allowance (length area.old) (length spare.old) in
         WorksRounds result → TellsFront p rounds.new marks.old marks.new }
+
+    // These and states × concepts make the number of marks that stand in the first area.
+    ensures makes_sheet { let counts = counted names roles individuals states start in
+        let told = sum (take rounds.new marks.new) in
+        WorksRounds result → Standing area.new (told + first_marks counts) }
 
     // After all else nothing is written.
     ensures area_kept { (¬ WorksRounds result) → area.new ≡ area.old }
     ensures spare_kept { (¬ WorksRounds result) → spare.new ≡ spare.old }
     ensures marks_kept { (¬ WorksRounds result) → marks.new ≡ marks.old }
     ensures rounds_kept { (¬ WorksRounds result) → rounds.new ≡ rounds.old }
+
+    // Of tables that differ only in deed numbers all of it is the same.
+    ensures deeds { let p = passed names roles individuals states start concept_rules.now
+        concept_exclusions.now role_rules.now role_exclusions.now concept_facts.now role_facts.now
+        steps.now finals.now allowance (length area.old) (length spare.old) in
+        let old = left area.old spare.old marks.old rounds.old in
+        let new = left area.new spare.new marks.new rounds.new in
+        (t : Tables) → SameButDeeds p.tables t → TellsMarks (passed_with p t) old result new }
 {
-    let counts = Counts {
+    let passed = Passed {
         names,
         roles,
         individuals,
         states,
-        start: State(start),
+        start,
+        concept_rules,
+        concept_exclusions,
+        role_rules,
+        role_exclusions,
+        concept_facts,
+        role_facts,
+        steps,
+        finals,
     };
-    if !counts.fit() {
+    let lent = passed.lent(allowance);
+    if !lent.collection.counts.fit() {
         return 4;
     }
     if marks.len() < allowance as usize {
         return 5;
     }
-    let collection = Collection {
-        counts,
-        concept_rules: Table::new(concept_rules),
-        concept_exclusions: Table::new(concept_exclusions),
-        role_rules: Table::new(role_rules),
-        role_exclusions: Table::new(role_exclusions),
-        concept_facts: Table::new(concept_facts),
-        role_facts: Table::new(role_facts),
-        steps: Table::new(steps),
-        finals: Table::new(finals),
-    };
-    let lent = Lent {
-        collection,
-        allowance,
-    };
     let mut row = CountRow {
         counts: marks,
         told: 0,

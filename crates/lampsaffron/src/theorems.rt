@@ -4,12 +4,14 @@ ghost use Rattle.meaning.specs.Lent.{Call};
 ghost use Rattle.index.specs.Preparation.{Preparation};
 ghost use Rattle.lampsaffron.specs.Boundary.{Gives};
 ghost use Rattle.lampsaffron.specs.Row.{TellsRow};
-ghost use Rattle.lampsaffron.specs.Expression.{Makes};
+ghost use Rattle.lampsaffron.specs.Asks.{Left, TellsAsks};
+ghost use Rattle.lampsaffron.specs.Expression.{Makes, Rows, TellsTables};
 ghost use Rattle.lampsaffron.specs.Marks.{Lent, TellsMarks};
 ghost use Rattle.expression.specs.Listed.{Listed};
 ghost use Rattle.expression.specs.Answer.{IsAutomatonOf};
 
-// What a call gives and leaves, a call with a row of pairs, and one for the marks of rounds; and of the tables of an expression the number and both tables.
+// What each call gives and leaves: of one ask, of a row of pairs, of a row of asks, of the marks of
+// rounds, and of the tables of an expression. Of these also the number alone, and the automaton.
 pub fn unique()
     ensures one_call { (c : Call) (number number' count count' : ℕ) (x y u v : List ℕ)
         → Gives c number count x y → Gives c number' count' u v
@@ -19,8 +21,15 @@ pub fn unique()
         → TellsRow p t area spare numbers counts x y
         → TellsRow p t area spare numbers' counts' u v
         → (numbers ≡ numbers') × (counts ≡ counts') × (x ≡ u) × (y ≡ v) }
+    ensures one_asking { (p : Preparation) (asks : List ℕ) (old new new' : Left)
+        (number number' : ℕ)
+        → TellsAsks p asks old number new → TellsAsks p asks old number' new'
+        → (number ≡ number') × (new ≡ new') }
     ensures one_marking { (p : Preparation) (old new new' : Lent) (number number' : ℕ)
         → TellsMarks p old number new → TellsMarks p old number' new'
+        → (number ≡ number') × (new ≡ new') }
+    ensures one_making { (row : List ℕ) (old new new' : Rows) (number number' : ℕ)
+        → TellsTables row old number new → TellsTables row old number' new'
         → (number ≡ number') × (new ≡ new') }
     ensures one_number { (row : List ℕ) (steps finals n m : ℕ)
         → Makes row steps finals n → Makes row steps finals m → n ≡ m }

@@ -8,17 +8,19 @@ use crate::ask::Ask;
 use crate::library::{Call, CONCEPT_FACTS, ROLE_FACTS, SHAPES};
 use crate::numbers::Individual;
 
-/// What is asked of a collection: a pair, one individual, a row of pairs, or how many marks each round makes.
+/// What is asked of a collection: a pair, one individual, a row of pairs, one of both kinds of ask, or how many marks each
+/// round makes.
 pub enum Asks {
     Pair([u16; 2]),
     From(u16),
     Row(Row),
+    Mixed(Row),
     Rounds(CountRow),
 }
 
 pub struct Row {
-    /// Two numbers for each pair.
-    pub pairs: Vec<u16>,
+    /// Two numbers for each pair, three for each ask of both kinds.
+    pub asked: Vec<u16>,
     /// The entries lent for numbers and for counts, and the byte they are filled with beforehand.
     pub entries: [usize; 2],
     pub fill: u8,
@@ -35,7 +37,7 @@ impl Asks {
         match self {
             Asks::Pair(pair) => pair,
             Asks::From(first) => std::slice::from_mut(first),
-            Asks::Row(row) => &mut row.pairs,
+            Asks::Row(row) | Asks::Mixed(row) => &mut row.asked,
             Asks::Rounds(_) => &mut [],
         }
     }

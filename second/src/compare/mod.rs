@@ -1,4 +1,4 @@
-//! `second compare`: thousands of cases from a seed, seven parts, a histogram of what was hit, and the count at the end.
+//! `second compare`: thousands of cases from a seed, eight parts, a histogram of what was hit, and the count at the end.
 
 mod built_out;
 mod calls;
@@ -51,6 +51,7 @@ const ROWS: u64 = 4;
 const TYPED: u64 = 5;
 const FROM: u64 = 6;
 const ROUNDS: u64 = 7;
+const MIXED: u64 = 8;
 const MOST_SHOWN: u64 = 5;
 
 /// What the desk program can answer with, in an answer or a refusal.
@@ -99,6 +100,8 @@ pub fn compare(options: &Options) -> (u64, u64) {
     through_drivers(options, &mut total, (FROM, &ANSWERS, &ASKED_MET), parts::from_part);
     println!("g. how many marks each round makes, likewise with both areas and the row of counts");
     through_drivers(options, &mut total, (ROUNDS, &rounds::NUMBERS, &rounds::MET), parts::rounds_part);
+    println!("h. rows of both kinds of ask, likewise, with the entries of each row");
+    through_drivers(options, &mut total, (MIXED, &ANSWERS, &rows::MIXED_MET), parts::mixed_part);
     total
 }
 

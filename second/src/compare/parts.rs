@@ -11,7 +11,7 @@ use super::long::long;
 use super::outputs;
 use super::protocol;
 use super::rounds::rounds_lent;
-use super::rows::{met, row_lent};
+use super::rows::{met, mixed_lent, mixed_met, row_lent};
 use super::tally::Tally;
 use super::text;
 use super::typed::{self, typed};
@@ -186,11 +186,24 @@ fn replies_with_other_deeds(
 /// Part (c): a row of pairs, likewise: each entry, what lies behind the entries, both areas and what lies behind them.
 pub fn row_part(driver: &mut Driver, mut dice: Dice, tally: &mut Tally) -> Outcome {
     let lent = row_lent(&mut dice);
+    one_row(driver, lent, &mut dice, tally)
+}
+
+/// Part (h): a row of both kinds of ask, likewise.
+pub fn mixed_part(driver: &mut Driver, mut dice: Dice, tally: &mut Tally) -> Outcome {
+    let lent = mixed_lent(&mut dice);
+    one_row(driver, lent, &mut dice, tally)
+}
+
+fn one_row(driver: &mut Driver, lent: Lent, dice: &mut Dice, tally: &mut Tally) -> Outcome {
     tally.kind(lent.kind);
     let (answers, expected) = protocol::answer(&lent);
-    if let Asks::Row(row) = &lent.asks {
-        met(row, answers.as_deref()).into_iter().for_each(|what| tally.met(what));
-    }
+    let found = match &lent.asks {
+        Asks::Row(row) => met(row, answers.as_deref()),
+        Asks::Mixed(row) => mixed_met(row, lent.call.counts[2], answers.as_deref()),
+        _ => Vec::new(),
+    };
+    found.into_iter().for_each(|what| tally.met(what));
     let answers = answers.unwrap_or_default();
     let numbers: BTreeSet<u8> = answers.iter().map(|answer| answer.0).collect();
     numbers.iter().for_each(|number| tally.number(*number));
@@ -209,7 +222,7 @@ pub fn row_part(driver: &mut Driver, mut dice: Dice, tally: &mut Tally) -> Outco
         }
         _ => {
             replies(driver, request, &expected)?;
-            replies_with_other_deeds(driver, lent, &mut dice, tally, expected)
+            replies_with_other_deeds(driver, lent, dice, tally, expected)
         }
     }
 }
@@ -258,7 +271,7 @@ fn number_without_exclusions(lent: &Lent) -> u8 {
     match lent.asks {
         Asks::Pair(pair) => ask(&call, pair, &mut area, &mut spare).0,
         Asks::From(first) => ask_from(&call, first, &mut area, &mut spare).0,
-        Asks::Row(_) => unreachable!("a row is not asked for it"),
+        Asks::Row(_) | Asks::Mixed(_) => unreachable!("a row is not asked for it"),
         Asks::Rounds(CountRow { room, .. }) => marks(&call, room, &mut area, &mut spare).0,
     }
 }

@@ -3,7 +3,7 @@
 use super::calls::{Asks, CountRow, Lent, Row};
 use super::typed::Typed;
 use crate::area::AREA;
-use crate::library::{ask, ask_all, ask_from, made_of, marks, Call, Made};
+use crate::library::{ask, ask_all, ask_from, ask_row, made_of, marks, Call, Made};
 
 /// Bytes behind each area that the call must not touch; they are filled with the complement of the area's fill. So it is
 /// behind the entries of a row.
@@ -26,6 +26,9 @@ const UNTOLD: u16 = 0xFFFF;
 
 /// A line that asks for a row begins with it; it is no digit.
 const ROW: char = 'R';
+
+/// Likewise a line that asks for a row of both kinds of ask.
+const MIXED: char = 'Q';
 
 /// Likewise a line that asks of one individual whether a path leaves it.
 const ONE: char = 'L';
@@ -55,9 +58,9 @@ pub fn request(lent: &Lent) -> String {
             line.insert(0, ONE);
             line += &digits(&[*first]);
         }
-        Asks::Row(row) => {
-            line.insert(0, ROW);
-            line += &counted(&row.pairs);
+        Asks::Row(row) | Asks::Mixed(row) => {
+            line.insert(0, if matches!(lent.asks, Asks::Row(_)) { ROW } else { MIXED });
+            line += &counted(&row.asked);
         }
         Asks::Rounds(_) => line.insert(0, ROUNDS),
     }
@@ -66,7 +69,8 @@ pub fn request(lent: &Lent) -> String {
     line += &format!("{area:08X}{spare:08X}{first:02X}{second:02X}");
     match &lent.asks {
         Asks::Pair(_) | Asks::From(_) => line,
-        Asks::Row(Row { entries: [numbers, counts], fill, .. }) => {
+        Asks::Row(row) | Asks::Mixed(row) => {
+            let Row { entries: [numbers, counts], fill, .. } = row;
             line + &format!("{numbers:04X}{counts:04X}{fill:02X}")
         }
         Asks::Rounds(CountRow { room, fill }) => line + &format!("{room:08X}{fill:02X}"),
@@ -83,7 +87,7 @@ fn counted(numbers: &[u16]) -> String {
 
 /// None when the line isn't a request.
 pub fn read_request(line: &str) -> Option<Lent> {
-    let kind = [ROW, ONE, ROUNDS].into_iter().find(|kind| line.starts_with(*kind));
+    let kind = [ROW, MIXED, ONE, ROUNDS].into_iter().find(|kind| line.starts_with(*kind));
     let mut digits = kind.map_or(line, |_| &line[1..]);
     let counts = take_numbers(&mut digits)?;
     let mut tables: [Vec<u16>; 8] = Default::default();
@@ -94,14 +98,21 @@ pub fn read_request(line: &str) -> Option<Lent> {
         None => Asks::Pair(take_numbers(&mut digits)?),
         Some(ONE) => Asks::From(take(&mut digits, 4)? as u16),
         Some(ROUNDS) => Asks::Rounds(CountRow { room: 0, fill: 0 }),
-        Some(_) => Asks::Row(Row { pairs: take_counted(&mut digits)?, entries: [0; 2], fill: 0 }),
+        Some(kind) => {
+            let row = Row { asked: take_counted(&mut digits)?, entries: [0; 2], fill: 0 };
+            if kind == ROW {
+                Asks::Row(row)
+            } else {
+                Asks::Mixed(row)
+            }
+        }
     };
     let [allowance] = take_numbers(&mut digits)?;
     let lengths = [take(&mut digits, 8)?, take(&mut digits, 8)?];
     let fills = [take(&mut digits, 2)? as u8, take(&mut digits, 2)? as u8];
     let held = match &mut asks {
         Asks::Pair(_) | Asks::From(_) => true,
-        Asks::Row(row) => {
+        Asks::Row(row) | Asks::Mixed(row) => {
             row.entries = take_numbers(&mut digits)?.map(usize::from);
             row.fill = take(&mut digits, 2)? as u8;
             row.entries.iter().all(|entries| *entries <= MOST_ENTRIES)
@@ -137,7 +148,7 @@ fn take(digits: &mut &str, width: usize) -> Option<usize> {
     capital.then(|| usize::from_str_radix(head, 16).ok()).flatten()
 }
 
-/// The answers that module `library` gives, None where a row's lengths do not fit, and the reply line. Of how many marks
+/// The answers that module `library` gives, None where a row is refused, and the reply line. Of how many marks
 /// each round makes there is one, whose count is how many rounds are told.
 pub fn answer(lent: &Lent) -> (Option<Vec<(u8, u16)>>, String) {
     let [mut area, mut spare] = [0, 1].map(|which| vec![lent.fills[which]; lent.lengths[which]]);
@@ -151,9 +162,15 @@ pub fn answer(lent: &Lent) -> (Option<Vec<(u8, u16)>>, String) {
             (Some(vec![(number, count)]), format!("{number:02X}{count:04X}"))
         }
         Asks::Row(row) => {
-            let answers = ask_all(&lent.call, &row.pairs, row.entries, &mut area, &mut spare);
-            let told = told(row, answers.as_deref());
+            let answers = ask_all(&lent.call, &row.asked, row.entries, &mut area, &mut spare);
+            let told = told(row, u8::from(answers.is_some()), answers.as_deref());
             (answers, told)
+        }
+        Asks::Mixed(row) => {
+            let answers = ask_row(&lent.call, &row.asked, row.entries, &mut area, &mut spare);
+            let number = answers.as_ref().err().copied().unwrap_or(0);
+            let told = told(row, number, answers.as_deref().ok());
+            (answers.ok(), told)
         }
         Asks::Rounds(row) => {
             let (number, added) = marks(&lent.call, row.room, &mut area, &mut spare);
@@ -166,9 +183,9 @@ pub fn answer(lent: &Lent) -> (Option<Vec<(u8, u16)>>, String) {
     (answers, told + &behind)
 }
 
-/// The truth value, then the entries of numbers and of counts, each with what lies behind it. Without answers they are as
-/// they were filled.
-fn told(row: &Row, answers: Option<&[(u8, u16)]>) -> String {
+/// What the call gives, then the entries of numbers and of counts, each with what lies behind it. Without answers they are
+/// as they were filled.
+fn told(row: &Row, given: u8, answers: Option<&[(u8, u16)]>) -> String {
     let filled = u16::from_le_bytes([row.fill; 2]);
     let (numbers, counts): (Vec<u8>, Vec<u16>) = match answers {
         Some(answers) => answers.iter().copied().unzip(),
@@ -176,7 +193,7 @@ fn told(row: &Row, answers: Option<&[(u8, u16)]>) -> String {
     };
     let numbers: String = numbers.iter().map(|number| format!("{number:02X}")).collect();
     let behind = hash(&[!row.fill; GUARD]);
-    format!("{:02X}{numbers}{behind:016X}{}{behind:016X}", u8::from(answers.is_some()), digits(&counts))
+    format!("{given:02X}{numbers}{behind:016X}{}{behind:016X}", digits(&counts))
 }
 
 /// How many rounds are told, and the hashes of the row and of what lies behind it. Without counts all is as it was before.

@@ -1,4 +1,5 @@
-//! Rows of pairs for the library: of every length, with undeclared pairs in every place, and with lengths that do not fit.
+//! Rows of pairs and of both kinds of ask for the library: of every length, with undeclared individuals in every place, and
+//! with lengths and kinds that do not fit.
 
 use super::calls::{call_of, make_stranger, make_wild, pair_of, plant, some_many_rounds, Asks, Lent, Row};
 use super::deeds::CHANGED;
@@ -29,7 +30,43 @@ pub const MET: [&str; 17] = [
     "8 throughout",
 ];
 
+/// Likewise for a row of both kinds of ask.
+pub const MIXED_MET: [&str; 18] = [
+    SELF_DEALING,
+    CHANGED,
+    "no ask",
+    "asks of one kind",
+    "asks of both kinds",
+    "256 asks",
+    "a broken ask",
+    "over 256 asks",
+    "numbers too short",
+    "numbers too long",
+    "counts too short",
+    "counts too long",
+    "a kind above 1",
+    "a kind above 1 in a row that does not fit",
+    "an undeclared second that is not read",
+    "8 for a pair",
+    "8 for one individual",
+    "8 between answers",
+];
+
+/// How many numbers an ask has in a row of pairs, and in one of both kinds.
+const PAIR: usize = 2;
+const ASK: usize = 3;
+
+/// A row of pairs is asked.
 pub fn row_lent(dice: &mut Dice) -> Lent {
+    lent_for(dice, |dice, asked| Asks::Row(row_of(dice, asked)))
+}
+
+/// A row of both kinds of ask is asked.
+pub fn mixed_lent(dice: &mut Dice) -> Lent {
+    lent_for(dice, |dice, asked| Asks::Mixed(mixed_of(dice, asked)))
+}
+
+fn lent_for(dice: &mut Dice, asks: impl Fn(&mut Dice, &Asked) -> Asks) -> Lent {
     let (kind, asked) = match dice.below(1_000) {
         0..=509 => ("small", small(dice)),
         510..=569 => ("medium", medium(dice)),
@@ -40,7 +77,7 @@ pub fn row_lent(dice: &mut Dice) -> Lent {
         _ => ("damaged", small(dice)),
     };
     let fills = [dice.below(256) as u8, dice.below(256) as u8];
-    let asks = Asks::Row(row_of(dice, &asked));
+    let asks = asks(dice, &asked);
     let call = call_of(dice, &asked);
     let mut lent = Lent { kind, call, asks, lengths: [AREA; 2], fills, planted: Vec::new() };
     match kind {
@@ -52,6 +89,41 @@ pub fn row_lent(dice: &mut Dice) -> Lent {
 }
 
 fn row_of(dice: &mut Dice, asked: &Asked) -> Row {
+    let pairs = pairs_of(dice, asked);
+    let mut row = Row { entries: [pairs.len() / PAIR; 2], asked: pairs, fill: dice.below(256) as u8 };
+    if dice.percent(25) {
+        misfit(dice, &mut row, PAIR);
+    }
+    row
+}
+
+/// Each pair becomes an ask, some of them of its first individual alone.
+fn mixed_of(dice: &mut Dice, asked: &Asked) -> Row {
+    let pairs = pairs_of(dice, asked);
+    let often = dice.pick(&[0, 20, 50, 50, 80, 100]);
+    let ask = |pair: &[u16]| [u16::from(dice.percent(often)), pair[0], pair[1]];
+    let asks: Vec<u16> = pairs.chunks_exact(PAIR).flat_map(ask).collect();
+    let mut row = Row { entries: [asks.len() / ASK; 2], asked: asks, fill: dice.below(256) as u8 };
+    let fits = dice.percent(75);
+    if dice.percent(if fits { 8 } else { 30 }) {
+        other_kind(dice, &mut row);
+    }
+    if !fits {
+        misfit(dice, &mut row, ASK);
+    }
+    row
+}
+
+/// Some ask is of a kind above 1.
+fn other_kind(dice: &mut Dice, row: &mut Row) {
+    let kind = dice.pick(&[2, 2, 3, 256, u16::MAX]);
+    let length = row.asked.len() / ASK;
+    if length > 0 {
+        row.asked[ASK * dice.below(length)] = kind;
+    }
+}
+
+fn pairs_of(dice: &mut Dice, asked: &Asked) -> Vec<u16> {
     let length = match dice.below(100) {
         0..=7 => 0,
         8..=19 => 1,
@@ -61,11 +133,7 @@ fn row_of(dice: &mut Dice, asked: &Asked) -> Row {
     };
     let mut pairs: Vec<u16> = (0..length).flat_map(|_| pair_of(dice, asked)).collect();
     make_strangers(dice, asked.collection.counts.individuals.into(), &mut pairs);
-    let mut row = Row { pairs, entries: [length; 2], fill: dice.below(256) as u8 };
-    if dice.percent(25) {
-        misfit(dice, &mut row);
-    }
-    row
+    pairs
 }
 
 /// Some pairs, all or none are no longer declared; the first and the last more often than those between.
@@ -80,17 +148,17 @@ fn make_strangers(dice: &mut Dice, individuals: u16, pairs: &mut [u16]) {
     }
 }
 
-/// Half a pair, too many pairs, or more or fewer entries than pairs.
-fn misfit(dice: &mut Dice, row: &mut Row) {
-    let length = row.pairs.len() / 2;
+/// A broken ask, too many asks, or more or fewer entries than asks, of so many numbers each.
+fn misfit(dice: &mut Dice, row: &mut Row, width: usize) {
+    let length = row.asked.len() / width;
     match dice.below(5) {
         0 => {
-            row.pairs.push(0);
+            row.asked.resize(row.asked.len() + dice.between(1, width - 1), 0);
             row.entries = [length + dice.below(2); 2];
         }
         1 => {
             let many = dice.pick(&[257, 257, 258, 300, 512, 1_000]);
-            row.pairs.resize(2 * many, 0);
+            row.asked.resize(width * many, 0);
             row.entries = [dice.pick(&[many, many, PAIRS]); 2];
         }
         _ => {
@@ -137,15 +205,61 @@ fn met_answered(answers: &[(u8, u16)]) -> Vec<&'static str> {
 }
 
 fn met_refused(row: &Row) -> Vec<&'static str> {
-    let length = row.pairs.len() / 2;
+    let whole = ("half a pair", row.asked.len() % PAIR == 1);
+    let few = ("over 256 pairs", row.asked.len() / PAIR > PAIRS);
+    so_of([whole, few].into_iter().chain(misfits(row, PAIR)))
+}
+
+/// Of how the entries do not fit, what is so.
+fn misfits(row: &Row, width: usize) -> [(&'static str, bool); 4] {
+    let length = row.asked.len() / width;
     let [numbers, counts] = row.entries;
-    let faults = [
-        ("half a pair", row.pairs.len() % 2 == 1),
-        ("over 256 pairs", length > PAIRS),
+    [
         ("numbers too short", numbers < length),
         ("numbers too long", numbers > length),
         ("counts too short", counts < length),
         ("counts too long", counts > length),
+    ]
+}
+
+fn so_of(faults: impl Iterator<Item = (&'static str, bool)>) -> Vec<&'static str> {
+    faults.filter(|(_, is_so)| *is_so).map(|(what, _)| what).collect()
+}
+
+/// What a row of both kinds of ask is, of those of `MIXED_MET`; it is answered unless a length or a kind does not fit.
+pub fn mixed_met(row: &Row, individuals: u16, answers: Option<&[(u8, u16)]>) -> Vec<&'static str> {
+    match answers {
+        Some(answers) => mixed_answered(row, individuals, answers),
+        None => mixed_refused(row),
+    }
+}
+
+fn mixed_answered(row: &Row, individuals: u16, answers: &[(u8, u16)]) -> Vec<&'static str> {
+    let asks: Vec<&[u16]> = row.asked.chunks_exact(ASK).collect();
+    let ones = asks.iter().filter(|ask| ask[0] == 1).count();
+    let refused = |kind: u16| asks.iter().zip(answers).any(|(ask, answer)| ask[0] == kind && answer.0 == 8);
+    let unread = |(ask, answer): (&&[u16], &(u8, u16))| ask[0] == 1 && ask[2] >= individuals && answer.0 < 4;
+    let around = |three: &[(u8, u16)]| three[1].0 == 8 && three[0].0 != 8 && three[2].0 != 8;
+    let faults = [
+        ("no ask", asks.is_empty()),
+        ("asks of one kind", !asks.is_empty() && (ones == 0 || ones == asks.len())),
+        ("asks of both kinds", ones > 0 && ones < asks.len()),
+        ("256 asks", asks.len() == PAIRS),
+        ("an undeclared second that is not read", asks.iter().zip(answers).any(unread)),
+        ("8 for a pair", refused(0)),
+        ("8 for one individual", refused(1)),
+        ("8 between answers", answers.windows(3).any(around)),
     ];
-    faults.into_iter().filter(|(_, is_so)| *is_so).map(|(what, _)| what).collect()
+    so_of(faults.into_iter())
+}
+
+fn mixed_refused(row: &Row) -> Vec<&'static str> {
+    let whole = ("a broken ask", !row.asked.len().is_multiple_of(ASK));
+    let few = ("over 256 asks", row.asked.len() / ASK > PAIRS);
+    let lengths: Vec<_> = [whole, few].into_iter().chain(misfits(row, ASK)).collect();
+    let fits = lengths.iter().all(|(_, is_so)| !is_so);
+    let other = row.asked.chunks_exact(ASK).any(|ask| ask[0] > 1);
+    let kinds =
+        [("a kind above 1", other && fits), ("a kind above 1 in a row that does not fit", other && !fits)];
+    so_of(lengths.into_iter().chain(kinds))
 }

@@ -2,7 +2,8 @@
 use Rattle.std.specs.Prelude.{length}
 use Rattle.std.proofs.Common.{refl}
 use Rattle.lampsaffron.specs.Boundary.{RowFits}
-use Rattle.lampsaffron.proofs.Told.{part_count, part_is, told}
+use Rattle.lampsaffron.proofs.Told.{part_count, part_is, told, passed-turns}
+use Rattle.lampsaffron.proofs.Deeds.{in-turn-deeds}
 use Rattle.lampsaffron.proofs.Seven.{row-never}
 use Rattle.lampsaffron.proofs.lampsaffron_ask_all.Goals as goal
 
@@ -11,9 +12,13 @@ returns-clause-in_turn c =
     let fits = c.row_fits.ensures.0 c.if-not-row_fits.false in
     let put = c.put_pairs.ensures in
     let turns = c.ask_all.ensures.in_turn in
+    let l = c.lent-lent.ensures in
     told _ c.args.pairs.now _ _ _ _ _ c.ask_all.new.answers _ c.tell.new.numbers c.tell.new.counts refl
     (rw (c.tell.auto.numbers, c.tell.auto.counts) fits) (part_count _ _ put fits.whole.few) (part_is _ _ put fits.whole.few) c.tell.ensures
-    (rw (c.new-asks.ensures, c.new.ensures, c.new-2.ensures, c.new-3.ensures, c.new-4.ensures, c.new-5.ensures, c.new-6.ensures, c.new-7.ensures, c.new-8.ensures) at turns)
+    (passed-turns c.lent-lent.result l.counts l.tables l.allowance (rw c.new-asks.ensures at turns))
+
+pub returns-clause-deeds : goal.returns-clause-deeds
+returns-clause-deeds c = λ t s. in-turn-deeds t s (returns-clause-in_turn c)
 
 pub returns-clause-seven_never : goal.returns-clause-seven_never
 returns-clause-seven_never c =

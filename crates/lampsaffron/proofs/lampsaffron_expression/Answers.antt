@@ -1,8 +1,8 @@
 -- `lampsaffron_expression`: the number at each exit.
-use Rattle.std.specs.Prelude.{refl}
-use Rattle.std.proofs.Common.{⊎_elim, ap, ◌∙◌, arith}
-use Rattle.std.specs.Prelude.{Err}
-use Rattle.lampsaffron.proofs.Made.{gives-short, gives-made, gives-refused}
+use Rattle.std.specs.Prelude.{◌≡◌, refl, Err, take}
+use Rattle.std.proofs.Common.{⊎_elim, ap, sym, subst, ◌∙◌, arith}
+use Rattle.expression.specs.Answer.{ReadsItsWords}
+use Rattle.lampsaffron.proofs.Made.{gives-short, gives-made, gives-refused, told-is}
 use Rattle.lampsaffron.proofs.lampsaffron_expression.Goals as goal
 
 pub returns-then-steps-lt-STEP_NUMBERS-clause-number : goal.returns-then-steps-lt-STEP_NUMBERS-clause-number
@@ -18,3 +18,9 @@ returns-in-Err-clause-number c =
 pub returns-clause-number : goal.returns-clause-number
 returns-clause-number c =
     gives-made _ _ _ (record { steps-fit = omega arith; finals-fit = omega arith }) (c.automaton_of.ensures.ok.0 (rw c.in-Ok.is refl))
+
+pub returns-clause-words : goal.returns-clause-words
+returns-clause-words c =
+    let steps : take c.put.result c.put.new.row ≡ c.in-Ok.automaton.steps = cc in
+    let finals : take c.put-2.result c.put-2.new.row ≡ c.in-Ok.automaton.finals = cc in
+    λ z. subst (ReadsItsWords c.args.marks.now) (sym (told-is c.in-Ok.automaton _ _ _ _ _ c.states.ensures steps finals)) c.in-Ok.ensures.words

@@ -1,7 +1,8 @@
 -- Each call gives one outcome.
 use Rattle.expression.proofs.Clauses.{automaton-once}
 use Rattle.lampsaffron.proofs.Given.{gives-once, row-once}
-use Rattle.lampsaffron.proofs.Made.{made-once}
+use Rattle.lampsaffron.proofs.AsksLaws.{asking-once}
+use Rattle.lampsaffron.proofs.Made.{made-once, tables-once}
 use Rattle.lampsaffron.proofs.Rounds.{marks-once}
 use Rattle.lampsaffron.proofs.theorems.unique.Goals as goal
 
@@ -13,6 +14,12 @@ returns-clause-one_row c = row-once
 
 pub returns-clause-one_marking : goal.returns-clause-one_marking
 returns-clause-one_marking c = λ p old new new' number number'. marks-once p old number number' new new'
+
+pub returns-clause-one_asking : goal.returns-clause-one_asking
+returns-clause-one_asking c = λ p asks old new new' number number'. asking-once p asks old number number' new new'
+
+pub returns-clause-one_making : goal.returns-clause-one_making
+returns-clause-one_making c = λ row old new new' number number'. tables-once row old number number' new new'
 
 pub returns-clause-one_number : goal.returns-clause-one_number
 returns-clause-one_number c = made-once

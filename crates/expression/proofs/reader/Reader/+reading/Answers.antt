@@ -37,7 +37,7 @@ pub item-returns-clause-outcome : goal.item-returns-clause-outcome
 item-returns-clause-outcome t c =
     let e = c.in_ok-part.ensures.marks in
     let v = rw e at c.next.ensures.value in
-    item-many _ _ _ _ c.in_ok-part.ensures.outcome (sym v ∙ c.if-next-ne-REPEAT.false) c.many.ensures
+    item-many _ _ _ _ c.in_ok-part.ensures.outcome (omega arith) (sym v ∙ c.if-next-ne-REPEAT.false) c.many.ensures
 
 pub sequence-items-init : goal.sequence-items-init
 sequence-items-init t c = record { marks = c.in_ok-part.ensures.marks; so_far = items-start _ _ _ _ c.in_ok-part.ensures.outcome }
@@ -89,7 +89,7 @@ expression-returns-in_err-other-clause-outcome t c =
     let e = c.sequences.invariant.marks in
     let v = rw e at c.next.ensures.value in
     let f = rw e at c.in_err-other.ensures.outcome in
-    outcome-err _ _ _ _ _ _ _ c.from_residual-in_err-other.ensures.0 (sequences-bad _ _ _ _ c.sequences.invariant.so_far (sym v ∙ c.sequences-test.true) f)
+    outcome-err _ _ _ _ _ _ _ c.from_residual-in_err-other.ensures.0 (sequences-bad _ _ _ _ c.sequences.invariant.so_far (sym v ∙ c.sequences-test.true) (search (f, items-nothing)))
 
 pub expression-sequences-preserved : goal.expression-sequences-preserved
 expression-sequences-preserved t c =
