@@ -1,17 +1,8 @@
--- A kind past the last has no length, and none a long one; a sound line has a byte; its marks one by one.
+-- A sound line has a byte; its marks one by one.
 use Rattle.std.specs.Prelude.{ℕ, zero, suc, ◌+◌, ◌/◌, ◌≤◌, ◌≡◌, List, [], ◌∷◌, ◌++◌, length}
 use Rattle.std.proofs.Common.{refl, add-one, length-append, arith}
 use Rattle.frames.specs.Digits.{LineOk}
-use Rattle.frames.specs.Frames.{frame_length, marks_of}
-
-pub no_length : (kind : ℕ) → 15 ≤ kind → frame_length kind ≡ 0
-unfolding frame_length
-no_length kind past = grind arith
-
--- the longest one is that of what is declared
-pub length_small : (kind : ℕ) → frame_length kind ≤ 6
-unfolding frame_length
-length_small kind = grind arith
+use Rattle.frames.specs.Frames.{marks_of}
 
 pub one_byte : (l : List ℕ) → LineOk l → 1 ≤ length l / 2
 one_byte l ok = let a = ok.some in let b = ok.even in omega arith

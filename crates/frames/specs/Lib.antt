@@ -1,4 +1,5 @@
 pub mod Digits
+pub mod Kinds
 pub mod Frames
 pub mod Kept
 pub mod Reader

@@ -1,18 +1,20 @@
 // A line of the desk's input becomes a frame: one named kind with its own numbers, each of its kind from here on.
 #![tactic(auto)]
 
-ghost use Rattle.std.specs.Prelude.{ℕ, ◌+◌, ◌-◌, ◌*◌, ◌^◌, ◌<◌, ◌↔◌, ◌≡◌, IsTrue};
+ghost use Rattle.std.specs.Prelude.{ℕ, ◌+◌, ◌-◌, ◌*◌, ◌^◌, ◌<◌, ◌≡◌};
 ghost use Rattle.kinds.specs.Kinds.{concept_name, role_name, individual, state, signed, deed_number, concept_of};
 ghost use Rattle.frames.specs.Digits.{digit_of, bytes, byte_of, LineOk};
-ghost use Rattle.frames.specs.Frames.{frame_length, two_bytes, marks_of, frame_by, NotesDeed, HasLength, FrameOf};
+ghost use Rattle.frames.specs.Frames.{two_bytes, marks_of, frame_by, FrameOf};
 ghost use Rattle.frames.specs.Reader.{Advanced};
 
+use kind::Kind;
 use kinds::{
     Concept, ConceptName, Counts, DeedNumber, Individual, RoleName, Rounds, SignedRole, State,
 };
 use marks::Marks;
 use sound::SoundLine;
 
+mod kind;
 pub mod marks;
 mod sound;
 pub mod theorems;
@@ -48,20 +50,6 @@ pub const BASE: u8 = 16;
 
 // A byte is below it.
 const BYTE: u16 = 256;
-
-// The bytes of a frame of each kind, the kind's own byte among them and a deed number not; 0 where there is no such kind.
-const LENGTHS: [usize; 15] = [0, 6, 3, 3, 3, 3, 3, 4, 4, 4, 2, 3, 3, 0, 2];
-
-// The kinds whose frame may end in a deed number.
-const CONCEPT_FACT: u16 = 6;
-
-const ROLE_FACT: u16 = 7;
-
-// The bytes of a deed number.
-const DEED: usize = 2;
-
-// The kind whose frame may have any length.
-const EXPRESSION: u16 = 13;
 
 // A line and a place in it, counted in bytes.
 #[derive(Drop)]
@@ -175,35 +163,6 @@ impl Field for State {
     }
 }
 
-#[tactic(auto, using(crate::proofs::Lengths::no_length), unfolding(crate::specs::Frames::frame_length))]
-fn frame_length(kind: u16) -> usize
-    ensures { result ≡ frame_length kind }
-{
-    let kind = kind as usize;
-    if kind < LENGTHS.len() {
-        LENGTHS[kind]
-    } else {
-        0
-    }
-}
-
-// Whether a line is a fact's, with a deed number at its end.
-#[tactic(auto, using(crate::proofs::Lengths::length_small))]
-fn notes_deed(line: &SoundLine, kind: u16) -> bool
-    requires { kind ≡ byte_of line.now 0 }
-    ensures { IsTrue result ↔ NotesDeed line.now }
-{
-    (kind == CONCEPT_FACT || kind == ROLE_FACT) && line.bytes() == frame_length(kind) + DEED
-}
-
-// Whether a line has the length of its kind.
-fn has_length(line: &SoundLine, kind: u16) -> bool
-    requires { kind ≡ byte_of line.now 0 }
-    ensures { IsTrue result ↔ HasLength line.now }
-{
-    kind == EXPRESSION || line.bytes() == frame_length(kind) || notes_deed(line, kind)
-}
-
 // The bytes of a line after its kind.
 #[tactic(auto, using(crate::proofs::Bytes::byte_small, crate::proofs::Lengths::one_byte, crate::proofs::Lengths::marks_none, crate::proofs::Lengths::marks_more, crate::proofs::Lengths::marks_long))]
 fn marks_in(line: &SoundLine) -> Marks
@@ -218,45 +177,43 @@ fn marks_in(line: &SoundLine) -> Marks
 }
 
 // The frame of a kind, with the reader at its first field.
-#[tactic(auto, using(crate::proofs::Bytes::byte_small), unfolding(crate::specs::Frames::frame_by))]
-fn frame_of(kind: u16, reader: &mut Reader) -> Result<Frame, Misread>
+#[tactic(auto, using(crate::proofs::Bytes::byte_small))]
+fn frame_of(kind: Kind, reader: &mut Reader) -> Frame
     requires sound { LineOk reader.old.line.now }
     requires first { reader.old.at ≡ 1 }
     ensures { let line = reader.old.line.now in
-        result ≡ frame_by kind (byte_of line) (bytes line) }
+        result ≡ frame_by (byte_of line) (bytes line) kind }
 {
-    let frame = match kind {
-        1 => Frame::Declared(Counts {
+    match kind {
+        Kind::Declared => Frame::Declared(Counts {
             names: reader.byte(),
             roles: reader.byte(),
             individuals: reader.byte(),
             states: reader.byte(),
             start: reader.field(),
         }),
-        2 => Frame::ConceptRule(reader.field(), reader.field()),
-        3 => Frame::ConceptExclusion(reader.field(), reader.field()),
-        4 => Frame::RoleRule(reader.field(), reader.field()),
-        5 => Frame::RoleExclusion(reader.field(), reader.field()),
-        CONCEPT_FACT => Frame::ConceptFact(reader.field(), reader.field(), reader.deed()),
-        ROLE_FACT => Frame::RoleFact(
+        Kind::ConceptRule => Frame::ConceptRule(reader.field(), reader.field()),
+        Kind::ConceptExclusion => Frame::ConceptExclusion(reader.field(), reader.field()),
+        Kind::RoleRule => Frame::RoleRule(reader.field(), reader.field()),
+        Kind::RoleExclusion => Frame::RoleExclusion(reader.field(), reader.field()),
+        Kind::ConceptFact => Frame::ConceptFact(reader.field(), reader.field(), reader.deed()),
+        Kind::RoleFact => Frame::RoleFact(
             reader.field(),
             reader.field(),
             reader.field(),
             reader.deed(),
         ),
-        8 => Frame::RoleStep(reader.field(), reader.field(), reader.field()),
-        9 => Frame::TestStep(reader.field(), reader.field(), reader.field()),
-        10 => Frame::Final(reader.field()),
-        11 => Frame::Ask(reader.field(), reader.field()),
-        12 => Frame::Allowance(reader.number()),
-        EXPRESSION => Frame::Expression(marks_in(reader.line)),
-        14 => Frame::AskFrom(reader.field()),
-        _ => return Err(Misread::BadFrame),
-    };
-    Ok(frame)
+        Kind::RoleStep => Frame::RoleStep(reader.field(), reader.field(), reader.field()),
+        Kind::TestStep => Frame::TestStep(reader.field(), reader.field(), reader.field()),
+        Kind::Final => Frame::Final(reader.field()),
+        Kind::Ask => Frame::Ask(reader.field(), reader.field()),
+        Kind::Allowance => Frame::Allowance(reader.number()),
+        Kind::Expression => Frame::Expression(marks_in(reader.line)),
+        Kind::AskFrom => Frame::AskFrom(reader.field()),
+    }
 }
 
-// The frame of a line, whose length is tested before its fields are read.
+// The frame of a line, whose kind and length are tested before its fields are read.
 pub fn read(line: &[u8]) -> Result<Frame, Misread>
     ensures { FrameOf line.now result }
 {
@@ -264,9 +221,11 @@ pub fn read(line: &[u8]) -> Result<Frame, Misread>
         return Err(Misread::BadLine);
     };
     let mut reader = Reader::opened(&sound);
-    let kind = reader.byte();
-    if !has_length(&sound, kind) {
+    let Some(kind) = Kind::of(reader.byte()) else {
+        return Err(Misread::BadFrame);
+    };
+    if !kind.has_length(sound.bytes()) {
         return Err(Misread::BadFrame);
     }
-    frame_of(kind, &mut reader)
+    Ok(frame_of(kind, &mut reader))
 }

@@ -1,11 +1,13 @@
 -- Frames that are taken stay within the most of each table, so that there are at most 7,186 of them.
-use Rattle.std.specs.Prelude.{ℕ, ◌+◌, ◌<◌, ◌≤◌, ◌≡◌, Bool, true, false, List, [], ◌∷◌, ◌++◌, Option, None, Some, cond, is_some, length}
-use Rattle.std.proofs.Common.{refl, ap, ◌∙◌, arith, length-append}
+use Rattle.std.specs.Prelude.{ℕ, ◌+◌, ◌<◌, ◌≤◌, ◌≡◌, Bool, true, false, List, [], ◌∷◌, ◌++◌, Option, None, Some, cond, is_some, length, count_by}
+use Rattle.std.proofs.Common.{refl, ap, arith}
+use Rattle.std.proofs.lemmas.List.Sums.{sum_by-cons, sum_by_push}
 use Rattle.frames.specs.declared.Frame.{Frame}
 use Rattle.frames.specs.declared.Frame.TheVariants.{Declared, ConceptRule, ConceptExclusion, RoleRule, RoleExclusion, ConceptFact, RoleFact, RoleStep, TestStep, Final, Ask, AskFrom, Allowance, Expression}
-use Rattle.reading.specs.Tables.{Kind, concept_rules, concept_exclusions, role_rules, role_exclusions, concept_facts, role_facts, steps, finals, asks, record_in, most, entries, table, allowance_given, expression_given}
+use Rattle.reading.specs.Tables.{Kind, concept_rules, concept_exclusions, role_rules, role_exclusions, concept_facts, role_facts, steps, finals, asks, record_in, most, entries, table, is_declared, is_allowance, is_expression, allowance_given, expression_given}
 use Rattle.reading.specs.Reading.{Taken}
-use Rattle.reading.proofs.TableLaws.{added, entries-more, table-length}
+use Rattle.reading.specs.Laws.{Within}
+use Rattle.reading.proofs.TableLaws.{added, entries-more, entries-cons, table-length}
 use Rattle.reading.proofs.Passed.{Passed, taken-keeps}
 
 no_entries : (kind : Kind) → entries kind [] ≤ most kind
@@ -42,115 +44,109 @@ expression-more [] f = refl
 expression-more (Expression row ∷ fs) f = refl
 expression-more (g ∷ fs) f = expression-more fs f
 
--- the records of all tables
-abbrev records : List Frame → ℕ
-records fs =
-    entries concept_rules fs + entries concept_exclusions fs + entries role_rules fs + entries role_exclusions fs + entries concept_facts fs
-    + entries role_facts fs + entries steps fs + entries finals fs + entries asks fs
+-- the frames that a test finds, one more at the end
+count-more : (p : Frame → Bool) (fs : List Frame) (f : Frame) → count_by p (fs ++ f ∷ []) ≡ count_by p fs + cond (p f) 1 0
+count-more p fs f = sum_by_push (λ g. cond (p g) 1 0) fs f
 
-abbrev given : List Frame → ℕ
-given fs = cond (is_some (allowance_given fs)) 1 0
+count-cons : (p : Frame → Bool) (f : Frame) (fs : List Frame) → count_by p (f ∷ fs) ≡ cond (p f) 1 0 + count_by p fs
+count-cons p f fs = sum_by-cons (λ g. cond (p g) 1 0) f fs
 
-abbrev expressed : List Frame → ℕ
-expressed fs = cond (is_some (expression_given fs)) 1 0
+none-declared : (fs : List Frame) → fs ≡ [] → count_by is_declared fs ≡ 0
+none-declared fs e = rw e refl
 
--- a frame is line 1, the allowance, the expression, or a record
-abbrev Counted : List Frame → Type 0
-Counted fs = length fs ≤ 1 + given fs + expressed fs + records fs
+none-allowed : (fs : List Frame) → allowance_given fs ≡ None → count_by is_allowance fs ≡ 0
+none-allowed [] e = refl
+none-allowed (Allowance n ∷ fs) e = absurd cc
+none-allowed (f ∷ fs) e = omega (arith, count-cons is_allowance f fs, none-allowed fs e)
 
-given-still : (before : List Frame) (f : Frame) → allowance_given (f ∷ []) ≡ None → given (before ++ f ∷ []) ≡ given before
-given-still before f e = ap (λ o. cond (is_some o) 1 0) (allowance-more before f ∙ ap (or_else (allowance_given before)) e ∙ or_else-none (allowance_given before))
-
-expressed-still : (before : List Frame) (f : Frame) → expression_given (f ∷ []) ≡ None → expressed (before ++ f ∷ []) ≡ expressed before
-expressed-still before f e = ap (λ o. cond (is_some o) 1 0) (expression-more before f ∙ ap (or_else (expression_given before)) e ∙ or_else-none (expression_given before))
-
--- where an expression is given, so is no step: both are within the most steps
-abbrev Shared : List Frame → Type 0
-Shared fs = expressed fs + entries steps fs ≤ most steps
+none-expressed : (fs : List Frame) → expression_given fs ≡ None → count_by is_expression fs ≡ 0
+none-expressed [] e = refl
+none-expressed (Expression row ∷ fs) e = absurd cc
+none-expressed (f ∷ fs) e = omega (arith, count-cons is_expression f fs, none-expressed fs e)
 
 no_steps : (fs : List Frame) → table steps fs ≡ [] → entries steps fs ≡ 0
 no_steps fs e = omega (arith, table-length steps fs, ap (λ (l : List ℕ). length l) e)
 
+-- each is kept by one frame more
 module _ (before : List Frame) where
-  no-expression : expression_given before ≡ None → expressed before ≡ 0
-  no-expression e = ap (λ o. cond (is_some o) 1 0) e
+  declared-more : (f : Frame) → Taken before → Passed before f → count_by is_declared before ≤ 1 → count_by is_declared (before ++ f ∷ []) ≤ 1
+  declared-more (Declared c) t p h = omega (arith, count-more is_declared before (Declared c), none-declared before p.in_place)
+  declared-more f t p h = omega (arith, count-more is_declared before f)
 
-  expressed-now : (row : List ℕ) → expression_given before ≡ None → expressed (before ++ Expression row ∷ []) ≡ 1
-  expressed-now row e = ap (λ o. cond (is_some o) 1 0) (expression-more before (Expression row) ∙ ap (λ o. or_else o (Some row)) e)
+  allowed-more : (f : Frame) → Taken before → Passed before f → count_by is_allowance before ≤ 1 → count_by is_allowance (before ++ f ∷ []) ≤ 1
+  allowed-more (Allowance n) t p h = omega (arith, count-more is_allowance before (Allowance n), none-allowed before p.in_place.1)
+  allowed-more f t p h = omega (arith, count-more is_allowance before f)
 
-  -- a frame that is neither a step nor the expression
-  shared-still : (f : Frame) → expression_given (f ∷ []) ≡ None → added steps f ≡ 0 → Shared before → Shared (before ++ f ∷ [])
-  shared-still f e n h = omega (arith, expressed-still before f e, entries-more steps before f)
+  abbrev Shared : List Frame → Type 0
+  Shared fs = count_by is_expression fs + entries steps fs ≤ most steps
 
-  shared-step : (f : Frame) → expression_given (f ∷ []) ≡ None → added steps f ≡ 1 → expression_given before ≡ None → entries steps before < most steps → Shared (before ++ f ∷ [])
-  shared-step f e n none room = omega (arith, expressed-still before f e, no-expression none, entries-more steps before f)
+  shared-step : (f : Frame) → is_expression f ≡ false → added steps f ≡ 1 → expression_given before ≡ None → entries steps before < most steps → Shared (before ++ f ∷ [])
+  shared-step f x one e room = rw (count-more is_expression before f, x, entries-more steps before f, one, none-expressed before e) (omega arith)
 
   shared-more : (f : Frame) → Taken before → Passed before f → Shared before → Shared (before ++ f ∷ [])
-  shared-more (Declared c) t p h = shared-still (Declared c) refl refl h
-  shared-more (Allowance n) t p h = shared-still (Allowance n) refl refl h
-  shared-more (ConceptRule C D) t p h = shared-still (ConceptRule C D) refl refl h
-  shared-more (ConceptExclusion C D) t p h = shared-still (ConceptExclusion C D) refl refl h
-  shared-more (RoleRule R S) t p h = shared-still (RoleRule R S) refl refl h
-  shared-more (RoleExclusion R S) t p h = shared-still (RoleExclusion R S) refl refl h
-  shared-more (ConceptFact A a n) t p h = shared-still (ConceptFact A a n) refl refl h
-  shared-more (RoleFact r a b n) t p h = shared-still (RoleFact r a b n) refl refl h
-  shared-more (RoleStep p1 R u) t p h = shared-step (RoleStep p1 R u) refl refl p.in_place.1 (p.room steps refl)
-  shared-more (TestStep p1 A u) t p h = shared-step (TestStep p1 A u) refl refl p.in_place.1 (p.room steps refl)
-  shared-more (Final p1) t p h = shared-still (Final p1) refl refl h
-  shared-more (Ask a b) t p h = shared-still (Ask a b) refl refl h
-  shared-more (AskFrom a) t p h = shared-still (AskFrom a) refl refl h
+  shared-more (RoleStep s R u) t p h = shared-step (RoleStep s R u) refl refl p.in_place.1 (p.room steps refl)
+  shared-more (TestStep s A u) t p h = shared-step (TestStep s A u) refl refl p.in_place.1 (p.room steps refl)
   shared-more (Expression row) t p h =
-      omega (arith, expressed-now row p.in_place.1, no_steps before p.in_place.2, entries-more steps before (Expression row))
+      omega (arith, count-more is_expression before (Expression row), none-expressed before p.in_place.1, no_steps before p.in_place.2, entries-more steps before (Expression row))
+  shared-more f t p h = omega (arith, count-more is_expression before f, entries-more steps before f)
 
-shared : (fs : List Frame) → Taken fs → Shared fs
-shared = taken-keeps Shared none-shared shared-more
-  where
-    none-shared : Shared []
-    none-shared = omega (arith, no_entries steps)
+-- THEOREM: frames that are taken stay within the most of each table, and give once what is given once
+pub taken-within : (fs : List Frame) → Taken fs → Within fs
+taken-within fs t = record {
+  few = λ kind. few kind fs t;
+  declared = taken-keeps (λ gs. count_by is_declared gs ≤ 1) (omega arith) declared-more fs t;
+  allowances = taken-keeps (λ gs. count_by is_allowance gs ≤ 1) (omega arith) allowed-more fs t;
+  expressions = taken-keeps (Shared fs) (omega (arith, no_entries steps)) shared-more fs t;
+}
 
-module _ (before : List Frame) where
-  record-more : (f : Frame) → allowance_given (f ∷ []) ≡ None → expression_given (f ∷ []) ≡ None → Counted before
-      → added concept_rules f + added concept_exclusions f + added role_rules f + added role_exclusions f + added concept_facts f
-      + added role_facts f + added steps f + added finals f + added asks f ≡ 1 → Counted (before ++ f ∷ [])
-  record-more f e x h one =
-      omega (arith, given-still before f e, expressed-still before f x, length-append before (f ∷ []), entries-more concept_rules before f, entries-more concept_exclusions before f, entries-more role_rules before f, entries-more role_exclusions before f, entries-more concept_facts before f, entries-more role_facts before f, entries-more steps before f, entries-more finals before f, entries-more asks before f)
+-- a frame is line 1, the allowance, the expression, or a record
+abbrev kinds : Frame → ℕ
+kinds f =
+    cond (is_declared f) 1 0 + cond (is_allowance f) 1 0 + cond (is_expression f) 1 0
+    + added concept_rules f + added concept_exclusions f + added role_rules f + added role_exclusions f + added concept_facts f
+    + added role_facts f + added steps f + added finals f + added asks f
 
-  counted-more : (f : Frame) → Taken before → Passed before f → Counted before → Counted (before ++ f ∷ [])
-  counted-more (Declared c) t p h = let e = ap length p.in_place in omega (arith, length-append before (Declared c ∷ []))
-  counted-more (Allowance n) t p h =
-      let a = p.in_place.1 in
-      let was : given before ≡ 0 = ap (λ o. cond (is_some o) 1 0) a in
-      let is : given (before ++ Allowance n ∷ []) ≡ 1 = ap (λ o. cond (is_some o) 1 0) (allowance-more before (Allowance n) ∙ ap (λ o. or_else o (Some n)) a) in
-      omega (arith, expressed-still before (Allowance n) refl, length-append before (Allowance n ∷ []), entries-more concept_rules before (Allowance n), entries-more concept_exclusions before (Allowance n), entries-more role_rules before (Allowance n), entries-more role_exclusions before (Allowance n), entries-more concept_facts before (Allowance n), entries-more role_facts before (Allowance n), entries-more steps before (Allowance n), entries-more finals before (Allowance n), entries-more asks before (Allowance n))
-  counted-more (Expression row) t p h =
-      let x = p.in_place.1 in
-      omega (arith, given-still before (Expression row) refl, no-expression before x, expressed-now before row x, length-append before (Expression row ∷ []), entries-more concept_rules before (Expression row), entries-more concept_exclusions before (Expression row), entries-more role_rules before (Expression row), entries-more role_exclusions before (Expression row), entries-more concept_facts before (Expression row), entries-more role_facts before (Expression row), entries-more steps before (Expression row), entries-more finals before (Expression row), entries-more asks before (Expression row))
-  counted-more (ConceptRule C D) t p h = record-more (ConceptRule C D) refl refl h refl
-  counted-more (ConceptExclusion C D) t p h = record-more (ConceptExclusion C D) refl refl h refl
-  counted-more (RoleRule R S) t p h = record-more (RoleRule R S) refl refl h refl
-  counted-more (RoleExclusion R S) t p h = record-more (RoleExclusion R S) refl refl h refl
-  counted-more (ConceptFact A a n) t p h = record-more (ConceptFact A a n) refl refl h refl
-  counted-more (RoleFact r a b n) t p h = record-more (RoleFact r a b n) refl refl h refl
-  counted-more (RoleStep p1 R u) t p h = record-more (RoleStep p1 R u) refl refl h refl
-  counted-more (TestStep p1 A u) t p h = record-more (TestStep p1 A u) refl refl h refl
-  counted-more (Final p1) t p h = record-more (Final p1) refl refl h refl
-  counted-more (Ask a b) t p h = record-more (Ask a b) refl refl h refl
-  counted-more (AskFrom a) t p h = record-more (AskFrom a) refl refl h refl
+one-kind : (f : Frame) → kinds f ≡ 1
+one-kind (Declared c) = refl
+one-kind (ConceptRule C D) = refl
+one-kind (ConceptExclusion C D) = refl
+one-kind (RoleRule R S) = refl
+one-kind (RoleExclusion R S) = refl
+one-kind (ConceptFact A a n) = refl
+one-kind (RoleFact r a b n) = refl
+one-kind (RoleStep s R t) = refl
+one-kind (TestStep s A t) = refl
+one-kind (Final s) = refl
+one-kind (Ask a b) = refl
+one-kind (AskFrom a) = refl
+one-kind (Allowance n) = refl
+one-kind (Expression row) = refl
+
+all : List Frame → ℕ
+all fs =
+    count_by is_declared fs + count_by is_allowance fs + count_by is_expression fs
+    + entries concept_rules fs + entries concept_exclusions fs + entries role_rules fs + entries role_exclusions fs + entries concept_facts fs
+    + entries role_facts fs + entries steps fs + entries finals fs + entries asks fs
+
+all-cons : (f : Frame) (fs : List Frame) → all (f ∷ fs) ≡ kinds f + all fs
+unfolding all
+all-cons f fs =
+    omega (arith, count-cons is_declared f fs, count-cons is_allowance f fs, count-cons is_expression f fs, entries-cons concept_rules f fs, entries-cons concept_exclusions f fs, entries-cons role_rules f fs, entries-cons role_exclusions f fs, entries-cons concept_facts f fs, entries-cons role_facts f fs, entries-cons steps f fs, entries-cons finals f fs, entries-cons asks f fs)
+
+all-length : (fs : List Frame) → length fs ≤ all fs
+all-length [] = omega arith
+all-length (f ∷ fs) = omega (arith, all-length fs, all-cons f fs, one-kind f)
 
 -- the most lines of a sound file: line 1, the allowance, and as many as the tables have records; 7,186
 abbrev pub most_lines : ℕ
 most_lines = 2 + most concept_rules + most concept_exclusions + most role_rules + most role_exclusions + most concept_facts + most role_facts + most steps + most finals + most asks
 
-given-most : (o : Option ℕ) → cond (is_some o) 1 0 ≤ 1
-given-most None = omega arith
-given-most (Some n) = omega arith
+-- THEOREM: any frames within that are at most as many
+pub bounded-lines : (fs : List Frame) → Within fs → length fs ≤ most_lines
+unfolding all
+bounded-lines fs w =
+    omega (arith, all-length fs, w.declared, w.allowances, w.expressions, w.few concept_rules, w.few concept_exclusions, w.few role_rules, w.few role_exclusions, w.few concept_facts, w.few role_facts, w.few finals, w.few asks)
 
 -- THEOREM: a file has at most that many lines before its first faulty one
 pub within-lines : (fs : List Frame) → Taken fs → length fs ≤ most_lines
-within-lines fs t =
-    let counted = taken-keeps Counted none-counted counted-more fs t in
-    let one = given-most (allowance_given fs) in
-    omega (arith, few concept_rules fs t, few concept_exclusions fs t, few role_rules fs t, few role_exclusions fs t, few concept_facts fs t, few role_facts fs t, shared fs t, few finals fs t, few asks fs t)
-  where
-    none-counted : Counted []
-    none-counted = omega arith
+within-lines fs t = bounded-lines fs (taken-within fs t)

@@ -1,13 +1,9 @@
 -- Lines that differ only in deed numbers are found to be the same, and what their frames fill differs only so.
 use Rattle.std.specs.Prelude.{ℕ, zero, suc, ◌+◌, ◌*◌, ◌/◌, ◌<◌, ◌≡◌, ◌≢◌, ◌↔◌, refl, List, [], ◌∷◌, ◌++◌, Option, None, Some, IsSome, Result, Ok, Err, unwrap_or, get_or, length}
-use Rattle.std.proofs.Common.{sym, ap, ap₂, ◌∙◌, arith, length-append, append_assoc}
+use Rattle.std.proofs.Common.{sym, ap, ap₂, ◌∙◌, arith, length-append}
 use Rattle.std.proofs.Math.Nat.{mul-suc, mul-zero, mul-one}
 use Rattle.std.proofs.lemmas.List.{get_or_append_left, get_or-append-add}
 use Rattle.std.proofs.lemmas.List.Concat.{flat_map-cons}
-use Rattle.kinds.specs.declared.ConceptName.{ConceptName}
-use Rattle.kinds.specs.declared.RoleName.{RoleName}
-use Rattle.kinds.specs.declared.Individual.{Individual}
-use Rattle.kinds.specs.declared.DeedNumber.{DeedNumber}
 use Rattle.meaning.specs.Lent.{concept_fact_width, role_fact_width}
 use Rattle.meaning.specs.Deeds.{SameButLast, SameButDeeds}
 use Rattle.expression.specs.Listed.{Listed}
@@ -20,8 +16,8 @@ use Rattle.reading.specs.Tables.{Kind, concept_rules, concept_exclusions, role_r
 use Rattle.reading.specs.File.{IsQuestionOf, tables_of}
 use Rattle.reading.specs.Judged.{InPlace, CountsOk, HasRoom, NumbersOk, AskOk, IsShallow, IsExpressed, IsShaped, Judged}
 use Rattle.reading.specs.Reading.{Finds, unread, refused, taken, Verdict, faulty, sound, Reading, empty, whole, stopped, onward}
-use Rattle.reading.specs.Deeds.{SameButDeed, same, concept, role, SameLine, same-line, same-facts, InStep, ended, next, SameVerdict, both-faulty, both-sound}
-use Rattle.reading.proofs.TableLaws.{added, entries-more, entries-cons, plus, table-more, record-width}
+use Rattle.reading.specs.Deeds.{SameButDeed, same, concept, role, SameLine, same-line, same-facts, InStep, ended, next, SameVerdict, both-faulty, both-sound, ConceptFactsKept, RoleFactsKept}
+use Rattle.reading.proofs.TableLaws.{added, entries-append, entries-cons, table-append, record-width}
 use Rattle.reading.proofs.Judging.{first-same}
 
 abbrev pub Alike : List Frame → List Frame → Type 0
@@ -312,28 +308,30 @@ reading-same {after = after} (next {y = m} {ys = ms} a rest) s (onward before l 
 pub reads-without-deeds : (ls ms : List (List ℕ)) → InStep SameLine ls ms → (v : Verdict) → Reading [] ls v → (w : Verdict) × SameVerdict v w × Reading [] ms w
 reads-without-deeds ls ms s v h = reading-same s ended h
 
--- THEOREM: two facts that differ only so are both kept and counted
-two-more : (fs : List Frame) (f g : Frame) → fs ++ f ∷ g ∷ [] ≡ (fs ++ f ∷ []) ++ g ∷ []
-two-more fs f g = sym (append_assoc fs (f ∷ []) (g ∷ []))
+-- THEOREM: two facts that differ only so are both kept and counted, wherever they stand
+module _ (kind : Kind) (fs : List Frame) (f : Frame) (gs : List Frame) where
+  table-at : table kind (fs ++ f ∷ gs) ≡ table kind fs ++ (unwrap_or (record_in kind f) [] ++ table kind gs)
+  table-at = table-append kind fs (f ∷ gs) ∙ ap (λ t. table kind fs ++ t) (table-cons kind f gs)
 
-table-two : (kind : Kind) (fs : List Frame) (f g : Frame) → table kind (fs ++ f ∷ g ∷ []) ≡ plus (plus (table kind fs) (record_in kind f)) (record_in kind g)
-table-two kind fs f g = ap (table kind) (two-more fs f g) ∙ table-more kind (fs ++ f ∷ []) g ∙ ap (λ t. plus t (record_in kind g)) (table-more kind fs f)
+  entries-at : entries kind (fs ++ f ∷ gs) ≡ entries kind fs + (added kind f + entries kind gs)
+  entries-at = entries-append kind fs (f ∷ gs) ∙ ap (λ n. entries kind fs + n) (entries-cons kind f gs)
 
-entries-two : (kind : Kind) (fs : List Frame) (f g : Frame) → entries kind (fs ++ f ∷ g ∷ []) ≡ entries kind fs + added kind f + added kind g
-entries-two kind fs f g = ap (entries kind) (two-more fs f g) ∙ entries-more kind (fs ++ f ∷ []) g ∙ ap (λ n. n + added kind g) (entries-more kind fs f)
+module _ (kind : Kind) (fs : List Frame) (f : Frame) (gs : List Frame) (g : Frame) (hs : List Frame) where
+  table-two : table kind (fs ++ f ∷ (gs ++ g ∷ hs))
+      ≡ table kind fs ++ (unwrap_or (record_in kind f) [] ++ (table kind gs ++ (unwrap_or (record_in kind g) [] ++ table kind hs)))
+  table-two = table-at kind fs f (gs ++ g ∷ hs) ∙ ap (λ t. table kind fs ++ (unwrap_or (record_in kind f) [] ++ t)) (table-at kind gs g hs)
 
-pub concept-facts-kept : (fs : List Frame) (A : ConceptName) (a : Individual) (n m : DeedNumber)
-    → (table concept_facts (fs ++ ConceptFact A a n ∷ ConceptFact A a m ∷ []) ≡ table concept_facts fs ++ A.0 ∷ a.0 ∷ n.0 ∷ A.0 ∷ a.0 ∷ m.0 ∷ [])
-    × (entries concept_facts (fs ++ ConceptFact A a n ∷ ConceptFact A a m ∷ []) ≡ entries concept_facts fs + 2)
-concept-facts-kept fs A a n m = (
-  table-two concept_facts fs (ConceptFact A a n) (ConceptFact A a m) ∙ append_assoc (table concept_facts fs) (A.0 ∷ a.0 ∷ n.0 ∷ []) (A.0 ∷ a.0 ∷ m.0 ∷ []),
-  omega (arith, entries-two concept_facts fs (ConceptFact A a n) (ConceptFact A a m)),
+  entries-two : entries kind (fs ++ f ∷ (gs ++ g ∷ hs)) ≡ entries kind fs + added kind f + entries kind gs + added kind g + entries kind hs
+  entries-two = omega (arith, entries-at kind fs f (gs ++ g ∷ hs), entries-at kind gs g hs)
+
+pub concept-facts-kept : ConceptFactsKept
+concept-facts-kept fs gs hs A a n m = (
+  table-two concept_facts fs (ConceptFact A a n) gs (ConceptFact A a m) hs,
+  entries-two concept_facts fs (ConceptFact A a n) gs (ConceptFact A a m) hs,
 )
 
-pub role-facts-kept : (fs : List Frame) (r : RoleName) (a b : Individual) (n m : DeedNumber)
-    → (table role_facts (fs ++ RoleFact r a b n ∷ RoleFact r a b m ∷ []) ≡ table role_facts fs ++ r.0 ∷ a.0 ∷ b.0 ∷ n.0 ∷ r.0 ∷ a.0 ∷ b.0 ∷ m.0 ∷ [])
-    × (entries role_facts (fs ++ RoleFact r a b n ∷ RoleFact r a b m ∷ []) ≡ entries role_facts fs + 2)
-role-facts-kept fs r a b n m = (
-  table-two role_facts fs (RoleFact r a b n) (RoleFact r a b m) ∙ append_assoc (table role_facts fs) (r.0 ∷ a.0 ∷ b.0 ∷ n.0 ∷ []) (r.0 ∷ a.0 ∷ b.0 ∷ m.0 ∷ []),
-  omega (arith, entries-two role_facts fs (RoleFact r a b n) (RoleFact r a b m)),
+pub role-facts-kept : RoleFactsKept
+role-facts-kept fs gs hs r a b n m = (
+  table-two role_facts fs (RoleFact r a b n) gs (RoleFact r a b m) hs,
+  entries-two role_facts fs (RoleFact r a b n) gs (RoleFact r a b m) hs,
 )

@@ -1,16 +1,16 @@
 -- What a frame is judged by what is held is what it is judged after the frames.
-use Rattle.std.specs.Prelude.{IsSome, ◌<◌, ◌≡◌, ◌≢◌, ◌↔◌, List, [], ◌∷◌, Result, Err, length}
+use Rattle.std.specs.Prelude.{IsSome, ◌<◌, ◌≡◌, ◌≢◌, ◌↔◌, List, [], ◌∷◌, Result, Ok, Err, length}
 use Rattle.std.proofs.Common.{refl, arith}
-use Rattle.laws.specs.First.{First, fails, holds, first-onward}
+use Rattle.laws.specs.First as tests
+use Rattle.laws.specs.First.{fails, holds, first-onward, first-passed}
 use Rattle.frames.specs.declared.Frame.{Frame}
 use Rattle.frames.specs.declared.Frame.TheVariants.{Declared, ConceptRule, ConceptExclusion, RoleRule, RoleExclusion, ConceptFact, RoleFact, RoleStep, TestStep, Final, Ask, AskFrom, Allowance, Expression}
 use Rattle.reading.specs.declared.File.{File}
 use Rattle.reading.specs.declared.Refusal.{Refusal}
-use Rattle.reading.specs.declared.Refusal.TheVariants.{BadCount, BadTable, BadNumber, BadAsk, OutOfPlace}
 use Rattle.reading.specs.Tables.{Kind, concept_rules, concept_exclusions, role_rules, role_exclusions, concept_facts, role_facts, steps, finals, asks, record_in, most, entries, table}
 use Rattle.reading.specs.File.{file_of, IsInPlace, HasShelfRoom, RoomIn}
 use Rattle.reading.specs.Judged.{InPlace, CountsOk, HasRoom, NumbersOk, AskOk, Judged}
-use Rattle.reading.specs.Turns.{ExpressionJudged, JudgedBy}
+use Rattle.reading.specs.Turns.{FrameJudged, ExpressionJudged}
 use Rattle.reading.proofs.TableLaws.{table-length}
 
 begun : (fs : List Frame) → (0 < length fs) ↔ (fs ≢ [])
@@ -81,24 +81,40 @@ module _ (before : List Frame) where
   room f = (λ h kind. room-to kind f h, room-from f)
 
 -- a row of conditions of which one is put in other words
-pub first-same : {A : Type 0} {P Q : Type 0} {answer : A} {Rest Other : A → Type 0} {r : A} → P ↔ Q → (Rest r → Other r) → First P answer Rest r → First Q answer Other r
+pub first-same : {A : Type 0} {P Q : Type 0} {answer : A} {Rest Other : A → Type 0} {r : A} → P ↔ Q → (Rest r → Other r) → tests.First P answer Rest r → tests.First Q answer Other r
 first-same w go (fails n) = fails (λ q. n (w.1 q))
 first-same w go (holds p h) = holds (w.0 p) (go h)
 
 module _ (file : File) (f : Frame) where
-  -- the tests by what is held
-  abbrev pub Tests : Result (Unit {0}) Refusal → Type 0
-  Tests =
-      First (IsInPlace file f) (Err OutOfPlace)
-      (First (CountsOk f) (Err BadCount)
-      (First (HasShelfRoom file f) (Err BadTable)
-      (First (NumbersOk file.counts f) (Err BadNumber)
-      (First (AskOk file.counts f) (Err BadAsk)
-      (ExpressionJudged file.counts f)))))
+  -- a frame that a first test refuses
+  pub judged_refused : {q : Refusal} → FrameJudged file f (Err q) → (before : List Frame) → file ≡ file_of before → Judged before f (Err q)
+  judged_refused {q} h before e =
+      let t : FrameJudged (file_of before) f (Err q) = rw e at h in
+      first-same (in_place before f)
+      (first-onward (λ c. first-same (room before f)
+      (first-onward (λ n. first-onward (λ a e. absurd cc))))) t
 
-tests-judged : (before : List Frame) (f : Frame) (r : Result (Unit {0}) Refusal) → Tests (file_of before) f r → Judged before f r
-tests-judged before f r h =
-    first-same (in_place before f) (first-onward (λ c. first-same (room before f) (λ t. t))) h
+  -- what a frame that has passed the first tests has passed
+  pub record First : Type 0 where
+    pub in_place : IsInPlace file f
+    pub counts : CountsOk f
+    pub room : HasShelfRoom file f
+    pub numbers : NumbersOk file.counts f
+    pub ask : AskOk file.counts f
 
-pub judged_by : {file : File} {f : Frame} {r : Result (Unit {0}) Refusal} → Tests file f r → JudgedBy file f r
-judged_by {file} {f} {r} h = record { by = λ before e. tests-judged before f r (rw e at h) }
+  pub first : FrameJudged file f (Ok tt) → First
+  first h =
+      let a = first-passed h (λ e. cc) in
+      let b = first-passed a.1 (λ e. cc) in
+      let c = first-passed b.1 (λ e. cc) in
+      let d = first-passed c.1 (λ e. cc) in
+      let g = first-passed d.1 (λ e. cc) in
+      record { in_place = a.0; counts = b.0; room = c.0; numbers = d.0; ask = g.0 }
+
+  -- and one that has passed them, by its last
+  pub judged_last : {q : Result (Unit {0}) Refusal} → FrameJudged file f (Ok tt) → ExpressionJudged file.counts f q → (before : List Frame) → file ≡ file_of before → Judged before f q
+  judged_last h x before e =
+      let p = first h in
+      holds ((in_place before f).0 (rw e at p.in_place))
+      (holds p.counts (holds ((room before f).0 (rw e at p.room))
+      (holds (rw e at p.numbers) (holds (rw e at p.ask) (rw e at x)))))

@@ -1,29 +1,26 @@
--- The question of frames that are taken: the marks of its expression are declared and its automaton has the declared states, so that it has one.
-use Rattle.std.specs.Prelude.{ℕ, ◌≡◌, ◌≢◌, ◌↔◌, ◌⊎◌, List, [], ◌∷◌, ◌++◌, Option, None, Some, IfSome, All, Result, Ok, Err, IsOk, IfOk}
-use Rattle.std.specs.Result.{result_ok}
-use Rattle.std.proofs.Common.{refl, sym, ap, ◌∙◌, inl, inr, arith}
+-- The question of frames that are taken: the marks of its expression are declared, and its automaton has the declared states.
+use Rattle.std.specs.Prelude.{ℕ, ◌≡◌, ◌≢◌, ◌↔◌, ◌⊎◌, List, [], ◌∷◌, ◌++◌, Option, None, Some, IfSome, All}
+use Rattle.std.proofs.Common.{refl, sym, ap, ◌∙◌, inl, inr}
 use Rattle.std.proofs.lemmas.List.Elements.{All-nil, All-cons, All-head, All-tail}
 use mathlib.Core.List.Memᴰ
 use Rattle.laws.specs.Member.{◌∈◌}
 use Rattle.kinds.specs.declared.Counts.{Counts}
-use Rattle.kinds.specs.Kinds.{CountsFit}
+use Rattle.meaning.specs.Lent.{Tables}
 use Rattle.expression.specs.Fits.{MarksDeclared}
 use Rattle.expression.specs.Listed.{Listed}
-use Rattle.expression.specs.Answer.{HasAutomaton, IsAutomatonOf}
+use Rattle.expression.specs.Answer.{IsAutomatonOf}
 use Rattle.expression.proofs.Clauses.{automaton-once}
 use Rattle.frames.specs.declared.Frame.{Frame}
 use Rattle.frames.specs.declared.Frame.TheVariants.{Declared, ConceptRule, ConceptExclusion, RoleRule, RoleExclusion, ConceptFact, RoleFact, RoleStep, TestStep, Final, Ask, AskFrom, Allowance, Expression}
 use Rattle.reading.specs.declared.File.{File}
 use Rattle.reading.specs.Tables.{declared_by, expression_given}
-use Rattle.reading.specs.File.{question_by, IsQuestion}
+use Rattle.reading.specs.File.{typed_question, IsQuestion, lent_tables, LendsTables}
 use Rattle.reading.specs.Judged.{IsShaped}
 use Rattle.reading.specs.Reading.{Taken}
-use Rattle.reading.specs.Reads.{IsRead}
 use Rattle.reading.specs.Turns.{MarkOk}
 use Rattle.reading.proofs.Passed.{Passed, taken-keeps}
 use Rattle.reading.proofs.Bounds.{or_else, expression-more}
 use Rattle.reading.proofs.Kept.{declared-later, same-expression}
-use Rattle.reading.proofs.Turns.{fitting}
 
 -- each mark of a row, one by one or by where it stands
 module _ (c : Counts) where
@@ -76,37 +73,18 @@ expressing-more before (AskFrom a) t p h = expressing-later before (AskFrom a) p
 expressing : (fs : List Frame) → Taken fs → Expressing fs
 expressing = taken-keeps Expressing tt expressing-more
 
--- the row of an expression that is taken has an automaton
+-- the row of an expression that is taken
 module _ (fs : List Frame) (t : Taken fs) (row : List ℕ) (e : expression_given fs ≡ Some row) where
   pub row-taken : RowTaken (declared_by fs) row
   row-taken = rw e at (expressing fs t)
 
-  some-begun : (fs : List Frame) → expression_given fs ≡ Some row → fs ≢ []
-  some-begun [] x n = absurd cc
-  some-begun (f ∷ fs) x n = cc
+-- THEOREM: what is held asks the question of its expression's automaton, or the typed one
+module _ (file : File) where
+  pub expressed-asks : (row : List ℕ) → file.expression ≡ Some row → (q : Listed) → IsAutomatonOf row q → IsQuestion file q
+  expressed-asks row given q x = record { typed = λ n. absurd (let e = sym given ∙ n in cc); expressed = rw given x }
 
-  counts-fit : CountsFit (declared_by fs)
-  counts-fit = fitting fs t (some-begun fs e)
-
-  has-automaton : HasAutomaton row
-  has-automaton =
-      let s = row-taken.shaped in
-      record { count = s.0; marks = s.1; few = omega (arith, s.2, counts-fit.states) }
-
--- THEOREM: what was read asks the question that the automaton of its expression makes
-module _ (file : File) (row : List ℕ) (given : file.expression ≡ Some row) where
-  expressed-by : (q : Listed) → IsAutomatonOf row q → IsQuestion file q
-  expressed-by q x = record { typed = λ n. absurd (let e = sym given ∙ n in cc); expressed = rw given x }
-
-  made-by : {E : Type 0} (r : Result Listed E) → IsOk r → IfOk r (IsAutomatonOf row) → IsQuestion file (question_by file (result_ok r))
-  made-by (Ok q) o x = expressed-by q (search (x))
-  made-by (Err e) o x = absurd cc
-
-  pub automaton-asks : {E : Type 0} (r : Result Listed E) (o : Option Listed) → o ≡ result_ok r → IsOk r ↔ HasAutomaton row → IfOk r (IsAutomatonOf row)
-      → IsRead file → IsQuestion file (question_by file o)
-  automaton-asks r o d ok x read =
-      let e = sym (ap (λ (f : File). f.expression) read.kept) ∙ given in
-      rw d (made-by r (ok.1 (has-automaton read.frames read.taken row e)) x)
+  pub typed-asks : file.expression ≡ None → IsQuestion file (typed_question file)
+  typed-asks given = record { typed = λ n. refl; expressed = rw given tt }
 
 -- THEOREM: what is held asks at most one question
 pub question-once : (file : File) (q r : Listed) → IsQuestion file q → IsQuestion file r → q ≡ r
@@ -115,3 +93,7 @@ question-once file q r a b = by file.expression refl
     by : (o : Option (List ℕ)) → file.expression ≡ o → q ≡ r
     by None e = a.typed e ∙ sym (b.typed e)
     by (Some row) e = automaton-once q r (rw e at a.expressed) (rw e at b.expressed)
+
+-- THEOREM: and lends one row of tables
+pub lent-once : (file : File) (t u : Tables) → LendsTables file t → LendsTables file u → t ≡ u
+lent-once file t u a b = a.are ∙ ap (lent_tables file) (question-once file a.question b.question a.is b.is) ∙ sym b.are

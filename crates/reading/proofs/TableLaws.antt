@@ -1,7 +1,7 @@
 -- Laws of a file's tables: one frame more, and whole records.
 use Rattle.std.specs.Prelude.{ℕ, ◌+◌, ◌*◌, ◌≡◌, List, [], ◌∷◌, ◌++◌, Option, None, Some, cond, is_some, unwrap_or, length}
 use Rattle.std.proofs.Common.{refl, sym, ap, ap₂, ◌∙◌, append-nil, length-append, mul-zero, mul-add}
-use Rattle.std.proofs.lemmas.List.Sums.{sum_by-cons, sum_by_push}
+use Rattle.std.proofs.lemmas.List.Sums.{sum_by-append, sum_by-cons, sum_by_push}
 use Rattle.std.proofs.lemmas.Grind.{flat_map-append}
 use Rattle.frames.specs.declared.Frame.{Frame}
 use Rattle.frames.specs.declared.Frame.TheVariants.{ConceptRule, ConceptExclusion, RoleRule, RoleExclusion, ConceptFact, RoleFact, RoleStep, TestStep, Final, Ask, AskFrom}
@@ -18,6 +18,15 @@ entries-more kind fs f = sum_by_push (added kind) fs f
 pub entries-cons : (kind : Kind) (f : Frame) (fs : List Frame) → entries kind (f ∷ fs) ≡ added kind f + entries kind fs
 unfolding entries
 entries-cons kind f fs = sum_by-cons (added kind) f fs
+
+-- the records of some frames and of those after them
+pub entries-append : (kind : Kind) (fs gs : List Frame) → entries kind (fs ++ gs) ≡ entries kind fs + entries kind gs
+unfolding entries
+entries-append kind fs gs = sum_by-append (added kind) fs gs
+
+pub table-append : (kind : Kind) (fs gs : List Frame) → table kind (fs ++ gs) ≡ table kind fs ++ table kind gs
+unfolding table
+table-append kind fs gs = flat_map-append (λ g. unwrap_or (record_in kind g) []) fs gs
 
 -- a table and the record after it, if there is one
 abbrev pub plus : List ℕ → Option (List ℕ) → List ℕ

@@ -44,17 +44,21 @@ abbrev pub ReadsWithoutDeeds : Type 0
 ReadsWithoutDeeds = (ls ms : List (List ℕ)) → InStep SameLine ls ms
     → (v : Verdict) → Reading [] ls v → (w : Verdict) × SameVerdict v w × Reading [] ms w
 
--- two facts that differ only so are both kept, one after the other, and both count
+-- two facts that differ only so are both kept, wherever they stand, and both count
 abbrev pub ConceptFactsKept : Type 0
-ConceptFactsKept = (fs : List Frame) (A : ConceptName) (a : Individual) (n m : DeedNumber)
-    → let both = fs ++ ConceptFact A a n ∷ ConceptFact A a m ∷ [] in
-    (table concept_facts both
-    ≡ table concept_facts fs ++ A.0 ∷ a.0 ∷ n.0 ∷ A.0 ∷ a.0 ∷ m.0 ∷ [])
-    × (entries concept_facts both ≡ entries concept_facts fs + 2)
+ConceptFactsKept = (fs gs hs : List Frame) (A : ConceptName) (a : Individual) (n m : DeedNumber)
+    → let both = fs ++ ConceptFact A a n ∷ (gs ++ ConceptFact A a m ∷ hs) in
+    let facts = table concept_facts in
+    (facts both
+    ≡ facts fs ++ A.0 ∷ a.0 ∷ n.0 ∷ (facts gs ++ A.0 ∷ a.0 ∷ m.0 ∷ facts hs))
+    × (entries concept_facts both
+    ≡ entries concept_facts fs + 1 + entries concept_facts gs + 1 + entries concept_facts hs)
 
 abbrev pub RoleFactsKept : Type 0
-RoleFactsKept = (fs : List Frame) (r : RoleName) (a b : Individual) (n m : DeedNumber)
-    → let both = fs ++ RoleFact r a b n ∷ RoleFact r a b m ∷ [] in
-    (table role_facts both
-    ≡ table role_facts fs ++ r.0 ∷ a.0 ∷ b.0 ∷ n.0 ∷ r.0 ∷ a.0 ∷ b.0 ∷ m.0 ∷ [])
-    × (entries role_facts both ≡ entries role_facts fs + 2)
+RoleFactsKept = (fs gs hs : List Frame) (r : RoleName) (a b : Individual) (n m : DeedNumber)
+    → let both = fs ++ RoleFact r a b n ∷ (gs ++ RoleFact r a b m ∷ hs) in
+    let facts = table role_facts in
+    (facts both
+    ≡ facts fs ++ r.0 ∷ a.0 ∷ b.0 ∷ n.0 ∷ (facts gs ++ r.0 ∷ a.0 ∷ b.0 ∷ m.0 ∷ facts hs))
+    × (entries role_facts both
+    ≡ entries role_facts fs + 1 + entries role_facts gs + 1 + entries role_facts hs)

@@ -92,6 +92,19 @@ lent_tables file q = record {
   finals = q.finals;
 }
 
+-- steps and final states are those of the question of what is held
+pub record Asks (file : File) (its_steps its_finals : List ℕ) : Type 0 where
+  pub question : Listed
+  pub is : IsQuestion file question
+  pub steps_are : its_steps ≡ question.steps
+  pub finals_are : its_finals ≡ question.finals
+
+-- tables are those that are held, with the question of what is held
+pub record LendsTables (file : File) (tables : Tables) : Type 0 where
+  pub question : Listed
+  pub is : IsQuestion file question
+  pub are : tables ≡ lent_tables file question
+
 -- the allowance, and where none is given as many rounds as always suffice
 abbrev pub allowance_in : File → ℕ
 allowance_in file = unwrap_or file.allowance (most_rounds file.counts)
@@ -109,11 +122,6 @@ held_call file q k = record {
   area = zeros;
   spare = zeros;
 }
-
--- the question, from the automaton of the expression where there is one
-abbrev pub question_by : File → Option Listed → Listed
-question_by file None = typed_question file
-question_by file (Some q) = q
 
 -- a frame is in its place, by what is held
 abbrev pub IsInPlace : File → Frame → Type 0

@@ -1,9 +1,9 @@
 -- The number that refuses a frame, or none (docs/RULES.md, section 8): of its tests, in their
 -- order, the first that fails.
-use Rattle.std.specs.Prelude.{ℕ, ◌+◌, ◌<◌, ◌≡◌, ◌≢◌, List, [], Result, Ok, Err, None, IsSome, ⊤}
+use Rattle.std.specs.Prelude.{ℕ, ◌+◌, ◌<◌, ◌≡◌, ◌≢◌, List, [], Result, Ok, Err, None, IsSome, ⊤, ◌∷◌}
 use Rattle.kinds.specs.declared.Counts.{Counts}
 use Rattle.kinds.specs.Kinds.{state, CountsFit, StateDeclared, IndividualDeclared}
-use Rattle.laws.specs.First.{First}
+use Rattle.laws.specs.First.{FirstOf, ◌else◌}
 use Rattle.meaning.specs.Collection.{role, test, step, ConceptsDeclared, RolesDeclared, ConceptFactDeclared, RoleFactDeclared, StepDeclared}
 use Rattle.expression.specs.Depth.{TooDeep}
 use Rattle.expression.specs.Fits.{MarksDeclared}
@@ -83,12 +83,12 @@ module _ (counts : Counts) where
 module _ (before : List Frame) (f : Frame) where
   abbrev pub Judged : Result (Unit {0}) Refusal → Type 0
   Judged =
-      First (InPlace before f) (Err OutOfPlace)
-      (First (CountsOk f) (Err BadCount)
-      (First (HasRoom before f) (Err BadTable)
-      (First (NumbersOk (declared_by before) f) (Err BadNumber)
-      (First (AskOk (declared_by before) f) (Err BadAsk)
-      (First (IsShallow f) (Err refusal.TooDeep)
-      (First (IsExpressed f) (Err NoExpression)
-      (First (IsShaped (declared_by before) f) (Err AnotherShape)
-      (λ r. r ≡ Ok tt))))))))
+      FirstOf (InPlace before f else Err OutOfPlace
+      ∷ CountsOk f else Err BadCount
+      ∷ HasRoom before f else Err BadTable
+      ∷ NumbersOk (declared_by before) f else Err BadNumber
+      ∷ AskOk (declared_by before) f else Err BadAsk
+      ∷ IsShallow f else Err refusal.TooDeep
+      ∷ IsExpressed f else Err NoExpression
+      ∷ IsShaped (declared_by before) f else Err AnotherShape ∷ [])
+      (λ r. r ≡ Ok tt)

@@ -1,6 +1,6 @@
 -- Laws of reading a file (docs/RULES.md, sections 7 and 8).
-use Rattle.std.specs.Prelude.{ℕ, suc, ◌*◌, ◌<◌, ◌≤◌, ◌≡◌, ◌≢◌, ◌↔◌, List, [], ◌∷◌, Result, length, take}
-use Rattle.meaning.specs.Lent.{Sound}
+use Rattle.std.specs.Prelude.{ℕ, suc, ◌+◌, ◌*◌, ◌<◌, ◌≤◌, ◌≡◌, ◌≢◌, ◌↔◌, List, [], ◌∷◌, Result, length, take, count_by}
+use Rattle.meaning.specs.Lent.{Tables, Sound}
 use Rattle.streams.specs.Lines.{lines}
 use Rattle.expression.specs.Listed.{Listed}
 use Rattle.frames.specs.Digits.{line_length}
@@ -9,8 +9,8 @@ use Rattle.reading.specs.declared.Fault.{Fault}
 use Rattle.reading.specs.declared.File.{File}
 use Rattle.reading.specs.declared.Refusal.{Refusal}
 use Rattle.reading.specs.Refusal.{refusal_number}
-use Rattle.reading.specs.Tables.{asks, entries}
-use Rattle.reading.specs.File.{IsQuestionOf, asked}
+use Rattle.reading.specs.Tables.{Kind, steps, asks, most, entries, is_declared, is_allowance, is_expression}
+use Rattle.reading.specs.File.{IsQuestionOf, asked, LendsTables}
 use Rattle.reading.specs.Judged.{Judged}
 use Rattle.reading.specs.Reading.{Finds, Verdict, sound, frames_of, Reading, Taken}
 use Rattle.reading.specs.Reads.{ReadsFile}
@@ -62,9 +62,26 @@ WholeAccepted = (input : List ℕ) (fs : List Frame) → Reading [] (lines input
 abbrev pub QuestionOnce : Type 0
 QuestionOnce = (fs : List Frame) (q r : Listed) → IsQuestionOf fs q → IsQuestionOf fs r → q ≡ r
 
--- at most 7,186 frames are taken: line 1, the allowance, and as many as the tables have records
+-- what is held lends one row of tables
+abbrev pub LentOnce : Type 0
+LentOnce = (file : File) (t u : Tables) → LendsTables file t → LendsTables file u → t ≡ u
+
+-- no table holds more than its most; at most one frame declares, one gives an allowance, and one an
+-- expression, which takes the place of a step
+pub record Within (fs : List Frame) : Type 0 where
+  pub few : (kind : Kind) → entries kind fs ≤ most kind
+  pub declared : count_by is_declared fs ≤ 1
+  pub allowances : count_by is_allowance fs ≤ 1
+  pub expressions : count_by is_expression fs + entries steps fs ≤ most steps
+
+-- frames that are taken stay within that
+abbrev pub TakenWithin : Type 0
+TakenWithin = (fs : List Frame) → Taken fs → Within fs
+
+-- and any frames that do, taken or not, are at most 7,186: line 1, the allowance, and as many as
+-- the tables have records
 abbrev pub LinesBounded : Type 0
-LinesBounded = (fs : List Frame) → Taken fs → length fs ≤ 7186
+LinesBounded = (fs : List Frame) → Within fs → length fs ≤ 7186
 
 -- two rows of lines that read alike for n lines: the same, up to one that is too long in both
 pub data Alike : ℕ → List (List ℕ) → List (List ℕ) → Type 0 where

@@ -1,8 +1,10 @@
--- The number of each refusal (docs/RULES.md, section 7), and why a line that is no frame is
--- refused.
+-- The number of each refusal (docs/RULES.md, section 7), and why a line that is no frame, or whose
+-- marks have no automaton, is refused.
 use Rattle.std.specs.Prelude.{ℕ}
 use Rattle.frames.specs.declared.Misread.{Misread}
 use Rattle.frames.specs.declared.Misread.TheVariants as unread
+use Rattle.expression.specs.declared.listed.Refusal as expression
+use Rattle.expression.specs.declared.listed.Refusal.TheVariants as row
 use Rattle.reading.specs.declared.Refusal.{Refusal}
 use Rattle.reading.specs.declared.Refusal.TheVariants.{BadCount, BadTable, BadNumber, BadAsk, BadLine, BadFrame, OutOfPlace, NoExpression, TooDeep, AnotherShape}
 
@@ -23,3 +25,10 @@ refusal_number AnotherShape = 14
 abbrev pub refusal_of : Misread → Refusal
 refusal_of unread.BadLine = BadLine
 refusal_of unread.BadFrame = BadFrame
+
+-- and of a row of marks that has no automaton: one of more marks than states can be declared for is
+-- of another shape
+abbrev pub refusal_of_row : expression.Refusal → Refusal
+refusal_of_row row.TooDeep = TooDeep
+refusal_of_row row.NoExpression = NoExpression
+refusal_of_row (row.TooManyMarks n) = AnotherShape

@@ -1,6 +1,6 @@
 -- What a list of frames says (docs/RULES.md, sections 3 and 8): what line 1 declares, the
 -- allowance, and the tables, each with the records of its kind.
-use Rattle.std.specs.Prelude.{ℕ, List, [], ◌∷◌, Option, None, Some, unwrap_or, is_some, count_by}
+use Rattle.std.specs.Prelude.{ℕ, Bool, true, false, List, [], ◌∷◌, Option, None, Some, unwrap_or, is_some, count_by}
 use Rattle.std.specs.List.{flat_map}
 use Rattle.kinds.specs.declared.Counts.{Counts}
 use Rattle.kinds.specs.Kinds.{state, number_of}
@@ -84,6 +84,19 @@ abbrev pub expression_given : List Frame → Option (List ℕ)
 expression_given [] = None
 expression_given (Expression row ∷ fs) = Some row
 expression_given (f ∷ fs) = expression_given fs
+
+-- the frames that add no record
+abbrev pub is_declared : Frame → Bool
+is_declared (Declared c) = true
+is_declared f = false
+
+abbrev pub is_allowance : Frame → Bool
+is_allowance (Allowance n) = true
+is_allowance f = false
+
+abbrev pub is_expression : Frame → Bool
+is_expression (Expression row) = true
+is_expression f = false
 
 -- the rounds that a file allows: where it does not say, as many as always suffice
 abbrev pub rounds_allowed : List Frame → ℕ

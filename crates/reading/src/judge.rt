@@ -1,12 +1,12 @@
-// A frame judged: of its tests, in the order of their numbers, the first that fails refuses it.
-ghost use Rattle.std.specs.Prelude.{◌↔◌, ◌≡◌, ◌+◌, All, IsTrue};
-ghost use Rattle.kinds.specs.Kinds.{state};
+// A frame judged: of its tests, in their order, the first that fails refuses it. Those of an expression alone come last,
+// where it is read.
+ghost use Rattle.std.specs.Prelude.{◌↔◌, All, IsTrue};
 ghost use Rattle.reading.specs.Judged.{CountsOk, NumbersOk, AskOk};
 ghost use Rattle.reading.specs.File.{IsInPlace, HasShelfRoom};
-ghost use Rattle.reading.specs.Turns.{HasNoQuestion, MarkOk, MarksRead, RowJudged, ExpressionJudged, JudgedBy};
+ghost use Rattle.reading.specs.Turns.{HasNoQuestion, MarkOk, FrameJudged};
 
 use crate::{File, Refusal};
-use expression::{Refusal as Unread, automaton_of, letter};
+use expression::letter;
 use frames::Frame;
 use kinds::Counts;
 
@@ -76,45 +76,6 @@ fn ask_ok(frame: &Frame, counts: Counts) -> bool
     }
 }
 
-// The role and test marks of a row; or 13, brackets too deep, or 12, no expression.
-fn marks_read(row: &[u8]) -> Result<usize, Refusal>
-    ensures { MarksRead row.now result }
-{
-    match automaton_of(row) {
-        Ok(automaton) => Ok(automaton.states() - 1),
-        Err(Unread::TooDeep) => Err(Refusal::TooDeep),
-        Err(Unread::NoExpression) => Err(Refusal::NoExpression),
-        Err(Unread::TooManyMarks(marks)) => Ok(marks),
-    }
-}
-
-// 14: a state for each mark and one more are declared, and the start is 0.
-fn shape_ok(marks: usize, counts: Counts) -> bool
-    ensures { IsTrue result ↔ (counts.states ≡ marks + 1) × (counts.start ≡ state 0) }
-{
-    0 < counts.states && counts.states as usize - 1 == marks && counts.start.0 == 0
-}
-
-fn row_ok(row: &[u8], counts: Counts) -> Result<(), Refusal>
-    ensures { RowJudged counts row.now result }
-{
-    let marks = marks_read(row)?;
-    if !shape_ok(marks, counts) {
-        return Err(Refusal::AnotherShape);
-    }
-    Ok(())
-}
-
-// 13, 12 and 14, of an expression.
-fn expression_ok(frame: &Frame, counts: Counts) -> Result<(), Refusal>
-    ensures { ExpressionJudged counts frame.now result }
-{
-    match frame {
-        Frame::Expression(marks) => row_ok(marks.as_slice(), counts),
-        _ => Ok(()),
-    }
-}
-
 impl File {
     // Neither an expression nor a step or a final state is given.
     fn has_no_question(&self) -> bool
@@ -157,8 +118,9 @@ impl File {
         }
     }
 
+    // The tests that a frame of any kind may fail: 11, 4, 5, 6 and 8.
     pub(crate) fn judge(&self, frame: &Frame) -> Result<(), Refusal>
-        ensures { JudgedBy self.now frame.now result }
+        ensures { FrameJudged self.now frame.now result }
     {
         if !self.is_in_place(frame) {
             return Err(Refusal::OutOfPlace);
@@ -175,6 +137,6 @@ impl File {
         if !ask_ok(frame, self.counts) {
             return Err(Refusal::BadAsk);
         }
-        expression_ok(frame, self.counts)
+        Ok(())
     }
 }

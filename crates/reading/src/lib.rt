@@ -1,18 +1,18 @@
 // A file read line by line: each line's frame is refused with its number, or its record is kept in the table of its kind.
 #![tactic(auto)]
 
-ghost use Rattle.std.specs.Prelude.{◌≡◌, ◌+◌, ◌-◌, ◌^◌, ◌<◌, [], Err, IfOk, IfErr, IfSome, OnErr, min};
-ghost use Rattle.kinds.specs.Kinds.{number_of};
+ghost use Rattle.std.specs.Prelude.{◌≡◌, ◌+◌, ◌-◌, ◌^◌, ◌<◌, ◌≤◌, [], Ok, Err, Some, IfOk, IfErr, IfSome, OnOk, OnErr, min};
+ghost use Rattle.kinds.specs.Kinds.{number_of, most_states};
 ghost use Rattle.meaning.specs.Demands.{most_rounds};
 ghost use Rattle.tables.specs.Lists.{lists};
 ghost use Rattle.streams.specs.Lines.{lines};
 ghost use Rattle.reading.specs.Refusal.{refusal_number, refusal_of};
 ghost use Rattle.reading.specs.Laws.{IsListed};
-ghost use Rattle.reading.specs.File.{file_of, file_with, allowance_in, question_by, lent_tables, IsQuestion, HasShelfRoom, IsSmall};
+ghost use Rattle.reading.specs.File.{file_of, file_with, allowance_in, Asks, LendsTables, HasShelfRoom, IsSmall};
 ghost use Rattle.reading.specs.Reads.{IsRead, ReadsFile, told_at_end};
-ghost use Rattle.reading.specs.Turns.{TakesLine};
+ghost use Rattle.reading.specs.Turns.{ExpressionJudged, RowJudged, TakesLine};
 
-use expression::{Automaton, automaton_of};
+use expressed::Expression;
 use frames::marks::Marks;
 use frames::{Frame, Misread};
 use kinds::{Ask, Concept, Counts, Rounds, State};
@@ -22,6 +22,7 @@ use streams::Source;
 use streams::lines::{Lines, Next};
 use tables::{Collection, ConceptFact, ConceptPair, RoleFact, RolePair, Step, Table};
 
+pub mod expressed;
 mod judge;
 pub mod shelf;
 mod sizes;
@@ -61,6 +62,13 @@ pub struct Fault {
     pub refusal: Refusal,
 }
 
+// The steps and the final states of a question.
+#[derive(Drop)]
+struct Question<'a> {
+    steps: Table<'a, Step>,
+    finals: Table<'a, State>,
+}
+
 // What is read of a file: what line 1 declares, the allowance and the expression where they are given, the tables, and how
 // many lines were read.
 #[derive(Drop)]
@@ -75,7 +83,7 @@ pub struct File {
     pub role_facts: Shelf<RoleFact, { sizes::ROLE_FACTS }>,
     pub steps: Shelf<Step, { sizes::STEPS }>,
     pub finals: Shelf<State, { sizes::FINALS }>,
-    pub expression: Option<Marks>,
+    pub expression: Option<Expression>,
     pub asks: Shelf<Ask, { sizes::ASKS }>,
     pub lines: usize,
 }
@@ -153,23 +161,10 @@ impl File {
         }
     }
 
-    #[tactic(auto, unfolding(crate::specs::Tables::table))]
     fn clear(&mut self)
         ensures { self.new ≡ file_of [] }
     {
-        self.counts = NOTHING;
-        self.allowance = None;
-        self.concept_rules.clear();
-        self.concept_exclusions.clear();
-        self.role_rules.clear();
-        self.role_exclusions.clear();
-        self.concept_facts.clear();
-        self.role_facts.clear();
-        self.steps.clear();
-        self.finals.clear();
-        self.expression = None;
-        self.asks.clear();
-        self.lines = 0;
+        *self = File::new();
     }
 
     // The allowance of rounds; where none is given, as many as always suffice.
@@ -183,42 +178,31 @@ impl File {
         }
     }
 
-    // The automaton of the expression, where one is given: by it what was read asks its question.
-    pub fn automaton(&self) -> Option<Automaton>
-        ensures { IsRead self.now → IsQuestion self.now (question_by self.now result) }
+    // The question: that of the expression, where one is given, or as it was typed.
+    fn question(&self) -> Question<'_>
+        ensures { Asks self.now result.steps.numbers.now result.finals.numbers.now }
     {
         match &self.expression {
-            Some(marks) => automaton_of(marks.as_slice()).ok(),
-            None => None,
+            Some(expression) => {
+                let automaton = expression.automaton();
+                Question {
+                    steps: automaton.steps(),
+                    finals: automaton.finals(),
+                }
+            }
+            None => Question {
+                steps: self.steps.table(),
+                finals: self.finals.table(),
+            },
         }
     }
 
-    // The steps of the question, by that automaton or as they were typed.
-    fn steps<'a>(&'a self, automaton: &'a Option<Automaton>) -> Table<'a, Step>
-        ensures { result.numbers.now ≡ (question_by self.now automaton.now).steps }
-    {
-        match automaton {
-            Some(automaton) => automaton.steps(),
-            None => self.steps.table(),
-        }
-    }
-
-    // And its final states.
-    fn finals<'a>(&'a self, automaton: &'a Option<Automaton>) -> Table<'a, State>
-        ensures { result.numbers.now ≡ (question_by self.now automaton.now).finals }
-    {
-        match automaton {
-            Some(automaton) => automaton.finals(),
-            None => self.finals.table(),
-        }
-    }
-
-    // What a call of the library is lent, with the file's own automaton.
-    pub fn collection<'a>(&'a self, automaton: &'a Option<Automaton>) -> Collection<'a>
+    // What a call of the library is lent.
+    pub fn collection(&self) -> Collection<'_>
         ensures counts { result.counts ≡ self.now.counts }
-        ensures tables { lists result
-            ≡ lent_tables self.now (question_by self.now automaton.now) }
+        ensures tables { LendsTables self.now (lists result) }
     {
+        let Question { steps, finals } = self.question();
         Collection {
             counts: self.counts,
             concept_rules: self.concept_rules.table(),
@@ -227,8 +211,8 @@ impl File {
             role_exclusions: self.role_exclusions.table(),
             concept_facts: self.concept_facts.table(),
             role_facts: self.role_facts.table(),
-            steps: self.steps(automaton),
-            finals: self.finals(automaton),
+            steps,
+            finals,
         }
     }
 
@@ -239,12 +223,29 @@ impl File {
         self.asks.table()
     }
 
-    // A frame kept: its record goes to the end of its table.
-    fn keep(&mut self, frame: Frame)
+    // An expression kept with its automaton, or refused. It is a call of its own, never put into `keep`, which would else
+    // make room for an automaton at each line.
+    #[inline(never)]
+    fn express(&mut self, marks: Marks) -> Result<(), Refusal>
+        requires { self.old.counts.states ≤ most_states }
+        ensures taken { OnOk result (RowJudged self.old.counts marks (Ok tt)) }
+        ensures refused { IfErr result (λ refusal. RowJudged self.old.counts marks (Err refusal)) }
+        ensures ok { OnOk result (self.new ≡ record self.old { expression = Some marks }) }
+        ensures err { OnErr result (self.new ≡ self.old) }
+    {
+        self.expression = Some(Expression::read(marks, self.counts)?);
+        Ok(())
+    }
+
+    // A frame kept: its record goes to the end of its table, and an expression is kept with its automaton, or refused.
+    fn keep(&mut self, frame: Frame) -> Result<(), Refusal>
         requires room { HasShelfRoom self.old frame }
         requires small { IsSmall frame }
         requires few { self.old.lines < 2 ^ 16 }
-        ensures { self.new ≡ file_with frame self.old }
+        requires states { self.old.counts.states ≤ most_states }
+        ensures judged { ExpressionJudged self.old.counts frame result }
+        ensures ok { OnOk result (self.new ≡ file_with frame self.old) }
+        ensures err { OnErr result (self.new ≡ self.old) }
     {
         match frame {
             Frame::Declared(counts) => self.counts = counts,
@@ -260,9 +261,10 @@ impl File {
             Frame::Ask(i, j) => self.asks.push(&[0, i.0, j.0]),
             Frame::AskFrom(i) => self.asks.push(&[1, i.0, 0]),
             Frame::Allowance(rounds) => self.allowance = Some(rounds),
-            Frame::Expression(marks) => self.expression = Some(marks),
+            Frame::Expression(marks) => self.express(marks)?,
         }
         self.lines += 1;
+        Ok(())
     }
 
     // A line read: its frame is kept, or the line is refused and nothing changes.
@@ -272,8 +274,7 @@ impl File {
     {
         let frame = frames::read(line)?;
         self.judge(&frame)?;
-        self.keep(frame);
-        Ok(())
+        self.keep(frame)
     }
 
     // The line after those that are read, refused.

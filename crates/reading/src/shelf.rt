@@ -33,12 +33,6 @@ impl<R: Record, const N: usize> Shelf<R, N> {
         }
     }
 
-    pub(crate) fn clear(&mut self)
-        ensures { self.new ≡ [] }
-    {
-        self.used = 0;
-    }
-
     pub(crate) fn is_empty(&self) -> bool
         ensures { IsTrue result ↔ (self.now ≡ []) }
     {

@@ -1,8 +1,8 @@
 // Laws of reading a file. The functions here have nothing to do: each clause is a law.
 ghost use Rattle.reading.specs.Laws.{JudgedOnce, FindsOnce, ReadingOnce, ReadsOnce};
 ghost use Rattle.reading.specs.Laws.{RefusalsListed, ReadingTaken, TakenAccepted, WholeAccepted};
-ghost use Rattle.reading.specs.Laws.{QuestionOnce};
-ghost use Rattle.reading.specs.Laws.{LinesBounded, StartAlike, StartDecides};
+ghost use Rattle.reading.specs.Laws.{QuestionOnce, LentOnce};
+ghost use Rattle.reading.specs.Laws.{TakenWithin, LinesBounded, StartAlike, StartDecides};
 ghost use Rattle.reading.specs.Deeds.{ReadsWithoutDeeds, ConceptFactsKept, RoleFactsKept};
 
 // What is found is one thing.
@@ -12,6 +12,7 @@ pub fn once()
     ensures reading { ReadingOnce }
     ensures reads { ReadsOnce }
     ensures question { QuestionOnce }
+    ensures lent { LentOnce }
 {}
 
 // What is refused has one of the listed numbers; what is taken, the library does not refuse.
@@ -24,6 +25,7 @@ pub fn accepted()
 
 // Any length of input: a start of it decides.
 pub fn start()
+    ensures within { TakenWithin }
     ensures bounded { LinesBounded }
     ensures alike { StartAlike }
     ensures decides { StartDecides }

@@ -1,0 +1,86 @@
+// The kinds of frame: the byte that names each, and how many bytes its frame has.
+ghost use Rattle.std.specs.Prelude.{◌≡◌, ◌↔◌, IsTrue};
+ghost use Rattle.frames.specs.Kinds.{kind_of, frame_length, HasLength};
+
+// The bytes of a deed number.
+const DEED: usize = 2;
+
+#[derive(Clone, Copy)]
+pub enum Kind {
+    Declared,
+    ConceptRule,
+    ConceptExclusion,
+    RoleRule,
+    RoleExclusion,
+    ConceptFact,
+    RoleFact,
+    RoleStep,
+    TestStep,
+    Final,
+    Ask,
+    Allowance,
+    Expression,
+    AskFrom,
+}
+
+impl Kind {
+    // The kind that a frame's first byte names.
+    #[tactic(auto, unfolding(crate::specs::Kinds::kind_of))]
+    pub(crate) fn of(byte: u16) -> Option<Kind>
+        ensures { result ≡ kind_of byte }
+    {
+        let kind = match byte {
+            0x01 => Kind::Declared,
+            0x02 => Kind::ConceptRule,
+            0x03 => Kind::ConceptExclusion,
+            0x04 => Kind::RoleRule,
+            0x05 => Kind::RoleExclusion,
+            0x06 => Kind::ConceptFact,
+            0x07 => Kind::RoleFact,
+            0x08 => Kind::RoleStep,
+            0x09 => Kind::TestStep,
+            0x0A => Kind::Final,
+            0x0B => Kind::Ask,
+            0x0C => Kind::Allowance,
+            0x0D => Kind::Expression,
+            0x0E => Kind::AskFrom,
+            _ => return None,
+        };
+        Some(kind)
+    }
+
+    // The bytes of its frame, with the byte that names it. The deed number of a fact and the marks of an expression are
+    // not counted.
+    fn length(self) -> usize
+        ensures { result ≡ frame_length self }
+    {
+        match self {
+            Kind::Declared => 6,
+            Kind::ConceptRule => 3,
+            Kind::ConceptExclusion => 3,
+            Kind::RoleRule => 3,
+            Kind::RoleExclusion => 3,
+            Kind::ConceptFact => 3,
+            Kind::RoleFact => 4,
+            Kind::RoleStep => 4,
+            Kind::TestStep => 4,
+            Kind::Final => 2,
+            Kind::Ask => 3,
+            Kind::Allowance => 3,
+            Kind::Expression => 1,
+            Kind::AskFrom => 2,
+        }
+    }
+
+    // Whether its frame may have so many bytes: a deed number may end a fact, and an expression has any number of marks.
+    pub(crate) fn has_length(self, bytes: usize) -> bool
+        ensures { IsTrue result ↔ HasLength self bytes }
+    {
+        let own = self.length();
+        match self {
+            Kind::ConceptFact | Kind::RoleFact => bytes == own || bytes == own + DEED,
+            Kind::Expression => true,
+            _ => bytes == own,
+        }
+    }
+}
