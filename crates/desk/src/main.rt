@@ -9,7 +9,7 @@ fn main(rt: HostRuntime) -> ExitCode {
     match serve(rt.stdin(), &mut output) {
         Ok(()) => ExitCode::SUCCESS,
         Err(e) => {
-            let _ = eprintln!(rt; "desk: {e}");
+            let _ = eprintln!(rt; "desk: {}", e.message());
             ExitCode::FAILURE
         }
     }

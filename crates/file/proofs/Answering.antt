@@ -1,6 +1,6 @@
 -- What a preparation of a file answers to the file's asks is the library's outcomes over the whole file.
 use Rattle.std.specs.Prelude.{ℕ, ◌≡◌, ◌<◌, refl, List, [], Option, None, Some, IfSome, slice_get}
-use Rattle.std.proofs.Common.{sym, subst, arith}
+use Rattle.std.proofs.Common.{sym, subst}
 use Rattle.std.proofs.Math.ListN.{length-replicate}
 use Rattle.kinds.specs.declared.Answer.{Answer}
 use Rattle.meaning.specs.Layout.{area_length, zeros}
@@ -19,7 +19,8 @@ use Rattle.index.specs.Asked as index
 use Rattle.index.specs.Row as row
 use Rattle.file.specs.Rounds as told
 use Rattle.file.specs.Rounds.{round_lines}
-use Rattle.file.specs.Replying.{ask_count, IsAnswer, HeldRounds, RoundsAll, AnswersEach}
+use Rattle.file.specs.Writes.{Answered}
+use Rattle.file.specs.Replying.{ask_count, IsAnswer, HeldRounds, RoundsAll, AnswersEach, AnswersAll}
 use Rattle.file.proofs.Asks.{call_sound}
 
 -- what a file's own preparation is of
@@ -41,13 +42,10 @@ answer_in file q k None h = tt
 answer_in file q k (Some r) h = h zeros zeros (length-replicate {A = ℕ} area_length 0) (length-replicate {A = ℕ} area_length 0)
 
 module _ (file : File) (P : List ℕ → Type 0) where
-  -- and where nothing is asked there is nothing to tell and nothing to answer
-  pub nothing-asked : (q : Listed) (answers : List Answer) → IsQuestion file q → ask_count file ≡ 0 → P [] → AnswersEach file answers P
-  unfolding round_lines
-  nothing-asked q answers is e so = record {
-    rounds = record { question = q; is = is; counts = []; told = told.no-ask e; so = so };
-    each = λ k h. absurd (omega (arith, e));
-  }
+  -- where nothing is asked there is nothing to tell and nothing to answer
+  pub nothing-asked : (q : Listed) → IsQuestion file q → ask_count file ≡ 0 → P [] → AnswersAll file P
+  unfolding round_lines Answered
+  nothing-asked q is e so = record { question = q; is = is; counts = []; told = told.no-ask e; text = []; answered = rw e refl; so = so }
 
   -- THEOREM: replies from a file's own preparation are its answers
   pub replies-answer : (r : RoundsAll file P) (answers : List Answer) → row.AnswersEach (own file r.question) file.asks answers → AnswersEach file answers P

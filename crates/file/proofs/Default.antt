@@ -5,7 +5,7 @@ use Rattle.meaning.specs.Lite.{lite}
 use Rattle.meaning.specs.Lent.{Call}
 use Rattle.meaning.specs.Outcome.{Breaks}
 use Rattle.meaning.specs.Demands.{most_rounds}
-use Rattle.meaning.proofs.SheetLaws.{rounds-unique}
+use Rattle.theory.proofs.SheetLaws.{rounds-unique}
 use Rattle.frames.specs.declared.Frame.{Frame}
 use Rattle.reading.specs.Tables.{declared_by, allowance_given, rounds_allowed}
 use Rattle.file.specs.Writes.{collection_read}

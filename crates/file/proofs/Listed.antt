@@ -1,10 +1,15 @@
--- The answers that the desk writes are the listed ones, 0 to 3: what the library's tests 4, 5, 6 and 8 refuse, reading has refused before.
-use Rattle.std.specs.Prelude.{ℕ, ◌≤◌, List}
+-- The answers that the desk writes are the listed ones, 0 to 3: what the library's tests 4, 5, 6 and 8 refuse, reading has refused before. And their
+-- counts go into two bytes.
+use Rattle.std.specs.Prelude.{ℕ, ◌^◌, ◌<◌, ◌≤◌, List}
 use Rattle.std.proofs.Common.{arith}
 use Rattle.kinds.specs.declared.Answer.{Answer}
-use Rattle.kinds.specs.Answer.{answer_number}
-use Rattle.meaning.specs.Lent.{Call, Sound}
-use Rattle.meaning.specs.Outcome.{Outcome, bad-count, bad-table, bad-number, bad-ask, contradiction, spent, says-yes, says-no}
+use Rattle.kinds.specs.Answer.{answer_number, answer_count}
+use Rattle.theory.proofs.SheetLaws.{rounds-unique}
+use Rattle.meaning.specs.Lite.{lite}
+use Rattle.meaning.specs.Lent.{Call, collection_of, Sound}
+use Rattle.meaning.specs.Outcome.{Outcome, RoundsNeeded, bad-count, bad-table, bad-number, bad-ask, contradiction, spent, says-yes, says-no}
+use Rattle.meaning.proofs.OutcomeExists.{sound-well-formed}
+use Rattle.meaning.proofs.Demands.{most-rounds, rounds-suffice}
 
 -- THEOREM: a call that no test refuses is answered with 0, 1, 2 or 3
 pub sound-listed : (c : Call) → Sound c → {r : Answer} {x y : List ℕ} → Outcome c r x y → answer_number r ≤ 3
@@ -16,3 +21,20 @@ sound-listed c s (contradiction w h) = omega arith
 sound-listed c s (spent w sane need h lays) = omega arith
 sound-listed c s (says-yes w sane need h lays reached) = omega arith
 sound-listed c s (says-no w sane need h lays missed) = omega arith
+
+-- the rounds that a sound call needs are no more than 30,720
+few-needed : (c : Call) → Sound c → (n : ℕ) → RoundsNeeded c n → n ≤ 30720
+few-needed c s n need =
+    let w = rounds-suffice (collection_of c) (sound-well-formed c s) in
+    omega (arith, w.1, rounds-unique (lite (collection_of c)) n w.0 need w.2, most-rounds c.counts s.counts)
+
+-- THEOREM: and its count goes into two bytes
+pub count-fits : (c : Call) → Sound c → {r : Answer} {x y : List ℕ} → Outcome c r x y → answer_count r < 2 ^ 16
+count-fits c s (bad-count h) = omega arith
+count-fits c s (bad-table k h) = omega arith
+count-fits c s (bad-number k t h) = omega arith
+count-fits c s (bad-ask k t n h) = omega arith
+count-fits c s (contradiction w h) = omega arith
+count-fits c s (spent {n = n} w sane need h lays) = omega (arith, few-needed c s n need)
+count-fits c s (says-yes {n = n} w sane need h lays reached) = omega (arith, few-needed c s n need)
+count-fits c s (says-no {n = n} w sane need h lays missed) = omega (arith, few-needed c s n need)

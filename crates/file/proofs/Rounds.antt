@@ -5,17 +5,17 @@ use Rattle.std.proofs.Math.Nat.{min-le_left}
 use Rattle.laws.specs.Rounds.{least-once}
 use Rattle.meaning.specs.Collection.{Collection, WellFormed}
 use Rattle.meaning.specs.Model.{Contradiction}
-use Rattle.meaning.specs.Sheet.{Needed, Unchanged}
+use Rattle.theory.specs.Sheet.{Needed, Unchanged}
 use Rattle.meaning.specs.Lite.{lite}
-use Rattle.meaning.specs.Marks.{RoundCounts}
-use Rattle.meaning.proofs.MarksLaws.{round-counts-once}
+use Rattle.theory.specs.Marks.{RoundCounts}
+use Rattle.theory.proofs.MarksLaws.{round-counts-once}
 use Rattle.meaning.proofs.Demands.{most-rounds}
 use Rattle.meaning.proofs.LiteMarks.{lite-most}
 use Rattle.file.specs.Text.{text, round_line}
 use Rattle.file.specs.Rounds.{round_lines, RoundsTold, no-ask, contradiction, rounds}
 use Rattle.file.specs.declared.text.TheConstants.{ROUND_LINE}
 
-round-length : (round marks : ℕ) → length (round_line round marks) ≡ ROUND_LINE
+pub round-length : (round marks : ℕ) → length (round_line round marks) ≡ ROUND_LINE
 unfolding round_line text
 round-length round marks = refl
 

@@ -1,68 +1,49 @@
 -- What reading found decides what is written.
-use Rattle.std.specs.Prelude.{ℕ, ◌+◌, ◌<◌, ◌≡◌, List, [], ◌++◌, Option, None, Some, IfSome, Result, Ok, Err, OnErr, length, take}
-use Rattle.std.proofs.Common.{sym, ap, ◌∙◌, subst, length-append, arith}
-use Rattle.meaning.specs.Collection.{WellFormed}
-use Rattle.meaning.specs.Lent.{collection}
-use Rattle.meaning.proofs.OutcomeExists.{sound-well-formed}
+use Rattle.std.specs.Prelude.{ℕ, ◌≡◌, refl, List, Option, None, Some, IfSome, Result, Ok, Err, OnOk, IfErr}
+use Rattle.std.proofs.Common.{[], sym, subst}
+use Rattle.std.specs.Io.KnownBytes.{Appends}
 use Rattle.streams.specs.Lines.{lines}
-use Rattle.streams.specs.Takes.{TakesBut, TakesStart}
-use Rattle.streams.specs.Puts.{Puts}
-use Rattle.streams.proofs.Parts.{starts_ended}
 use Rattle.reading.specs.declared.File.{File}
 use Rattle.reading.specs.declared.Fault.{Fault}
 use Rattle.reading.specs.Reading.{Verdict, faulty, sound, frames_of, Reading}
-use Rattle.reading.specs.Tables.{rounds_allowed}
-use Rattle.reading.specs.File.{file_of, lent_tables, asked, held_call}
-use Rattle.reading.specs.Reads.{ReadsFile, IsRead, told_of}
-use Rattle.file.specs.declared.TheConstants.{MOST_TEXT}
-use Rattle.file.specs.Text.{text, fault_line}
-use Rattle.file.specs.Rounds.{round_lines, RoundsTold}
-use Rattle.file.specs.Writes.{IsAsking, Answered, collection_read, FileRounds, Writes, fault, answers}
-use Rattle.file.specs.Serves.{Serves}
-use Rattle.file.specs.Replying.{ask_count, HeldRounds, Tells}
-use Rattle.file.proofs.Asks.{ask_entries, few_asks, call_sound}
-use Rattle.file.proofs.Turns.{answered-length, answers-room}
-use Rattle.file.proofs.Rounds.{rounds-length, few-told}
+use Rattle.frames.specs.declared.Frame.{Frame}
+use Rattle.reading.specs.Tables.{asks, entries, allowance_given, rounds_allowed}
+use Rattle.reading.specs.File.{file_of, asked, held_call}
+use Rattle.reading.specs.Reads.{told_of}
+use Rattle.shell.specs.Reports.{OneOf, Reports}
+use Rattle.file.specs.Rounds.{RoundsTold}
+use Rattle.file.specs.Writes.{IsSound, IsAsking, Answered, collection_read, FileRounds, SameButDeeds, Writes, fault, answers}
+use Rattle.file.specs.Serves.{Serves, AppendsUnspent}
+use Rattle.file.specs.Replying.{ask_count, HeldRounds, Tells, IsReply}
+use Rattle.file.proofs.Asks.{ask_entries}
 use Rattle.file.proofs.WritesLaws.{writes-once}
+use Rattle.file.proofs.DeedLaws.{writes-without-deeds}
+use Rattle.file.proofs.Default.{never-spent}
 
--- what follows from P of a text is told too
-pub tells-so : (file : File) (found : Result (Unit {0}) Fault) {P Q : List ℕ → Type 0} → ((x : List ℕ) → P x → Q x) → Tells file found P → Tells file found Q
-tells-so file (Ok u) f t = record { question = t.question; is = t.is; counts = t.counts; told = t.told; text = t.text; answered = t.answered; so = f _ t.so }
-tells-so file (Err wrong) f t = f _ t
+-- what is told with P is a reply of which P holds
+pub told-one : (file : File) (found : Result (Unit {0}) Fault) {P : List ℕ → Type 0} → Tells file found P → OneOf (IsReply file found) P
+told-one file (Ok u) t = record {
+  text = _;
+  is = record { question = t.question; is = t.is; counts = t.counts; told = t.told; text = t.text; answered = t.answered; so = refl };
+  so = t.so;
+}
+told-one file (Err wrong) t = record { text = _; is = refl; so = t }
 
-pub tells-some : (file : File) (found : Result (Unit {0}) Fault) {P : List ℕ → Type 0} → Tells file found P → (x : List ℕ) × P x
-tells-some file (Ok u) t = (_, t.so)
-tells-some file (Err wrong) t = (_, t)
+-- where it was put, and where that failed
+module _ {E : Type 0} (r : Result (Unit {0}) E) (file : File) (found case : Result (Unit {0}) Fault) (e : found ≡ case) where
+  pub reply-put : (P : List ℕ → Type 0) → OnOk r (Tells file case P) → OnOk r (OneOf (IsReply file found) P)
+  reply-put P t = by r (rw e t)
+    where
+      by : (r : Result (Unit {0}) E) → OnOk r (Tells file found P) → OnOk r (OneOf (IsReply file found) P)
+      by (Ok u) t = told-one file found t
+      by (Err d) t = tt
 
--- where the sink failed at what was pending it has taken a start of the text
-pub ended-early : {E : Type 0} (r : Result (Unit {0}) E) (file : File) (found : Result (Unit {0}) Fault) (a b c : Option (List ℕ)) (held pending : List ℕ) → held ≡ []
-    → Tells file found (λ out. TakesBut pending a b (held ++ out)) → OnErr r (TakesStart b c pending) → OnErr r (Tells file found (TakesStart a c))
-ended-early (Ok u) file found a b c held pending none t s = tt
-ended-early (Err e) file found a b c held pending none t s =
-    tells-so file found (λ x w. starts_ended a b c x pending (subst (λ (l : List ℕ). TakesBut pending a b (l ++ x)) none w) s) t
-
--- what is put at the front of a text in memory stands there
-pub copied : (old out new : List ℕ) (held to : ℕ) → Puts old held out new to → held ≡ 0 → take to new ≡ out
-copied old out new held to p z = p.front ∙ ap (λ n. take n old ++ out) z
-
--- a text has room in memory
-pub has-room : (file : File) → IsRead file → (found : Result (Unit {0}) Fault) (room held : ℕ) → room ≡ MOST_TEXT → held ≡ 0
-    → Tells file found (λ out. room < held + length out) → ⊥
-unfolding fault_line text
-has-room file read (Ok u) room held e z t =
-    let q = t.question in
-    let fine : 0 < ask_count file → WellFormed (collection file.counts (lent_tables file q)) = λ some. sound-well-formed (held_call file q 0) (call_sound file read q t.is 0 some) in
-    omega (
-      arith,
-      t.so,
-      length-append (round_lines 0 t.counts) t.text,
-      rounds-length 0 t.counts,
-      few-told t.told fine,
-      answered-length (held_call file q) (ask_count file) t.text t.answered,
-      answers-room (λ j. (held_call file q j).ask) (ask_count file),
-      few_asks file read,
-    )
-has-room file read (Err wrong) room held e z t = omega (arith, t)
+  pub reply-failed : (P : E → List ℕ → Type 0) → IfErr r (λ d. Tells file case (P d)) → IfErr r (λ d. OneOf (IsReply file found) (P d))
+  reply-failed P t = by r (rw e t)
+    where
+      by : (r : Result (Unit {0}) E) → IfErr r (λ d. Tells file found (P d)) → IfErr r (λ d. OneOf (IsReply file found) (P d))
+      by (Ok u) t = tt
+      by (Err d) t = told-one file found t
 
 told : (input : List ℕ) (file : File) (P : List ℕ → Type 0) (v : Verdict) → Reading [] (lines input) v → file ≡ file_of (frames_of v)
     → Tells file (told_of v) P → (text : List ℕ) × Writes input text × P text
@@ -75,22 +56,43 @@ told input file P (sound fs) r e t =
     (_, answers fs q t.counts t.text asking all (subst (λ (n : ℕ). Answered (asked fs q) n t.text) (ask_entries fs) own), t.so)
 told input file P (faulty before n) r e q = (_, fault before n r, q)
 
-module _ (file : File) (found : Result (Unit {0}) Fault) where
-  -- THEOREM: what is told of a file that was read is the text of the input
-  pub tells-writes : (input : List ℕ) (P : List ℕ → Type 0) → ReadsFile (lines input) found file → Tells file found P
-      → (text : List ℕ) × Writes input text × P text
-  tells-writes input P r t = told input file P r.verdict r.reading r.kept (subst (λ f. Tells file f P) r.told t)
+-- THEOREM: what is put for what reading finds of an input is the text of the input
+pub reply-writes : {input text : List ℕ} → Reports IsReply input text → Writes input text
+reply-writes {input} {text} r =
+    let reads = r.reads in
+    let w = told input r.file (λ out. text ≡ out) reads.verdict reads.reading reads.kept (subst (λ f. Tells r.file f (λ out. text ≡ out)) reads.told r.is) in
+    subst (Writes input) (sym w.2) w.1
 
-  pub wrote : (input text : List ℕ) → ReadsFile (lines input) found file → Tells file found (λ out. text ≡ out) → Writes input text
-  wrote input text r t = let w = tells-writes _ _ r t in subst (Writes input) (sym w.2) w.1
+pub reply-serves : {input : List ℕ} {P : List ℕ → Type 0} → OneOf (Reports IsReply input) P → Serves input P
+reply-serves o = record { text = o.text; is = reply-writes o.is; so = o.so }
 
-  pub served : (known : Option (List ℕ)) (P : List ℕ → Type 0) → IfSome known (λ input. ReadsFile (lines input) found file) → Tells file found P
-      → IfSome known (λ input. Serves input P)
-  served None P r t = tt
-  served (Some input) P r t = let w = tells-writes _ _ r t in record { text = w.0; writes = w.1; so = w.2 }
+-- what follows where all went well
+pub on_ok : {A E : Type 0} (r : Result A E) {P Q : Type 0} → (P → Q) → OnOk r P → OnOk r Q
+on_ok (Ok x) f p = f p
+on_ok (Err e) f p = tt
 
-  -- and no other text does
-  pub served-only : (known : Option (List ℕ)) (P : List ℕ → Type 0) → IfSome known (λ input. ReadsFile (lines input) found file) → Tells file found P
-      → IfSome known (λ input. (out : List ℕ) → Writes input out → P out)
-  served-only None P r t = tt
-  served-only (Some input) P r t = λ out w. let v = tells-writes _ _ r t in subst P (writes-once v.1 w) v.2
+-- of an input that is known a text is put that it writes
+pub served : (known : Option (List ℕ)) (P : List ℕ → Type 0) → IfSome known (λ input. OneOf (Reports IsReply input) P) → IfSome known (λ input. Serves input P)
+served None P o = tt
+served (Some input) P o = reply-serves o
+
+-- and no other
+pub served-only : (known : Option (List ℕ)) (P : List ℕ → Type 0) → IfSome known (λ input. OneOf (Reports IsReply input) P)
+    → IfSome known (λ input. (out : List ℕ) → Writes input out → P out)
+served-only None P o = tt
+served-only (Some input) P o = λ out w. subst P (writes-once (reply-writes o.is) w) o.so
+
+-- nor does one that differs in deed numbers alone write another
+pub served-deeds : (known : Option (List ℕ)) (P : List ℕ → Type 0) → IfSome known (λ input. OneOf (Reports IsReply input) P)
+    → IfSome known (λ input. (other : List ℕ) → SameButDeeds input other → Serves other P)
+served-deeds None P o = tt
+served-deeds (Some input) P o = λ other s.
+    record { text = o.text; is = (writes-without-deeds input other s o.text).0 (reply-writes o.is); so = o.so }
+
+-- and without an allowance none of its answers has number 3
+pub served-unspent : (known a b : Option (List ℕ)) → IfSome known (λ input. OneOf (Reports IsReply input) (Appends a b))
+    → IfSome known (λ input. (fs : List Frame) → IsSound input fs → allowance_given fs ≡ None → Serves input (AppendsUnspent (entries asks fs) a b))
+served-unspent None a b o = tt
+served-unspent (Some input) a b o = λ fs s none.
+    let w = reply-writes o.is in
+    record { text = o.text; is = w; so = record { appends = o.so; unspent = never-spent input o.text w fs s none } }

@@ -4,12 +4,12 @@ use Rattle.std.proofs.Common.{sym, ap, ◌∙◌, subst, length-append, arith}
 use Rattle.std.proofs.lemmas.Bool.Decides.{nat_tests}
 use Rattle.kinds.specs.declared.Answer.{Answer}
 use Rattle.kinds.specs.declared.Ask.{Ask}
-use Rattle.kinds.specs.Answer.{answer_number, number-listed}
+use Rattle.kinds.specs.Answer.{answer_number, answer_count, number-listed}
 use Rattle.meaning.specs.Collection.{WellFormed}
 use Rattle.meaning.specs.Model.{Contradiction}
-use Rattle.meaning.specs.Sheet.{Needed}
+use Rattle.theory.specs.Sheet.{Needed}
 use Rattle.meaning.specs.Lite.{lite}
-use Rattle.meaning.specs.Marks.{RoundCounts}
+use Rattle.theory.specs.Marks.{RoundCounts}
 use Rattle.meaning.specs.Lent.{Call, Sound}
 use Rattle.meaning.proofs.OutcomeExists.{sound-well-formed}
 use Rattle.meaning.proofs.LiteMarks.{lite-make, lite-few}
@@ -29,15 +29,15 @@ use Rattle.reading.proofs.Listed.{refusals-listed}
 use Rattle.file.specs.Text.{character, text, fault_line, round_line, answer_line, IsInBytes}
 use Rattle.file.specs.Rounds.{round_lines}
 use Rattle.file.specs.Writes.{Answers, Answered, IsSound, IsAsking, IsFaulty, collection_read, FileRounds, Writes, fault, answers}
-use Rattle.file.specs.Told.{line_in, rounds_in, line_at, round_length, answers_length, number_on, Names, IsAnswerLine, IsRoundLine, IsFaultLine}
+use Rattle.file.specs.Told.{line_in, rounds_in, line_at, round_length, fault_length, answers_length, number_on, count_on, Names, TellsOutcome, IsRoundLine, IsFaultLine}
 use Rattle.file.specs.Laws.{AnswersEachAsk, TellsRounds}
 use Rattle.tables.specs.Asks.{read_ask}
 use Rattle.file.proofs.Asks.{small}
-use Rattle.file.proofs.Turns.{answered-length}
+use Rattle.file.proofs.Turns.{line-length, answered-length}
 use Rattle.file.proofs.Lined.{AreLines, both_lines, line_before, line_after, rounds_lined, round-is, answers_lined, answer-at}
-use Rattle.file.proofs.Rounds.{rounds-length, told-once, none-told, rounds-told, few-told}
+use Rattle.file.proofs.Rounds.{round-length, rounds-length, told-once, none-told, rounds-told, few-told}
 use Rattle.file.proofs.WritesLaws.{fault-line}
-use Rattle.file.proofs.Listed.{sound-listed}
+use Rattle.file.proofs.Listed.{sound-listed, count-fits}
 
 -- a digit is read back from its character
 digit-back : (d : ℕ) → d < 16 → digit_of (character d) ≡ d
@@ -70,6 +70,19 @@ module _ (r : Answer) where
       let n : byte_of (answer_line (From a) r) 2 ≡ answer_number r = byte-back (answer_number r) (omega (arith, number-listed r)) in
       rw k n
 
+  count-is : answer_count r < 2 ^ 16 → (ask : Ask) → count_on (answer_line ask r) ≡ answer_count r
+  unfolding answer_line text byte_of
+  count-is h (Pair a b) =
+      let k : byte_of (answer_line (Pair a b) r) 0 ≡ 0x8B = byte-back 0x8B (omega arith) in
+      let high : byte_of (answer_line (Pair a b) r) 4 ≡ answer_count r / 2 ^ 8 = byte-back (answer_count r / 2 ^ 8) (omega arith) in
+      let low : byte_of (answer_line (Pair a b) r) 5 ≡ answer_count r % 2 ^ 8 = byte-back (answer_count r % 2 ^ 8) (omega arith) in
+      rw k (omega (arith, high, low))
+  count-is h (From a) =
+      let k : byte_of (answer_line (From a) r) 0 ≡ 0x8E = byte-back 0x8E (omega arith) in
+      let high : byte_of (answer_line (From a) r) 3 ≡ answer_count r / 2 ^ 8 = byte-back (answer_count r / 2 ^ 8) (omega arith) in
+      let low : byte_of (answer_line (From a) r) 4 ≡ answer_count r % 2 ^ 8 = byte-back (answer_count r % 2 ^ 8) (omega arith) in
+      rw k (omega (arith, high, low))
+
 -- and of a line of a fault
 module _ (line : ℕ) (r : Refusal) where
   fault-kind : byte_of (fault_line line (refusal_number r)) 0 ≡ 0x8F
@@ -92,15 +105,16 @@ module _ (line : ℕ) (r : Refusal) where
       let n : byte_of (fault_line line (refusal_number r)) 3 ≡ refusal_number r = byte-back (refusal_number r) (omega (arith, l.1)) in
       rw k n
 
-  fault-long : length (fault_line line (refusal_number r)) ≡ 9
+  fault-long : length (fault_line line (refusal_number r)) ≡ fault_length
   unfolding fault_line text
   fault-long = refl
 
-  fault-is : line < 2 ^ 16 → IsFaultLine line (fault_line line (refusal_number r))
+  fault-is : line < 2 ^ 16 → IsFaultLine line r (fault_line line (refusal_number r))
   fault-is h = record {
     long = fault-long;
     kind = fault-kind;
     place = omega (arith, fault-high h, fault-low);
+    refused = fault-number;
     listed = let l = refusals-listed r in (omega (arith, fault-number, l.0), omega (arith, fault-number, l.1), λ e. l.2 (sym fault-number ∙ e));
   }
 
@@ -128,6 +142,7 @@ module _ (round marks : ℕ) where
 
   round-line-is : round < 2 ^ 16 → marks < 2 ^ 16 → IsRoundLine round marks (round_line round marks)
   round-line-is h k = record {
+    long = round-length round marks;
     kind = round-kind;
     round = omega (arith, round-high h, round-low);
     marks = omega (arith, marks-high k, marks-low);
@@ -234,10 +249,10 @@ module _ {input text : List ℕ} (w : Writes input text) where
           rw (d, f) refl
       by (answers gs q counts out h t a) = let e = reading-once h.sound s in absurd cc
 
-  -- THEOREM: a faulty input writes the line of its first faulty line's number, and one of 4 to 14, but never 7
-  pub fault-told : (before : List Frame) (r : Refusal) → IsFaulty input before r → IsFaultLine (length before + 1) text
+  -- THEOREM: a faulty input writes the line of its first faulty line's number, and the number that refuses that line
+  pub fault-told : (before : List Frame) (r : Refusal) → IsFaulty input before r → IsFaultLine (length before + 1) r text
   fault-told before r s =
-      subst (IsFaultLine (length before + 1)) (sym (fault-text before r s)) (fault-is (length before + 1) r (omega (arith, fault-line input before r s)))
+      subst (IsFaultLine (length before + 1) r) (sym (fault-text before r s)) (fault-is (length before + 1) r (omega (arith, fault-line input before r s)))
 
 -- what stands on a line of an answer to a call
 module _ {call : Call} {line : List ℕ} (w : Answers call line) where
@@ -248,17 +263,29 @@ module _ {call : Call} {line : List ℕ} (w : Answers call line) where
     pub names-of : Names call.ask line
     names-of = subst (Names call.ask) (sym w.written) (names-is w.answer call.ask (small call.counts s.counts.individuals call.ask s.ask))
 
-    answer-line : IsAnswerLine call.ask line
-    answer-line = record { names = names-of; listed = omega (arith, number-of, sound-listed call s w.outcome.2) }
+    pub tells-outcome : TellsOutcome call line
+    tells-outcome = record {
+      answer = w.answer;
+      outcome = w.outcome;
+      told = record {
+        long = ap (λ (l : List ℕ). length l) w.written ∙ line-length call.ask w.answer;
+        names = names-of;
+        number = number-of;
+        count = ap count_on w.written ∙ count-is w.answer (count-fits call s w.outcome.2) call.ask;
+      };
+      listed = omega (arith, number-of, sound-listed call s w.outcome.2);
+    }
 
 module _ {input text : List ℕ} (w : Writes input text) (fs : List Frame) (s : IsSound input fs) where
-  -- THEOREM: a sound input writes a line for each ask, with its pair and an answer from 0 to 3
+  -- THEOREM: a sound input writes a line for each ask, which tells its outcome, with an answer from 0 to 3
   pub asks-answered : AnswersEachAsk fs text
   asks-answered =
       let (q, a, _) = question-of w fs s in
       record {
+        question = q;
+        is = a.question;
         enough = omega (arith, (lined w fs q a).many);
-        each = λ k h. answer-line (line-answers w fs q a k h) (whole-accepted input fs s q a.question k h);
+        each = λ k h. tells-outcome (line-answers w fs q a k h) (whole-accepted input fs s q a.question k h);
       }
 
   pub listed : (k : ℕ) → k < entries asks fs → number_on (line_at (entries asks fs) text k) ≤ 3

@@ -1,5 +1,5 @@
 -- Asks answered one after the other: what was put after some of them.
-use Rattle.std.specs.Prelude.{ℕ, zero, suc, ◌+◌, ◌*◌, ◌-◌, ◌≤◌, ◌≡◌, refl, List, [], ◌++◌, Result, Ok, Err, OnOk, IfErr, IsErrAnd, length}
+use Rattle.std.specs.Prelude.{ℕ, zero, suc, ◌+◌, ◌*◌, ◌-◌, ◌≤◌, ◌≡◌, refl, List, [], ◌++◌, Result, Ok, Err, IfErr, IsErrAnd, length}
 use Rattle.std.proofs.Common.{sym, ap, ◌∙◌, subst, append_assoc, append-nil, length-append, add-zero, add-suc, add-one, arith}
 use Rattle.kinds.specs.declared.Ask.{Ask}
 use Rattle.kinds.specs.declared.Ask.TheVariants.{Pair, From}
@@ -21,12 +21,8 @@ pub passed_on : {A E : Type 0} (r : Result A E) (e : E) (Q : E → Type 0) → I
 passed_on (Ok x) e Q h q = tt
 passed_on (Err d) e Q h q = rw h q
 
--- what holds of one thing holds of what is equal to it
-pub moved : {A E S : Type 0} (r : Result A E) (P : S → Type 0) (a b : S) → OnOk r (P a) → a ≡ b → OnOk r (P b)
-moved {S = S} r P a b h e = subst (λ (s : S). OnOk r (P s)) e h
-
 -- an answer's line has as many bytes as it is said to have, and no more than there is room for
-line-length : (ask : Ask) (r : Answer) → length (answer_line ask r) ≡ answer_length ask
+pub line-length : (ask : Ask) (r : Answer) → length (answer_line ask r) ≡ answer_length ask
 unfolding answer_line text
 line-length (Pair a b) r = refl
 line-length (From a) r = refl

@@ -95,7 +95,7 @@ wrote-once old {x = x} {y = y} {n = n} {m = m} h k a b r s =
 
 -- THEOREM: a sink whose bytes are known holds one thing afterwards
 pub serves-once : (input old x y : List ℕ) → Serves input (Appends (Some old) (Some x)) → Serves input (Appends (Some old) (Some y)) → x ≡ y
-serves-once input old x y a b = a.so ∙ ap (λ (text : List ℕ). old ++ text) (writes-once a.writes b.writes) ∙ sym b.so
+serves-once input old x y a b = a.so ∙ ap (λ (text : List ℕ). old ++ text) (writes-once a.is b.is) ∙ sym b.so
 
 -- THEOREM: any input writes what its first 467,155 bytes write, and they write what it writes
 module _ (input : List ℕ) (n : ℕ) (h : most_bytes ≤ n) where

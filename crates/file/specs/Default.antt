@@ -1,7 +1,7 @@
 -- What holds of the lines of a file that gives no allowance (docs/RULES.md, section 8).
-use Rattle.std.specs.Prelude.{ℕ, ◌<◌, ◌≡◌, ◌≢◌, List, None}
+use Rattle.std.specs.Prelude.{ℕ, ◌<◌, ◌≡◌, List, None}
 use Rattle.meaning.specs.Model.{Contradiction}
-use Rattle.meaning.specs.Sheet.{Needed}
+use Rattle.theory.specs.Sheet.{Needed}
 use Rattle.meaning.specs.Lite.{lite}
 use Rattle.meaning.specs.Demands.{Enough, Spelled}
 use Rattle.expression.specs.Listed.{Listed}
@@ -9,7 +9,7 @@ use Rattle.frames.specs.declared.Frame.{Frame}
 use Rattle.reading.specs.Tables.{asks, entries, allowance_given}
 use Rattle.reading.specs.File.{asked}
 use Rattle.file.specs.Writes.{IsSound, IsAsking, collection_read, Writes}
-use Rattle.file.specs.Told.{line_at, number_on}
+use Rattle.file.specs.Told.{line_at, IsUnspent}
 use Rattle.file.specs.Laws.{TellsRounds}
 use Rattle.file.specs.Demands.{IsAsModelSays}
 
@@ -22,7 +22,7 @@ DefaultSuffices = (input : List ℕ) (fs : List Frame) (q : Listed) → IsAsking
 abbrev pub NeverSpent : Type 0
 NeverSpent = (input text : List ℕ) → Writes input text
     → (fs : List Frame) → IsSound input fs → allowance_given fs ≡ None
-    → (k : ℕ) → k < entries asks fs → number_on (line_at (entries asks fs) text k) ≢ 3
+    → IsUnspent (entries asks fs) text
 
 -- each is as the canonical model says,
 abbrev pub DefaultSaysAsModel : Type 0

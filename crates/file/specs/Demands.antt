@@ -1,8 +1,7 @@
 -- What is demanded (docs/RULES.md, section 9), of the lines that are written.
-use Rattle.std.specs.Prelude.{ℕ, ◌<◌, ◌≤◌, ◌≡◌, ◌↔◌, ◌⊎◌, List, Some}
+use Rattle.std.specs.Prelude.{ℕ, ◌<◌, ◌≤◌, ◌≡◌, List, Some}
 use Rattle.meaning.specs.Lent.{Call, collection_of}
-use Rattle.meaning.specs.Outcome.{Breaks}
-use Rattle.meaning.specs.Demands.{most_rounds, Larger, Enough, Spelled, allowed}
+use Rattle.meaning.specs.Demands.{most_rounds, Larger, Enough, Spelled, NumberSays, NumberGrown, allowed}
 use Rattle.expression.specs.Tree.{Tree}
 use Rattle.expression.specs.Grammar.{IsExpression}
 use Rattle.expression.specs.Listed.{Listed}
@@ -14,12 +13,9 @@ use Rattle.reading.specs.File.{asked}
 use Rattle.file.specs.Writes.{IsAsking, Writes}
 use Rattle.file.specs.Told.{line_at, number_on}
 
--- a line is contradiction exactly when the canonical model breaks an exclusion, and else yes
--- exactly when such a path is there
-pub record IsAsModelSays (call : Call) (Path : Type 0) (line : List ℕ) : Type 0 where
-  pub contradiction : (number_on line ≡ 2) ↔ Breaks call
-  pub yes : (¬ Breaks call) → (number_on line ≡ 1) ↔ Path
-  pub no : (¬ Breaks call) → (number_on line ≡ 0) ↔ (¬ Path)
+-- the number on a line answers the call as the model says, where the path is there that is asked for
+abbrev pub IsAsModelSays : Call → Type 0 → List ℕ → Type 0
+IsAsModelSays call Path line = NumberSays call Path (number_on line)
 
 -- with enough rounds each line is as the canonical model says: yes exactly when a path in it, as it
 -- is asked for, spells a word of the question
@@ -49,11 +45,9 @@ pub record SameAsk (line other : List ℕ) : Type 0 where
   pub first : byte_of line 1 ≡ byte_of other 1
   pub second : byte_of line 0 ≡ 0x8B → byte_of line 2 ≡ byte_of other 2
 
--- a yes is kept or turned into contradiction, a contradiction is kept, and a no was a no before
-pub record IsGrownLine (line other : List ℕ) : Type 0 where
-  pub yes-kept : number_on line ≡ 1 → (number_on other ≡ 1) ⊎ (number_on other ≡ 2)
-  pub contradiction-kept : number_on line ≡ 2 → number_on other ≡ 2
-  pub no-before : number_on other ≡ 0 → number_on line ≡ 0
+-- and the number on the second grows from that on the first
+abbrev pub IsGrownLine : List ℕ → List ℕ → Type 0
+IsGrownLine line other = NumberGrown (number_on line) (number_on other)
 
 -- a second file's call holds at least the records of the first's, with a shared start state, and
 -- each allows enough rounds

@@ -3,21 +3,20 @@ use Rattle.std.specs.Prelude.{ℕ, ◌+◌, ◌<◌, ◌≤◌, ◌≡◌, ◌�
 use Rattle.std.specs.Io.KnownBytes.{Appends}
 use Rattle.meaning.specs.Collection.{Collection}
 use Rattle.meaning.specs.Model.{Contradiction}
-use Rattle.meaning.specs.Sheet.{Needed}
+use Rattle.theory.specs.Sheet.{Needed}
 use Rattle.meaning.specs.Lite.{lite}
-use Rattle.meaning.specs.Marks.{Stands, RoundCounts}
+use Rattle.theory.specs.Marks.{Stands, RoundCounts}
 use Rattle.meaning.specs.LawsOfMarks.{first_marks}
 use Rattle.expression.specs.Listed.{Listed}
 use Rattle.frames.specs.declared.Frame.{Frame}
 use Rattle.reading.specs.declared.Refusal.{Refusal}
-use Rattle.tables.specs.Asks.{read_ask}
-use Rattle.reading.specs.Tables.{asks, entries, table, rounds_allowed}
-use Rattle.reading.specs.Deeds.{SameLine, InStep}
+use Rattle.reading.specs.Tables.{asks, entries, rounds_allowed}
+use Rattle.reading.specs.File.{IsQuestionOf, asked}
 use Rattle.file.specs.declared.TheConstants.{MOST_TEXT}
-use Rattle.file.specs.Writes.{IsSound, IsAsking, IsFaulty, collection_read, Writes}
+use Rattle.file.specs.Writes.{IsSound, IsAsking, IsFaulty, collection_read, SameButDeeds, Writes}
 use Rattle.file.specs.Serves.{Serves}
 use Rattle.streams.specs.Lines.{lines}
-use Rattle.file.specs.Told.{line_in, rounds_in, line_at, IsAnswerLine, IsRoundLine, IsFaultLine}
+use Rattle.file.specs.Told.{line_in, rounds_in, line_at, TellsOutcome, IsRoundLine, IsFaultLine}
 
 -- an input writes one text
 abbrev pub WritesOnce : Type 0
@@ -32,17 +31,18 @@ abbrev pub StartWrites : Type 0
 StartWrites = (input : List ℕ) (n : ℕ) → 467155 ≤ n → (text : List ℕ)
     → Writes (take n input) text ↔ Writes input text
 
--- no deed number does: two inputs whose lines are one by one the same, sound or not, or facts that
--- differ only in their deed numbers, typed or left out, write the same
+-- two inputs that differ only in deed numbers write the same
 abbrev pub WritesWithoutDeeds : Type 0
-WritesWithoutDeeds = (input other : List ℕ) → InStep SameLine (lines input) (lines other)
+WritesWithoutDeeds = (input other : List ℕ) → SameButDeeds input other
     → (text : List ℕ) → Writes input text ↔ Writes other text
 
--- a text has a line for each ask at its end, and line k of those is an answer to ask k
+-- a text has a line for each ask at its end, and line k of those tells the outcome of ask k
 pub record AnswersEachAsk (fs : List Frame) (text : List ℕ) : Type 0 where
+  pub question : Listed
+  pub is : IsQuestionOf fs question
   pub enough : entries asks fs ≤ length (lines text)
   pub each : (k : ℕ) → k < entries asks fs
-      → IsAnswerLine (read_ask (table asks fs) k) (line_at (entries asks fs) text k)
+      → TellsOutcome (asked fs question k) (line_at (entries asks fs) text k)
 
 -- an input that is read whole writes such a text
 abbrev pub AsksAnswered : Type 0
@@ -76,11 +76,12 @@ NoRoundTold = (input text : List ℕ) → Writes input text
     → (entries asks fs ≡ 0) ⊎ Contradiction (collection_read fs q)
     → rounds_in (entries asks fs) text ≡ 0
 
--- a faulty one writes a line of its first faulty line's number, from 1
+-- a faulty one writes a line of its first faulty line's number, from 1, and of the number that
+-- refuses that line
 abbrev pub FaultTold : Type 0
 FaultTold = (input text : List ℕ) → Writes input text
     → (before : List Frame) (r : Refusal) → IsFaulty input before r
-    → IsFaultLine (length before + 1) text
+    → IsFaultLine (length before + 1) r text
 
 -- and that is at most 7,187
 abbrev pub FaultsNear : Type 0

@@ -1,14 +1,16 @@
 -- The asks of a file answered, and what is written of what reading found.
-use Rattle.std.specs.Prelude.{ℕ, ◌<◌, ◌/◌, List, ◌++◌, Result, Ok, Err, IfSome, length, slice_get}
+use Rattle.std.specs.Prelude.{ℕ, ◌≡◌, ◌<◌, ◌/◌, List, ◌++◌, Result, Ok, Err, IfSome, length, slice_get}
 use Rattle.kinds.specs.declared.Answer.{Answer}
 use Rattle.meaning.specs.Lent.{collection}
 use Rattle.meaning.specs.Outcome.{Outcome}
 use Rattle.tables.specs.Asks.{ask_width}
+use Rattle.tables.specs.Lists.{lists}
+use Rattle.index.specs.declared.lent.Lent.{Lent}
 use Rattle.expression.specs.Listed.{Listed}
 use Rattle.reading.specs.declared.File.{File}
 use Rattle.reading.specs.declared.Fault.{Fault}
 use Rattle.reading.specs.Refusal.{refusal_number}
-use Rattle.reading.specs.File.{IsQuestion, lent_tables, allowance_in, held_call}
+use Rattle.reading.specs.File.{IsQuestion, lent_tables, LendsTables, allowance_in, held_call}
 use Rattle.file.specs.Text.{fault_line}
 use Rattle.file.specs.Rounds.{round_lines, RoundsTold}
 use Rattle.file.specs.Writes.{Answered}
@@ -16,6 +18,12 @@ use Rattle.file.specs.Writes.{Answered}
 module _ (file : File) where
   abbrev pub ask_count : ℕ
   ask_count = length file.asks / ask_width
+
+  -- what the library is lent of it: its tables with its question, and its allowance
+  pub record IsLentOf (lent : Lent) : Type 0 where
+    pub counts : lent.collection.counts ≡ file.counts
+    pub tables : LendsTables file (lists lent.collection)
+    pub allowance : lent.allowance ≡ allowance_in file
 
   -- a library's outcome
   abbrev pub IsAnswer : Listed → ℕ → Answer → Type 0
@@ -54,3 +62,7 @@ module _ (file : File) where
 abbrev pub Tells : File → Result (Unit {0}) Fault → (List ℕ → Type 0) → Type 0
 Tells file (Ok u) P = AnswersAll file P
 Tells file (Err fault) P = P (fault_line fault.line (refusal_number fault.refusal))
+
+-- what the desk may put for what reading found
+abbrev pub IsReply : File → Result (Unit {0}) Fault → List ℕ → Type 0
+IsReply file found out = Tells file found (λ text. out ≡ text)

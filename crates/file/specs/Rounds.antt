@@ -2,9 +2,9 @@
 use Rattle.std.specs.Prelude.{ℕ, suc, ◌<◌, ◌≡◌, List, [], ◌∷◌, ◌++◌, min}
 use Rattle.meaning.specs.Collection.{Collection}
 use Rattle.meaning.specs.Model.{Contradiction}
-use Rattle.meaning.specs.Sheet.{Needed}
+use Rattle.theory.specs.Sheet.{Needed}
 use Rattle.meaning.specs.Lite.{lite}
-use Rattle.meaning.specs.Marks.{RoundCounts}
+use Rattle.theory.specs.Marks.{RoundCounts}
 use Rattle.file.specs.Text.{round_line}
 
 -- the lines of rounds that added so many marks each, the first of them after so many rounds before

@@ -1,17 +1,15 @@
--- What the desk does with the text that an input writes, and what it says where it cannot
--- (docs/RULES.md, section 8).
-use Rattle.std.specs.Prelude.{ℕ, List, codes}
-use Rattle.file.specs.declared.ServeError.{ServeError}
-use Rattle.file.specs.declared.ServeError.TheVariants.{Unread, Unwritten}
+-- What the desk does with the text that an input writes (docs/RULES.md, section 8).
+use Rattle.std.specs.Prelude.{ℕ, List, Option}
+use Rattle.std.specs.Io.KnownBytes.{Appends}
+use Rattle.shell.specs.Reports.{OneOf}
 use Rattle.file.specs.Writes.{Writes}
+use Rattle.file.specs.Told.{IsUnspent}
 
 -- P holds of the text that an input writes
-pub record Serves (input : List ℕ) (P : List ℕ → Type 0) : Type 0 where
-  pub text : List ℕ
-  pub writes : Writes input text
-  pub so : P text
+abbrev pub Serves : List ℕ → (List ℕ → Type 0) → Type 0
+Serves input = OneOf (Writes input)
 
--- what standard error says
-abbrev pub message_of : ServeError → List ℕ
-message_of (Unread e) = codes "standard input could not be read, so nothing is answered"
-message_of (Unwritten e) = codes "standard output could not be written whole"
+-- known bytes grow by a text in which no answer has number 3
+pub record AppendsUnspent (asks : ℕ) (old new : Option (List ℕ)) (text : List ℕ) : Type 0 where
+  pub appends : Appends old new text
+  pub unspent : IsUnspent asks text

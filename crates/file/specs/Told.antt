@@ -1,10 +1,17 @@
 -- What stands in a text that is written (docs/RULES.md, section 8), read back line by line and byte
 -- by byte.
-use Rattle.std.specs.Prelude.{ℕ, zero, suc, ◌+◌, ◌-◌, ◌*◌, ◌^◌, ◌≤◌, ◌≡◌, List, [], ◌∷◌, ◌++◌, nat_eq, if◌then◌else◌, length, slice_index_or}
+use Rattle.std.specs.Prelude.{ℕ, zero, suc, ◌+◌, ◌-◌, ◌<◌, ◌≤◌, ◌≡◌, ◌≢◌, List, [], ◌∷◌, ◌++◌, nat_eq, if◌then◌else◌, length, slice_index_or}
+use Rattle.kinds.specs.declared.Answer.{Answer}
+use Rattle.kinds.specs.Answer.{answer_number, answer_count}
 use Rattle.kinds.specs.declared.Ask.{Ask}
 use Rattle.kinds.specs.declared.Ask.TheVariants.{Pair, From}
+use Rattle.meaning.specs.Lent.{Call}
+use Rattle.meaning.specs.Outcome.{Outcome}
 use Rattle.streams.specs.Lines.{lines}
 use Rattle.frames.specs.Digits.{byte_of}
+use Rattle.frames.specs.Frames.{two_bytes}
+use Rattle.reading.specs.declared.Refusal.{Refusal}
+use Rattle.reading.specs.Refusal.{refusal_number}
 use Rattle.reading.specs.Laws.{IsListed}
 
 -- line k of a text, counted from 0, with its end
@@ -19,9 +26,13 @@ rounds_in asks text = length (lines text) - asks
 abbrev pub line_at : ℕ → List ℕ → ℕ → List ℕ
 line_at asks text k = line_in text (rounds_in asks text + k)
 
--- the characters of a line of a round, its end among them; of an answer; and of the first n answers
+-- the characters of a line of a round, its end among them; of a fault; of an answer; and of the first
+-- n answers
 abbrev pub round_length : ℕ
 round_length = 11
+
+abbrev pub fault_length : ℕ
+fault_length = 9
 
 abbrev pub answer_length : Ask → ℕ
 answer_length (Pair a b) = 13
@@ -31,29 +42,53 @@ unfoldable pub answers_length : (ℕ → Ask) → ℕ → ℕ
 answers_length ask zero = 0
 answers_length ask (suc n) = answers_length ask n + answer_length (ask n)
 
--- the number on a line, an answer's or a fault's: byte 3, and where one end is named byte 2
+-- where the number stands on a line, an answer's or a fault's: at byte 3, and where one end is named
+-- at byte 2
+abbrev pub number_place : List ℕ → ℕ
+number_place line = if nat_eq (byte_of line 0) 0x8E then 2 else 3
+
+-- the number, and behind it the count on a line of an answer, in two bytes, high byte first
 abbrev pub number_on : List ℕ → ℕ
-number_on line = if nat_eq (byte_of line 0) 0x8E then byte_of line 2 else byte_of line 3
+number_on line = byte_of line (number_place line)
+
+abbrev pub count_on : List ℕ → ℕ
+count_on line = two_bytes (byte_of line) (number_place line + 1)
+
+-- of so many answers none has number 3
+abbrev pub IsUnspent : ℕ → List ℕ → Type 0
+IsUnspent asks text = (k : ℕ) → k < asks → number_on (line_at asks text k) ≢ 3
 
 -- it tells what was asked: by 8B of both individuals, by 8E of one
 abbrev pub Names : Ask → List ℕ → Type 0
 Names (Pair a b) line = (byte_of line 0 ≡ 0x8B) × (byte_of line 1 ≡ a.0) × (byte_of line 2 ≡ b.0)
 Names (From a) line = (byte_of line 0 ≡ 0x8E) × (byte_of line 1 ≡ a.0)
 
--- a line of an answer: what was asked, and one of 0 to 3
-pub record IsAnswerLine (ask : Ask) (line : List ℕ) : Type 0 where
+-- a line of an answer: what was asked, the answer's number and its count
+pub record IsAnswerLine (ask : Ask) (answer : Answer) (line : List ℕ) : Type 0 where
+  pub long : length line ≡ answer_length ask
   pub names : Names ask line
+  pub number : number_on line ≡ answer_number answer
+  pub count : count_on line ≡ answer_count answer
+
+-- a line tells the outcome of a call of the library, of which the number is one of 0 to 3
+pub record TellsOutcome (call : Call) (line : List ℕ) : Type 0 where
+  pub answer : Answer
+  pub outcome : (area spare : List ℕ) × Outcome call answer area spare
+  pub told : IsAnswerLine call.ask answer line
   pub listed : number_on line ≤ 3
 
 -- a line of a round: 8A, its number, and how many marks it added, in two bytes each
 pub record IsRoundLine (number count : ℕ) (line : List ℕ) : Type 0 where
+  pub long : length line ≡ round_length
   pub kind : byte_of line 0 ≡ 0x8A
-  pub round : 2 ^ 8 * byte_of line 1 + byte_of line 2 ≡ number
-  pub marks : 2 ^ 8 * byte_of line 3 + byte_of line 4 ≡ count
+  pub round : two_bytes (byte_of line) 1 ≡ number
+  pub marks : two_bytes (byte_of line) 3 ≡ count
 
--- a line of a fault: 8F, the number of a line in two bytes, and one of 4 to 14, but never 7
-pub record IsFaultLine (number : ℕ) (line : List ℕ) : Type 0 where
-  pub long : length line ≡ 9
+-- a line of a fault: 8F, the number of the faulty line in two bytes, and the number that refuses it,
+-- one of 4 to 14, but never 7
+pub record IsFaultLine (number : ℕ) (refusal : Refusal) (line : List ℕ) : Type 0 where
+  pub long : length line ≡ fault_length
   pub kind : byte_of line 0 ≡ 0x8F
-  pub place : 2 ^ 8 * byte_of line 1 + byte_of line 2 ≡ number
+  pub place : two_bytes (byte_of line) 1 ≡ number
+  pub refused : number_on line ≡ refusal_number refusal
   pub listed : IsListed (number_on line)

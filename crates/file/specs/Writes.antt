@@ -13,6 +13,7 @@ use Rattle.reading.specs.Refusal.{refusal_number}
 use Rattle.reading.specs.Tables.{asks, entries, declared_by, rounds_allowed}
 use Rattle.reading.specs.File.{IsQuestionOf, tables_of, asked}
 use Rattle.reading.specs.Reading.{Reading, faulty, sound}
+use Rattle.reading.specs.Deeds.{SameLine, InStep}
 use Rattle.file.specs.Text.{fault_line, answer_line}
 use Rattle.file.specs.Rounds.{round_lines, RoundsTold}
 
@@ -48,6 +49,11 @@ FileRounds fs q = RoundsTold (collection_read fs q) (rounds_allowed fs) (entries
 -- the line after these frames is its first faulty one
 abbrev pub IsFaulty : List ℕ → List Frame → Refusal → Type 0
 IsFaulty input before r = Reading [] (lines input) (faulty before r)
+
+-- two inputs differ only in deed numbers: their lines are one by one the same, sound or not, or facts
+-- that differ only in their deed numbers, typed or left out
+abbrev pub SameButDeeds : List ℕ → List ℕ → Type 0
+SameButDeeds input other = InStep SameLine (lines input) (lines other)
 
 -- the number of the first faulty line, from 1, and the number that refuses it; or the rounds, and
 -- then each ask's answer

@@ -2,14 +2,14 @@
 // and an answer for each ask.
 #![tactic(auto)]
 
-ghost use Rattle.std.specs.Prelude.{◌≡◌, ◌≢◌, ◌+◌, ◌*◌, ◌<◌, ◌≤◌, ℕ, List, Some, None, Err, IfSome, IsOk, IsTrue, OnOk, length, drop, take};
+ghost use Rattle.std.specs.Prelude.{◌≡◌, ◌+◌, ◌*◌, ◌<◌, ◌≤◌, ℕ, List, Some, None, Err, IfSome, IsOk, IsTrue, OnOk, length, drop, take};
 ghost use Rattle.std.specs.Io.KnownBytes.{Keeps, Appends};
 ghost use Rattle.std.specs.declared.io.Error.{Error};
 ghost use Rattle.streams.specs.Takes.{TakesStart};
-ghost use Rattle.file.specs.Writes.{IsSound, IsAsking, IsFaulty, FileRounds, Writes};
-ghost use Rattle.file.specs.Serves.{Serves, message_of};
+ghost use Rattle.file.specs.Writes.{IsSound, IsAsking, IsFaulty, FileRounds, SameButDeeds, Writes};
+ghost use Rattle.file.specs.Serves.{Serves, AppendsUnspent};
 ghost use Rattle.streams.specs.Lines.{lines};
-ghost use Rattle.file.specs.Told.{round_length, answers_length, line_at, number_on};
+ghost use Rattle.file.specs.Told.{round_length, answers_length, line_at, number_on, IsUnspent};
 ghost use Rattle.tables.specs.Asks.{read_ask};
 ghost use Rattle.expression.specs.Listed.{Listed};
 ghost use Rattle.frames.specs.declared.Frame.{Frame};
@@ -18,9 +18,9 @@ ghost use Rattle.reading.specs.Laws.{IsListed};
 ghost use Rattle.reading.specs.Tables.{asks, entries, table, allowance_given};
 
 use kinds::{ConceptName, SignedRole, State};
-use reading::{ASKS, File, read};
-use replies::{copy_found, write_found};
-use std::{fmt, io};
+use reading::ASKS;
+use replies::Replies;
+pub use shell::ServeError;
 use streams::memory::{Bytes, Nowhere};
 use streams::{Sink, Source};
 
@@ -58,38 +58,18 @@ pub fn answer(input: &[u8], text: &mut [u8; MOST_TEXT]) -> usize
         → (k : ℕ) → k < entries asks fs
         → number_on (line_at (entries asks fs) (take result text.new) k) ≤ 3 }
     ensures unspent { (fs : List Frame) → IsSound input.now fs → allowance_given fs ≡ None
-        → (k : ℕ) → k < entries asks fs
-        → number_on (line_at (entries asks fs) (take result text.new) k) ≢ 3 }
+        → IsUnspent (entries asks fs) (take result text.new) }
     ensures fault { (before : List Frame) (r : Refusal) → IsFaulty input.now before r
         → IsListed (number_on (take result text.new)) }
+
+    // An input that differs only in deed numbers writes the same.
+    ensures deeds { (other : List ℕ) → SameButDeeds input.now other
+        → Writes other (take result text.new) }
 {
-    let mut file = File::new();
-    match read(Bytes::new(input), &mut file) {
-        Ok(found) => copy_found(found, &file, text),
-        // Bytes in memory are read without fail.
-        Err(_) => unreachable!(),
-    }
-}
-
-// Why nothing, or not all, is written.
-#[derive(Debug, Drop)]
-pub enum ServeError {
-    Unread(io::Error),
-    Unwritten(io::Error),
-}
-
-impl fmt::Display for ServeError {
-    ghost output = { λ e. Some (message_of e) };
-
-    ghost styled_output = { λ e _. Some (message_of e) };
-
-    fn fmt<W: fmt::Write>(&self, f: &mut fmt::Formatter<W>) -> fmt::Result {
-        match self {
-            ServeError::Unread(_) => f.write_str(
-                "standard input could not be read, so nothing is answered",
-            ),
-            ServeError::Unwritten(_) => f.write_str("standard output could not be written whole"),
-        }
+    match shell::answer(input, &Replies, text) {
+        Some(n) => n,
+        // No text is longer than its room.
+        None => unreachable!(),
     }
 }
 
@@ -100,6 +80,16 @@ pub fn serve<S: Source + Drop, K: Sink>(source: S, sink: &mut K) -> Result<(), S
     ensures only { OnOk result (IfSome (S.remaining source) (λ input.
         (out : List ℕ) → Writes input out
         → Appends (K.contents sink.old) (K.contents sink.new) out)) }
+
+    ensures unspent { OnOk result (IfSome (S.remaining source) (λ input.
+        (fs : List Frame) → IsSound input fs → allowance_given fs ≡ None
+        → Serves input (AppendsUnspent (entries asks fs)
+        (K.contents sink.old) (K.contents sink.new)))) }
+
+    // An input that differs only in deed numbers writes the same.
+    ensures deeds { OnOk result (IfSome (S.remaining source) (λ input.
+        (other : List ℕ) → SameButDeeds input other
+        → Serves other (Appends (K.contents sink.old) (K.contents sink.new)))) }
 
     // Where reading fails, the error is the source's, and the sink is as it was.
     ensures unread { (e : Error) → result ≡ Err (ServeError.Unread e) → S.fails e }
@@ -115,15 +105,7 @@ pub fn serve<S: Source + Drop, K: Sink>(source: S, sink: &mut K) -> Result<(), S
     // It makes no error of its own.
     ensures ok { ((e : Error) → ¬ S.fails e) → ((e : Error) → ¬ K.fails e) → IsOk result }
 {
-    let mut file = File::new();
-    let found = match read(source, &mut file) {
-        Ok(found) => found,
-        Err(e) => return Err(ServeError::Unread(e)),
-    };
-    match write_found(found, &file, sink) {
-        Ok(()) => Ok(()),
-        Err(e) => Err(ServeError::Unwritten(e)),
-    }
+    shell::serve(source, &Replies, sink)
 }
 
 // Between a source and a sink that never fail the desk does not fail either, whatever the input: it makes no error of

@@ -1,11 +1,17 @@
-use Rattle.file.proofs.Served.{served, served-only}
+use Rattle.file.proofs.Served.{on_ok, served, served-only, served-deeds, served-unspent}
 use Rattle.file.proofs.serve.Goals as goal
 
-pub returns-in-Ok-write_found-clause-written : goal.returns-in-Ok-write_found-clause-written
-returns-in-Ok-write_found-clause-written g c = served _ _ _ _ c.in-Ok.ensures.found c.in-Ok-write_found.ensures.ok
+pub returns-clause-written : goal.returns-clause-written
+returns-clause-written g c = on_ok c.serve.result (served (g.S.Source.remaining c.args.source) _) c.serve.ensures.written
 
-pub returns-in-Err-write_found-clause-started : goal.returns-in-Err-write_found-clause-started
-returns-in-Err-write_found-clause-started g c = λ e told. served _ _ _ _ c.in-Ok.ensures.found c.in-Err-write_found.ensures.err
+pub returns-clause-only : goal.returns-clause-only
+returns-clause-only g c = on_ok c.serve.result (served-only (g.S.Source.remaining c.args.source) _) c.serve.ensures.written
 
-pub returns-in-Ok-write_found-clause-only : goal.returns-in-Ok-write_found-clause-only
-returns-in-Ok-write_found-clause-only g c = served-only _ _ _ _ c.in-Ok.ensures.found c.in-Ok-write_found.ensures.ok
+pub returns-clause-unspent : goal.returns-clause-unspent
+returns-clause-unspent g c = on_ok c.serve.result (served-unspent (g.S.Source.remaining c.args.source) _ _) c.serve.ensures.written
+
+pub returns-clause-deeds : goal.returns-clause-deeds
+returns-clause-deeds g c = on_ok c.serve.result (served-deeds (g.S.Source.remaining c.args.source) _) c.serve.ensures.written
+
+pub returns-clause-started : goal.returns-clause-started
+returns-clause-started g c = λ e told. served (g.S.Source.remaining c.args.source) _ (c.serve.ensures.started e told)

@@ -1,14 +1,51 @@
-use Rattle.std.proofs.Common.{◌≢◌, arith}
-use Rattle.laws.specs.Truth.{test-false}
-use Rattle.file.specs.Replying.{ask_count}
-use Rattle.file.proofs.Answering.{nothing-asked}
+use Rattle.std.proofs.Common.{rules, ◌++◌, ◌∙◌, refl, subst}
+use Rattle.meaning.specs.Layout.{area_length}
+use Rattle.file.specs.Rounds.{round_lines}
+use Rattle.file.proofs.Answering.{is_own, replies-answer, counts-told}
+use Rattle.file.proofs.Listening.{rounds-put, rounds-failed}
+use Rattle.file.proofs.Turns.{passed_on}
 use Rattle.file.proofs.replies.tell_rounds.Goals as goal
 
-pub returns-then-is_empty-clause-ok : goal.returns-then-is_empty-clause-ok
-returns-then-is_empty-clause-ok g c =
-    nothing-asked c.args.file.now _ _ _ (c.automaton-automaton.ensures c.requires) (rw c.asks.ensures at (c.is_empty.ensures.0 c.if-is_empty.true)) (g.met.T.Taker.none _)
+pub returns-in_err-prepared-clause-err : goal.returns-in_err-prepared-clause-err
+returns-in_err-prepared-clause-err g c =
+    let file = c.args.file.now in
+    let its = c.requires.lent in
+    let q = its.tables.question in
+    let is = its.tables.is in
+    let some = c.requires.some in
+    let lent = is_own file q c.args.lent.collection c.args.lent.allowance area_length area_length its.counts its.tables.are its.allowance refl refl in
+    let (counts, rest, marks, failed) = c.in_err-prepared.ensures.failed in
+    let put = rounds-failed (λ l. l.to.ghost_name) (λ l. l.to.now) g.T.Taker.takes g.T.Taker.fails g.met.T.Taker.none g.met.T.Taker.more c.new-lines.result g.met.T.Taker.after g.met.T.Taker.before counts rest _ _ failed in
+    let same = put.0 in
+    let so = rw c.new-lines.ensures.to at put.1 in
+    passed_on c.from_residual.result _ _ c.from_residual.ensures.1
+    (record {
+      question = q;
+      is = is;
+      counts = counts ++ rest;
+      told = counts-told file c.requires.read q is some (counts ++ rest) (rw lent at marks);
+      so = subst (λ s. g.T.Taker.fails c.args.to.now (round_lines 0 (counts ++ rest)) c.in_err-prepared.field-0.0 s) (search rules) so;
+    })
 
-pub tell_asked-requires-clause-some : goal.tell_asked-requires-clause-some
-tell_asked-requires-clause-some g c =
-    let none : ask_count c.args.file.now ≢ 0 = rw c.asks.ensures at (test-false c.is_empty.ensures c.if-is_empty.false) in
-    omega (arith, none)
+pub returns-clause-ok : goal.returns-clause-ok
+returns-clause-ok g c =
+    let file = c.args.file.now in
+    let its = c.requires.lent in
+    let q = its.tables.question in
+    let is = its.tables.is in
+    let some = c.requires.some in
+    let lent = is_own file q c.args.lent.collection c.args.lent.allowance area_length area_length its.counts its.tables.are its.allowance refl refl in
+    let (counts, marks, told) = c.in_ok-prepared.ensures.told in
+    let made = c.in_ok-prepared.ensures.own ∙ lent in
+    let put = rounds-put (λ l. l.to.ghost_name) (λ l. l.to.now) g.T.Taker.takes g.T.Taker.fails g.met.T.Taker.none g.met.T.Taker.more c.new-lines.result told in
+    let same = put.0 in
+    let so = rw c.new-lines.ensures.to at put.1 in
+    replies-answer file _
+    (record {
+      question = q;
+      is = is;
+      counts = counts;
+      told = counts-told file c.requires.read q is some counts (rw lent at marks);
+      so = subst (λ s. g.T.Taker.takes c.args.to.now (round_lines 0 counts) s) (search rules) so;
+    })
+    _ (rw (made, c.asks-asks.ensures) at c.reply_all.ensures.answered)

@@ -3,7 +3,7 @@ use Rattle.std.specs.Slice.Iter.{iter_rest}
 use Rattle.expression.specs.Listed.{Listed}
 use Rattle.file.proofs.Each.{IsLeft}
 use Rattle.file.proofs.Turns.{Done}
-use Rattle.file.proofs.replies.write_answers.Given as goal
+use Rattle.file.proofs.replies.put_replies.Given as goal
 
 abbrev pub invariant-loop-ask : goal.invariant-loop-ask
 invariant-loop-ask g l = record {

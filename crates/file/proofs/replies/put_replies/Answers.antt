@@ -1,20 +1,23 @@
-use Rattle.std.proofs.Common.{refl, Iter, inl, inr, ⊎_elim, ap, ◌∙◌, arith}
+use Rattle.std.proofs.Common.{◌≢◌, refl, Iter, inl, inr, ⊎_elim, ap, ◌∙◌, arith}
 use Rattle.std.specs.Slice.Iter.{iter_rest}
+use Rattle.laws.specs.Truth.{test-false}
 use Rattle.kinds.specs.declared.Answer.{Answer}
 use Rattle.kinds.specs.declared.Ask.{Ask}
 use Rattle.tables.specs.declared.table.Records.{Records}
+use Rattle.file.specs.Replying.{ask_count}
+use Rattle.file.proofs.Answering.{nothing-asked}
 use Rattle.file.proofs.Each.{all_left, ask_in_bytes, answered_next, left_next, none_left}
 use Rattle.file.proofs.Turns.{passed_on, none_done, more_done, all_done, all_from}
-use Rattle.file.proofs.replies.write_answers.Goals as goal
+use Rattle.file.proofs.replies.put_replies.Goals as goal
 
 pub loop-ask-init : goal.loop-ask-init
 loop-ask-init g c =
     let z = c.zip-ask-items.ensures in
     let rest = ap (λ (i : Iter Answer). iter_rest i) z.second ∙ c.iter-2.ensures.rest in
-    let numbers = ap (λ (r : Records Ask). r.table.numbers.now) z.first ∙ ap (λ n. n.now) c.iter.ensures.numbers ∙ c.asks.ensures in
+    let numbers = ap (λ (r : Records Ask). r.table.numbers.now) z.first ∙ ap (λ n. n.now) c.iter.ensures.numbers ∙ c.asks-2.ensures in
     let first = ap (λ (r : Records Ask). r.next) z.first ∙ c.iter.ensures.first in
-    let worked = c.in_ok-work_out.ensures.ok in
-    let left = all_left _ _ _ c.work_out.new.answers _ c.requires numbers first rest (omega (arith, c.work_out.array_long)) worked in
+    let worked = c.in_ok-tell_rounds.ensures.ok in
+    let left = all_left _ _ _ c.tell_rounds.new.answers _ c.requires numbers first rest (omega (arith, c.tell_rounds.array_long)) worked in
     rw (c.into_iter-ask-iterator.ensures.into_iter_gives)
     (record { question = worked.rounds.question; here = left; done = rw first (none_done _ _ worked.rounds) })
 
@@ -35,10 +38,10 @@ loop-ask-preserved g c =
       done = rw p.0.0.after done;
     }
 
-pub returns-in_err-work_out-clause-err : goal.returns-in_err-work_out-clause-err
-returns-in_err-work_out-clause-err g c =
+pub returns-in_err-tell_rounds-clause-err : goal.returns-in_err-tell_rounds-clause-err
+returns-in_err-tell_rounds-clause-err g c =
     passed_on c.from_residual.result _ _ c.from_residual.ensures.1
-    (all_from c.args.file.now _ _ (λ x y t. g.met.T.Taker.before _ _ x y _ t) 0 (omega arith) (none_done _ _ c.in_err-work_out.ensures.err))
+    (all_from c.args.file.now _ _ (λ x y t. g.met.T.Taker.before _ _ x y _ t) 0 (omega arith) (none_done _ _ c.in_err-tell_rounds.ensures.err))
 
 pub returns-in_err-put_answer-clause-err : goal.returns-in_err-put_answer-clause-err
 returns-in_err-put_answer-clause-err g c =
@@ -54,3 +57,12 @@ pub returns-clause-ok : goal.returns-clause-ok
 returns-clause-ok g c =
     let v = c.loop-ask.invariant in
     all_done c.args.file.now v.question _ _ (none_left _ _ _ _ v.here (⊎_elim (λ n. inl n.1.0.0) (λ n. inr n.1.0) c.in-None.ensures.steps)) v.done
+
+pub returns-then-is_empty-clause-ok : goal.returns-then-is_empty-clause-ok
+returns-then-is_empty-clause-ok g c =
+    nothing-asked c.args.file.now _ _ c.collection.ensures.tables.is (rw c.asks.ensures at (c.is_empty.ensures.0 c.if-is_empty.true)) (g.met.T.Taker.none _)
+
+pub tell_rounds-requires-clause-some : goal.tell_rounds-requires-clause-some
+tell_rounds-requires-clause-some g c =
+    let none : ask_count c.args.file.now ≢ 0 = rw c.asks.ensures at (test-false c.is_empty.ensures c.if-is_empty.false) in
+    omega (arith, none)

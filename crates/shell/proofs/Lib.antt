@@ -1,0 +1,2 @@
+-- Laws that the functions' proofs cite.
+pub mod Reporting
