@@ -1,12 +1,13 @@
 //! The desk: whole input to whole output.
 
+use crate::answer::answers;
 use crate::bits::Places;
 use crate::clash::{individuals, Excluded};
 use crate::leave::leaving;
 use crate::order::Orders;
 use crate::read::{read, Fault, File, ANY};
 use crate::sheet::{along, close};
-use crate::walk::{Map, Walk};
+use crate::walk::Map;
 
 const NO: u8 = 0;
 const YES: u8 = 1;
@@ -47,14 +48,8 @@ pub fn desk(input: Vec<u8>) -> Vec<u8> {
         }
         Outcome::Walked(walked) => {
             let Walked { map, leaving, rounds } = *walked;
-            let mut walk = Walk::new(&map);
-            for &ask in &file.asks {
-                let reached = walk.from(ask.0, file.start);
-                let arrived = match ask.1 {
-                    ANY => reached.iter().zip(&leaving).fold(0, |all, (to, from)| all | to & from) != 0,
-                    second => reached[usize::from(second)] & file.finals != 0,
-                };
-                answer(&mut output, ask, if arrived { YES } else { NO }, rounds);
+            for (&ask, yes) in file.asks.iter().zip(answers(&file, &map, &leaving)) {
+                answer(&mut output, ask, if yes { YES } else { NO }, rounds);
             }
         }
     }

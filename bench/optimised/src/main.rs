@@ -10,9 +10,9 @@ fn main() -> ExitCode {
         eprintln!("standard input cannot be read");
         return ExitCode::FAILURE;
     }
-    // Whoever reads the output may stop before its end, so an error is told by the exit status only.
-    match std::io::stdout().write_all(&optimised::desk::desk(input)) {
-        Ok(()) => ExitCode::SUCCESS,
-        Err(_) => ExitCode::FAILURE,
+    if std::io::stdout().write_all(&optimised::desk::desk(input)).is_err() {
+        eprintln!("standard output cannot be written whole");
+        return ExitCode::FAILURE;
     }
+    ExitCode::SUCCESS
 }

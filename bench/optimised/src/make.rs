@@ -1,15 +1,8 @@
 //! The benchmark's files. A kind and a size give the same file everywhere.
 
-use crate::bits::Places;
-use crate::order::{neighbour, Orders};
-use crate::read::{read, File};
-use std::collections::{BTreeMap, BTreeSet};
+use crate::draft::{concept, Draft};
 
 const SEED: u64 = 1;
-
-/// Most records by frame kind; role steps and test steps share one table, kept here under 8.
-const MOST: [(u8, usize); 8] =
-    [(2, 512), (3, 512), (4, 128), (5, 128), (6, 1_024), (7, 4_096), (8, 512), (10, 16)];
 
 /// None where there is no such kind, or where a size is missing, superfluous or beyond what a file can have.
 pub fn make(kind: &str, size: Option<usize>) -> Option<Vec<u8>> {
@@ -112,154 +105,9 @@ const GROWING: Sizes = Sizes {
     ..LAYERED
 };
 
-/// splitmix64, one for each table, so that a table's size changes no other table.
-struct Dice(u64);
-
-impl Dice {
-    fn of(table: u8) -> Dice {
-        let mut dice = Dice(SEED);
-        dice.0 = dice.next() ^ u64::from(table);
-        dice
-    }
-
-    fn next(&mut self) -> u64 {
-        self.0 = self.0.wrapping_add(0x9E37_79B9_7F4A_7C15);
-        let mut mixed = self.0;
-        mixed = (mixed ^ (mixed >> 30)).wrapping_mul(0xBF58_476D_1CE4_E5B9);
-        mixed = (mixed ^ (mixed >> 27)).wrapping_mul(0x94D0_49BB_1331_11EB);
-        mixed ^ (mixed >> 31)
-    }
-
-    /// A number below `end`, which is above 0.
-    fn below(&mut self, end: usize) -> usize {
-        (self.next() % end as u64) as usize
-    }
-}
-
-/// A file on its way: line 1, and the frames of each table.
-struct Draft {
-    first: [u8; 6],
-    tables: BTreeMap<u8, Vec<Vec<u8>>>,
-}
-
-impl Draft {
-    fn new(counts: [usize; 5]) -> Draft {
-        let [names, roles, individuals, states, start] = counts.map(|count| count as u8);
-        Draft { first: [1, names, roles, individuals, states, start], tables: BTreeMap::new() }
-    }
-
-    fn put(&mut self, table: u8, frame: Vec<u8>) {
-        self.tables.entry(table).or_default().push(frame);
-    }
-
-    /// Different frames, as many as wanted, or as many as are found in a long time.
-    fn throw(&mut self, table: u8, wanted: usize, mut frame: impl FnMut(&mut Dice) -> Option<Vec<u8>>) {
-        let mut dice = Dice::of(table);
-        let mut seen = BTreeSet::new();
-        for _ in 0..1_000 * wanted {
-            if seen.len() == wanted {
-                break;
-            }
-            if let Some(frame) = frame(&mut dice).filter(|frame| seen.insert(frame.clone())) {
-                self.put(table, frame);
-            }
-        }
-    }
-
-    /// Repeated records mean nothing more, but they fill the tables.
-    fn fill(&mut self) {
-        for (table, most) in MOST {
-            let mut dice = Dice::of(table + 100);
-            if let Some(frames) = self.tables.get_mut(&table) {
-                let different = frames.len();
-                while frames.len() < most {
-                    frames.push(frames[dice.below(different)].clone());
-                }
-            }
-        }
-    }
-
-    /// Line 1, then all others in any order.
-    fn text(&self) -> Vec<u8> {
-        let mut frames: Vec<&[u8]> = self.tables.values().flatten().map(Vec::as_slice).collect();
-        let mut dice = Dice::of(0);
-        for last in (1..frames.len()).rev() {
-            frames.swap(last, dice.below(last + 1));
-        }
-        frames.insert(0, &self.first);
-        let line = |frame: &[u8]| frame.iter().map(|byte| format!("{byte:02X}")).collect::<String>() + "\n";
-        frames.into_iter().map(line).collect::<String>().into_bytes()
-    }
-
-    /// Exclusions that nothing breaks, so that the rounds and the walk are worked and measured.
-    fn throw_exclusions(&mut self, concepts: usize, roles: usize) {
-        let shown = Shown::of(&self.text());
-        let (names, signed) = (usize::from(self.first[1]), 2 * usize::from(self.first[2]));
-        self.throw(3, concepts, |dice| {
-            let (left, right) =
-                (concept(dice.below(names + signed), names), concept(dice.below(names + signed), names));
-            let broken = shown.elements.iter().any(|has| has >> left & has >> right & 1 == 1);
-            (!broken).then(|| vec![3, left as u8, right as u8])
-        });
-        self.throw(5, roles, |dice| {
-            let (left, right) = (dice.below(signed), dice.below(signed));
-            let broken = shown.pairs.iter().any(|has| has >> left & has >> right & 1 == 1);
-            (!broken).then(|| vec![5, left as u8, right as u8])
-        });
-    }
-}
-
-/// Basic concepts counted through: the names, then ∃R for each signed role.
-fn concept(place: usize, names: usize) -> usize {
-    if place < names {
-        place
-    } else {
-        64 + place - names
-    }
-}
-
-/// The concepts of every element and the signed roles of every pair, each kind of unnamed one once.
-struct Shown {
-    elements: Vec<u128>,
-    pairs: Vec<u64>,
-}
-
-impl Shown {
-    fn of(text: &[u8]) -> Shown {
-        let mut file = File::empty();
-        read(text.to_vec(), &mut file).expect("a sound file");
-        let orders = Orders::of(&file);
-        let mut elements = Vec::new();
-        for individual in 0..usize::from(file.individuals) {
-            let names = Places(file.typed_names[individual]);
-            let typed = names.chain(Places(file.typed_roles[individual]).map(neighbour));
-            elements.push(typed.fold(0, |has, typed| has | orders.concepts[typed]));
-        }
-        let mut joined: BTreeMap<(u8, u8), u64> = BTreeMap::new();
-        for fact in &file.facts {
-            let role = usize::from(fact.role);
-            *joined.entry((fact.first, fact.second)).or_default() |= orders.roles[role];
-            *joined.entry((fact.second, fact.first)).or_default() |= orders.roles[role ^ 1];
-        }
-        let mut pairs: Vec<u64> = joined.into_values().collect();
-        let mut known = 0u64;
-        let mut next = 0;
-        while next < elements.len() {
-            let children = (elements[next] >> 64) as u64 & !known;
-            known |= children;
-            for role in Places(children) {
-                elements.push(orders.concepts[neighbour(role ^ 1)]);
-                pairs.extend([orders.roles[role], orders.roles[role ^ 1]]);
-            }
-            next += 1;
-        }
-        Shown { elements, pairs }
-    }
-}
-
 fn thrown(sizes: &Sizes) -> Vec<u8> {
     let Sizes { names, roles, individuals, states, layers, groups, .. } = *sizes;
-    let mut draft = Draft::new([names, roles, individuals, states, 0]);
+    let mut draft = Draft::new(SEED, [names, roles, individuals, states, 0]);
     let layered = layers > 1;
     // Where rules lead anywhere, nearly everybody has everything. So that some exclusions are harmless, the last
     // names and the last role are left out of rules and facts.
@@ -323,7 +171,7 @@ fn chain() -> Vec<u8> {
     const DOWN: u8 = 7;
     const UP: u8 = 9;
     const RING: u8 = 31;
-    let mut draft = Draft::new([64, usize::from(RING) + 1, 255, usize::from(DOWN + UP), 0]);
+    let mut draft = Draft::new(SEED, [64, usize::from(RING) + 1, 255, usize::from(DOWN + UP), 0]);
     // The neighbour by the role itself and by its inverse.
     let (down, up) = (|role: u8| 64 + 2 * (role % RING), |role: u8| 65 + 2 * (role % RING));
     for role in 0..RING {
@@ -365,7 +213,7 @@ fn filled(mut draft: Draft, roles: u8) -> Vec<u8> {
 fn laps() -> Vec<u8> {
     const RING: u8 = 31 - BRIDGES.len() as u8;
     const STRAIGHT: u8 = 31;
-    let mut draft = Draft::new([64, 32, 255, 16, 0]);
+    let mut draft = Draft::new(SEED, [64, 32, 255, 16, 0]);
     // The neighbour by the role itself and by its inverse.
     let (down, up) = (|role: u8| 64 + 2 * role, |role: u8| 65 + 2 * role);
     for role in 0..RING {

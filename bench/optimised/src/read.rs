@@ -1,6 +1,7 @@
 //! The reader: one pass over the input, eight characters at a time, each record put at once where it is used.
 
 use crate::bits::Relation;
+use crate::expression;
 
 /// No line beyond the 7,187th is reached, and a line is decided by its first 65 characters.
 pub const MOST_READ: usize = 7_187 * 65;
@@ -202,6 +203,8 @@ fn broken_line(from_here: &[u8]) -> u8 {
         [b'0', b'1'] => 12,
         [b'0', b'0'] => 0,
         [b'0', low @ b'2'..=b'9'] => LENGTHS[usize::from(low - b'0')],
+        // Any number of marks.
+        [b'0', b'D'] => line.len() as u8,
         [b'0', low @ b'A'..=b'E'] => LENGTHS[usize::from(low - b'A' + 10)],
         _ => 0,
     };
@@ -213,6 +216,16 @@ fn broken_line(from_here: &[u8]) -> u8 {
     }
 }
 
+/// The marks of a frame 0D, where these bytes begin with a line that is one.
+fn marks(from_here: &[u8]) -> Option<Vec<u8>> {
+    let line = from_here.split(|byte| *byte == b'\n').next()?;
+    let digit = |byte: &u8| matches!(byte, b'0'..=b'9' | b'A'..=b'F');
+    let whole = line.len() <= 64 && line.len() % 2 == 0 && line.iter().all(digit);
+    let value = |byte: u8| (byte & 15) + 9 * (byte >> 6);
+    let bytes = |line: &[u8]| line.chunks(2).map(|pair| value(pair[0]) << 4 | value(pair[1])).collect();
+    whole.then(|| bytes(line.get(2..).unwrap_or_default()))
+}
+
 #[inline(never)]
 fn other_lines(input: &[u8], end: usize, file: &mut File, line: &mut u16) -> Result<(), u8> {
     let mut rules = 0;
@@ -222,6 +235,7 @@ fn other_lines(input: &[u8], end: usize, file: &mut File, line: &mut u16) -> Res
     let mut concept_facts = 0;
     let mut steps = 0;
     let mut finals = 0;
+    let mut expressed = false;
     let (names, signed, individuals, states) = (file.names, file.signed, file.individuals, file.states);
     let mut at = 13;
     while at < end {
@@ -229,6 +243,16 @@ fn other_lines(input: &[u8], end: usize, file: &mut File, line: &mut u16) -> Res
         let characters = word(input, at);
         let bytes = bytes(characters);
         let (kind, x, y, z) = (bytes as u8, (bytes >> 16) as u8, (bytes >> 32) as u8, (bytes >> 48) as u8);
+        if kind == 13 {
+            let marks = marks(&input[at..end]).ok_or_else(|| broken_line(&input[at..end]))?;
+            if expressed || steps + finals > 0 {
+                return Err(11);
+            }
+            expression::put(&marks, file)?;
+            expressed = true;
+            at += 2 * marks.len() + 3;
+            continue;
+        }
         let length = usize::from(LENGTHS[usize::from(kind)]);
         if length == 0 || no_digit(characters) << (64 - 8 * length) != 0 {
             return Err(broken_line(&input[at..end]));
@@ -284,6 +308,7 @@ fn other_lines(input: &[u8], end: usize, file: &mut File, line: &mut u16) -> Res
                 file.degrees[usize::from(z)] += 1;
                 file.facts.push(Fact { role, first: y, second: z });
             }
+            8..=10 if expressed => return Err(11),
             8 => {
                 put(&mut steps, 512, x < states && y < signed && z < states)?;
                 file.role_steps[usize::from(y & 63)].add(x, z);

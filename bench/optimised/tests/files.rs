@@ -3,6 +3,8 @@
 use optimised::desk::desk;
 use optimised::make::make;
 use optimised::plot::plot;
+use optimised::spread;
+use optimised::strip::strip;
 use std::collections::BTreeMap;
 
 /// How often each answer comes, and the rounds.
@@ -86,4 +88,35 @@ fn the_plot_has_a_panel_for_each_series_and_a_line_for_each_program() {
     assert_eq!(svg.matches("font-weight").count(), 2);
     assert_eq!(svg.matches("<polyline").count(), 4);
     assert!(plot("facts\t1\tdesk\n").is_none() && plot("").is_none());
+}
+
+#[test]
+fn the_spread_is_sound_and_of_its_size() {
+    for (size, most) in [("large", 5_001), ("small", 151)] {
+        for (kind, seed) in spread::KINDS.into_iter().flat_map(|kind| [(kind, 1), (kind, 2)]) {
+            let file = spread::make(kind, size, seed).expect("a kind and a size");
+            let lines = file.split(|byte| *byte == b'\n').count() - 1;
+            assert!((most * 4 / 5..=most).contains(&lines), "{kind} {size} {seed}: {lines} lines");
+            let output = String::from_utf8(desk(file)).expect("text");
+            let numbers = output.lines().filter_map(|line| match &line[..2] {
+                "8B" => Some(&line[6..8]),
+                "8E" => Some(&line[4..6]),
+                "8A" => None,
+                _ => panic!("{kind} {size} {seed}: {line}"),
+            });
+            let numbers: Vec<&str> = numbers.collect();
+            let contradicts = kind == "contradictions";
+            assert!(!numbers.is_empty() && numbers.iter().all(|number| (*number == "02") == contradicts));
+            assert!(numbers.iter().all(|number| *number < "03"), "{kind} {size} {seed}");
+        }
+    }
+    assert!(spread::make("more", "large", 1).is_none() && spread::make("chains", "medium", 1).is_none());
+    assert!(spread::make("chains", "small", 1) != spread::make("chains", "small", 2));
+}
+
+#[test]
+fn the_plot_of_the_spread_has_a_dot_for_each_file_and_a_bar_for_each_kind() {
+    let svg = strip("a\tlarge\t30\t10\na\tlarge\t20\t10\na\tsmall\t9\t10\n").expect("files");
+    assert_eq!((svg.matches("<circle").count(), svg.matches("stroke-width").count()), (3, 2));
+    assert!(strip("a\tlarge\t30\n").is_none() && strip("a\tlarge\t1\t0\n").is_none() && strip("").is_none());
 }

@@ -6,7 +6,11 @@ use std::process::ExitCode;
 const USAGE: &str =
     "files make KIND [SIZE]   a file to measure with: least, medium, dense, layered, chain or laps; with a size:
                          facts (0 to 4096), rules (0 to 512), states (1 to 16) or asks (0 to 256)
-files plot               lines of series, size, program and instructions, parted by tabs, to an SVG";
+files spread KIND SIZE SEED
+                         one of the spread: expressions, clusters, few-roles, many-roles, contradictions, chains or
+                         ladders; large or small
+files plot               lines of series, size, program and instructions, parted by tabs, to an SVG
+files strip              lines of kind, size, the desk's instructions and the optimised program's, likewise";
 
 fn main() -> ExitCode {
     let words: Vec<String> = std::env::args().skip(1).collect();
@@ -14,7 +18,11 @@ fn main() -> ExitCode {
     let output = match words[..] {
         ["make", kind] => optimised::make::make(kind, None),
         ["make", kind, size] => size.parse().ok().and_then(|size| optimised::make::make(kind, Some(size))),
-        ["plot"] => plot(),
+        ["spread", kind, size, seed] => {
+            seed.parse().ok().and_then(|seed| optimised::spread::make(kind, size, seed))
+        }
+        ["plot"] => drawn(optimised::plot::plot),
+        ["strip"] => drawn(optimised::strip::strip),
         _ => None,
     };
     let Some(output) = output else {
@@ -28,7 +36,8 @@ fn main() -> ExitCode {
     }
 }
 
-fn plot() -> Option<Vec<u8>> {
+/// The plot of the table on standard input.
+fn drawn(plot: impl Fn(&str) -> Option<String>) -> Option<Vec<u8>> {
     let table = std::io::read_to_string(std::io::stdin()).ok()?;
-    optimised::plot::plot(&table).map(String::into_bytes)
+    plot(&table).map(String::into_bytes)
 }
