@@ -13,7 +13,7 @@ use Rattle.sets.specs.Bits.{Has}
 use Rattle.sets.specs.Rows.{no_states}
 use Rattle.sets.specs.declared.states.StateSet.{StateSet}
 use Rattle.expression.specs.Marks.{mark_letter}
-use Rattle.expression.specs.Tree.{Tree, both, either, MarkReads, itself, in_first, in_second, in_this, in_that, in_many, MayPrecede, start, after, StepsInto, EndsAt, nothing, ending, CanBeFirst, CanFollow}
+use Rattle.expression.specs.Tree.{Tree, MarkReads, itself, in_first, in_second, in_this, in_that, in_many, MayPrecede, start, after, StepsInto, EndsAt, nothing, ending, CanBeFirst, CanFollow}
 use Rattle.expression.specs.Numbered.{Numbered, number, numbers, numbers_or, numbers_many}
 use Rattle.expression.specs.Grammar.{Expression, IsExpression}
 use Rattle.expression.specs.Ends.{ExpressionEnds}
@@ -36,16 +36,16 @@ use Rattle.expression.proofs.TableLaws.{steps-back, finals-back}
 -- each number of a part is that of a mark, which reads something
 has-mark : {n m k : ℕ} {e : Tree} → Numbered n e m → In n m k → (l : Letter) × MarkReads e k l
 has-mark (number {l = l} p q) i = let a = i.low in let b = i.high in (l, itself (omega arith) refl)
-has-mark {n = n} {m = m} {k = k} (numbers {h = h} {e = e} {f = f} c d) i = side (dec_lt h k) (λ g. has-mark c g) (λ g. has-mark d g)
-  where
-    side : Dec (h < k) → (In n h k → (l : Letter) × MarkReads e k l) → (In h m k → (l : Letter) × MarkReads f k l) → (l : Letter) × MarkReads (both e f) k l
-    side (yes g) p q = let x = q (record { low = g; high = i.high }) in (x.0, in_second x.1)
-    side (no g) p q = let x = p (record { low = i.low; high = omega arith }) in (x.0, in_first x.1)
-has-mark {n = n} {m = m} {k = k} (numbers_or {h = h} {e = e} {f = f} c d) i = side (dec_lt h k) (λ g. has-mark c g) (λ g. has-mark d g)
-  where
-    side : Dec (h < k) → (In n h k → (l : Letter) × MarkReads e k l) → (In h m k → (l : Letter) × MarkReads f k l) → (l : Letter) × MarkReads (either e f) k l
-    side (yes g) p q = let x = q (record { low = g; high = i.high }) in (x.0, in_that x.1)
-    side (no g) p q = let x = p (record { low = i.low; high = omega arith }) in (x.0, in_this x.1)
+has-mark {k = k} (numbers {h = h} c d) i =
+    elim (dec_lt h k) [
+      | yes g ↦ let x = has-mark d (record { low = g; high = i.high }) in (x.0, in_second x.1)
+      | no g ↦ let x = has-mark c (record { low = i.low; high = omega arith }) in (x.0, in_first x.1)
+    ]
+has-mark {k = k} (numbers_or {h = h} c d) i =
+    elim (dec_lt h k) [
+      | yes g ↦ let x = has-mark d (record { low = g; high = i.high }) in (x.0, in_that x.1)
+      | no g ↦ let x = has-mark c (record { low = i.low; high = omega arith }) in (x.0, in_this x.1)
+    ]
 has-mark (numbers_many c) i = let x = has-mark c i in (x.0, in_many x.1)
 
 -- tables of the steps and final states of an expression
@@ -135,11 +135,7 @@ module _ (row : List ℕ) where
             )
 
         in-row : (j k : ℕ) → j < 16 → k < 16 → InRow all j k ↔ MayPrecede g.tree j k
-        in-row j k h i = side (ℕ_discrete j 0)
-          where
-            side : Dec (j ≡ 0) → InRow all j k ↔ MayPrecede g.tree j k
-            side (yes e) = rw e (row_zero k i)
-            side (no e) = row_other j k (omega arith) h i
+        in-row j k h i = elim (ℕ_discrete j 0) [ yes e ↦ rw e (row_zero k i) | no e ↦ row_other j k (omega arith) h i ]
 
         -- the steps listed
         step-in : (s : State) (l : Letter) (t : State) → StepsInto g.tree s.0 l t.0 → step s l t ∈ steps_below all letters 256

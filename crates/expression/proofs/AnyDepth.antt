@@ -77,11 +77,13 @@ mutual
       (sequences w.0 v.0, v.1)
 
 fine : (row : List ℕ) → (TooDeep row → ⊥) → Fine 8 row
-fine row h = record { at = λ i m. side i m (dec_lt (times 0x81 (take i row) + 8) (times 0x80 (take i row))) }
-  where
-    side : (i : ℕ) → i ≤ length row → Dec (times 0x81 (take i row) + 8 < times 0x80 (take i row)) → times 0x80 (take i row) ≤ 8 + times 0x81 (take i row)
-    side i m (yes p) = absurd (h (record { place = i; within = m; passes = record { over = p } }))
-    side i m (no p) = omega arith
+fine row h = record {
+  at = λ i m.
+      elim (dec_lt (times 0x81 (take i row) + 8) (times 0x80 (take i row))) [
+        | yes p ↦ absurd (h (record { place = i; within = m; passes = record { over = p } }))
+        | no p ↦ omega arith
+      ];
+}
 
 -- THE LAW
 pub any-depth : {d m : ℕ} {row : List ℕ} {e : Tree} → Expression d 0 row e m [] → (TooDeep row → ⊥) → IsExpression row e m

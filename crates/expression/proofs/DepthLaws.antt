@@ -56,12 +56,12 @@ module _ (row : List ℕ) where
           closes = closes-more;
           few = let a = w.few in omega (arith, bit-one (eqb (slice_index_or row i 0) 0x80));
           fewer = let a = w.fewer in omega (arith, bit-one (eqb (slice_index_or row i 0) 0x81));
-          none = λ k l z. side k l z (ℕ_discrete k (i + 1));
+          none = λ k l z.
+              elim (ℕ_discrete k (i + 1)) [
+                | yes e ↦ f (let v = z.over in omega (arith, opens-more, closes-more, rw e at v))
+                | no e ↦ w.none k (omega arith) z
+              ];
         }
-      where
-        side : (k : ℕ) → k ≤ i + 1 → PassesAt row k → Dec (k ≡ i + 1) → ⊥
-        side k l z (yes e) = f (let v = z.over in omega (arith, opens-more, closes-more, rw e at v))
-        side k l z (no e) = w.none k (omega arith) z
 
     pub scan-found : q + 8 < p → TooDeep row
     scan-found f = record { place = i + 1; within = omega arith; passes = record { over = omega (arith, opens-more, closes-more) } }

@@ -1,7 +1,6 @@
 -- The loops that list steps and final states, and what stands in the lists.
-use Rattle.std.specs.Prelude.{◌≡◌, refl, ◌⊎◌, Bool, true, false, List, [], ◌∷◌, ◌++◌, map, flat_map, take, set, length, ℕ, zero, suc, ◌+◌, ◌*◌, ◌/◌, ◌%◌, ◌<◌, slice_index_or}
+use Rattle.std.specs.Prelude.{◌≡◌, refl, ◌⊎◌, Bool, true, false, List, [], ◌∷◌, ◌++◌, map, flat_map, take, set, length, ℕ, zero, suc, ◌+◌, ◌/◌, ◌%◌, ◌<◌}
 use Rattle.std.proofs.Common.{sym, ap, ap₂, ◌∙◌, inl, inr, ⊎_elim, arith, add-one, append-nil}
-use Rattle.std.proofs.lemmas.Bool.{false≢true}
 use Rattle.std.proofs.lemmas.Grind.{flat_map-append}
 use Rattle.std.proofs.lemmas.List.{map-append, take_more_set}
 use Rattle.std.proofs.Math.Decide.{ℕ_discrete}
@@ -10,116 +9,47 @@ use Rattle.kinds.specs.declared.State.{State}
 use Rattle.kinds.specs.Kinds.{state}
 use Rattle.laws.specs.Member.{◌∈◌}
 use Rattle.laws.specs.Search.{pick}
+use Rattle.laws.specs.Truth.{test-fails}
 use Rattle.meaning.specs.Collection.{Step}
 use Rattle.sets.specs.Bits.{has, Has}
-use Rattle.sets.specs.Rows.{state_marks, no_states}
+use Rattle.sets.specs.Rows.{state_marks}
 use Rattle.sets.specs.declared.states.StateSet.{StateSet}
 use Rattle.sets.proofs.RowLaws.{has_fact}
 use Rattle.expression.specs.Parts.{InRow}
 use Rattle.expression.specs.Listed.{step_numbers, final_number, step_rank, Rises, empty, begins}
-use Rattle.expression.specs.Listing.{step_of, steps_below, finals_below}
+use Rattle.expression.specs.Listing.{step_of, listed_below, steps_below, finals_below}
 
-on : (n k : ℕ) → Has n k → has n k ≡ true
-on n k h = (has_fact n k).1 h
+module _ {A : Type 0} (p : ℕ → Bool) (x : ℕ → A) where
+  -- one number more, which passes or not
+  more-on : (k : ℕ) → p k ≡ true → listed_below p x (k + 1) ≡ listed_below p x k ++ (x k ∷ [])
+  unfolding listed_below
+  more-on k e = ap (listed_below p x) (add-one k) ∙ ap (λ (b : Bool). listed_below p x k ++ pick b (x k ∷ []) []) e
 
-off : (n k : ℕ) → (Has n k → ⊥) → has n k ≡ false
-off n k h = by (has n k) refl
-  where
-    by : (b : Bool) → has n k ≡ b → has n k ≡ false
-    by true e = absurd (h ((has_fact n k).0 e))
-    by false e = e
+  more-off : (k : ℕ) → p k ≡ false → listed_below p x (k + 1) ≡ listed_below p x k
+  unfolding listed_below
+  more-off k e =
+      ap (listed_below p x) (add-one k) ∙ ap (λ (b : Bool). listed_below p x k ++ pick b (x k ∷ []) []) e ∙ append-nil (listed_below p x k)
 
--- the loop over places
-module _ (rows : List StateSet) (letters : List ℕ) where
-  pub steps_none : [] ≡ flat_map step_numbers (steps_below rows letters 0)
-  unfolding steps_below
-  steps_none = refl
-
-  module _ (p : ℕ) where
-    pub steps_on : InRow rows (p / 16) (p % 16) → {t u v : List ℕ} → t ≡ flat_map step_numbers (steps_below rows letters p) → u ≡ step_numbers (step_of letters p) → v ≡ t ++ u
-        → v ≡ flat_map step_numbers (steps_below rows letters (p + 1))
-    unfolding steps_below
-    steps_on h {t} {u} {v} x y z =
-        z ∙ ap₂ ◌++◌ x (y ∙ sym (append-nil (step_numbers (step_of letters p)))) ∙ sym (flat_map-append step_numbers (steps_below rows letters p) (step_of letters p ∷ []))
-        ∙ ap (λ (b : Bool). flat_map step_numbers (steps_below rows letters p ++ pick b (step_of letters p ∷ []) [])) (sym (on (slice_index_or rows (p / 16) no_states).0 (p % 16) h))
-        ∙ ap (λ (j : ℕ). flat_map step_numbers (steps_below rows letters j)) (sym (add-one p))
-
-    pub steps_off : (InRow rows (p / 16) (p % 16) → ⊥) → {t : List ℕ} → t ≡ flat_map step_numbers (steps_below rows letters p) → t ≡ flat_map step_numbers (steps_below rows letters (p + 1))
-    unfolding steps_below
-    steps_off h {t} x =
-        x ∙ ap (flat_map step_numbers) (sym (append-nil (steps_below rows letters p)))
-        ∙ ap (λ (b : Bool). flat_map step_numbers (steps_below rows letters p ++ pick b (step_of letters p ∷ []) [])) (sym (off (slice_index_or rows (p / 16) no_states).0 (p % 16) h))
-        ∙ ap (λ (j : ℕ). flat_map step_numbers (steps_below rows letters j)) (sym (add-one p))
-
--- the loop over states
-module _ (m : StateSet) where
-  pub finals_none : [] ≡ map final_number (finals_below m 0)
-  unfolding finals_below
-  finals_none = refl
-
-  module _ (k : ℕ) where
-    pub finals_on : Has m.0 k → (out : List ℕ) (used : ℕ) → used < length out → take used out ≡ map final_number (finals_below m k)
-        → take (used + 1) (set out used k) ≡ map final_number (finals_below m (k + 1))
-    unfolding finals_below
-    finals_on h out used l x =
-        take_more_set out used k l ∙ ap (λ (t : List ℕ). t ++ (k ∷ [])) x ∙ sym (map-append final_number (finals_below m k) (state k ∷ []))
-        ∙ ap (λ (b : Bool). map final_number (finals_below m k ++ pick b (state k ∷ []) [])) (sym (on m.0 k h))
-        ∙ ap (λ (j : ℕ). map final_number (finals_below m j)) (sym (add-one k))
-
-    pub finals_off : (Has m.0 k → ⊥) → {t : List ℕ} → t ≡ map final_number (finals_below m k) → t ≡ map final_number (finals_below m (k + 1))
-    unfolding finals_below
-    finals_off h {t} x =
-        x ∙ ap (map final_number) (sym (append-nil (finals_below m k)))
-        ∙ ap (λ (b : Bool). map final_number (finals_below m k ++ pick b (state k ∷ []) [])) (sym (off m.0 k h))
-        ∙ ap (λ (j : ℕ). map final_number (finals_below m j)) (sym (add-one k))
-
--- what stands in the lists
-module _ (rows : List StateSet) (letters : List ℕ) where
-  pub steps-sound : (i : ℕ) (s : Step) → s ∈ steps_below rows letters i → (p : ℕ) × (p < i) × InRow rows (p / 16) (p % 16) × (s ≡ step_of letters p)
-  unfolding steps_below
-  steps-sound zero s m = absurd (Memᴰ.not-nil m)
-  steps-sound (suc i) s m = side (state_marks rows (i / 16) (i % 16)) refl (Memᴰ.append_cases (steps_below rows letters i) m) (steps-sound i s)
+  -- what stands in the list
+  sound : (i : ℕ) (s : A) → s ∈ listed_below p x i → (k : ℕ) × (k < i) × (p k ≡ true) × (s ≡ x k)
+  unfolding listed_below
+  sound zero s m = absurd (Memᴰ.not-nil m)
+  sound (suc i) s m = side (p i) refl (Memᴰ.append_cases (listed_below p x i) m) (sound i s)
     where
-      side : (b : Bool) → state_marks rows (i / 16) (i % 16) ≡ b → (s ∈ steps_below rows letters i) ⊎ (s ∈ pick b (step_of letters i ∷ []) [])
-          → (s ∈ steps_below rows letters i → (p : ℕ) × (p < i) × InRow rows (p / 16) (p % 16) × (s ≡ step_of letters p))
-          → (p : ℕ) × (p < suc i) × InRow rows (p / 16) (p % 16) × (s ≡ step_of letters p)
+      side : (b : Bool) → p i ≡ b → (s ∈ listed_below p x i) ⊎ (s ∈ pick b (x i ∷ []) [])
+          → (s ∈ listed_below p x i → (k : ℕ) × (k < i) × (p k ≡ true) × (s ≡ x k)) → (k : ℕ) × (k < suc i) × (p k ≡ true) × (s ≡ x k)
       side b e (inl k) r = let w = r k in let l = w.1 in (w.0, omega arith, w.2, w.3)
-      side true e (inr k) r = ⊎_elim (λ q. (i, omega arith, (has_fact _ _).0 e, q)) (λ n. absurd (Memᴰ.not-nil n)) (Memᴰ.cases_cons k)
+      side true e (inr k) r = ⊎_elim (λ q. (i, omega arith, e, q)) (λ n. absurd (Memᴰ.not-nil n)) (Memᴰ.cases_cons k)
       side false e (inr k) r = absurd (Memᴰ.not-nil k)
 
-  pub steps-full : (i p : ℕ) → p < i → InRow rows (p / 16) (p % 16) → step_of letters p ∈ steps_below rows letters i
-  unfolding steps_below
-  steps-full zero p h o = absurd (omega arith)
-  steps-full (suc i) p h o = side (state_marks rows (i / 16) (i % 16)) refl (λ k. steps-full i p k o) (ℕ_discrete p i)
-    where
-      side : (b : Bool) → state_marks rows (i / 16) (i % 16) ≡ b → (p < i → step_of letters p ∈ steps_below rows letters i) → Dec (p ≡ i)
-          → step_of letters p ∈ (steps_below rows letters i ++ pick b (step_of letters i ∷ []) [])
-      side b e r (no z) = Memᴰ.append_left (pick b (step_of letters i ∷ []) []) (r (omega arith))
-      side true e r (yes z) = Memᴰ.append_right (steps_below rows letters i) (Memᴰ.head (ap (step_of letters) z))
-      side false e r (yes z) = absurd (false≢true (sym e ∙ on (slice_index_or rows (i / 16) no_states).0 (i % 16) (rw z at o)))
-
-module _ (m : StateSet) where
-  pub finals-sound : (i : ℕ) (s : State) → s ∈ finals_below m i → (s.0 < i) × Has m.0 s.0
-  unfolding finals_below
-  finals-sound zero s n = absurd (Memᴰ.not-nil n)
-  finals-sound (suc i) s n = side (has m.0 i) refl (Memᴰ.append_cases (finals_below m i) n) (finals-sound i s)
-    where
-      side : (b : Bool) → has m.0 i ≡ b → (s ∈ finals_below m i) ⊎ (s ∈ pick b (state i ∷ []) []) → (s ∈ finals_below m i → (s.0 < i) × Has m.0 s.0)
-          → (s.0 < suc i) × Has m.0 s.0
-      side b e (inl x) r = let w = r x in let l = w.0 in (omega arith, w.1)
-      side true e (inr x) r =
-          ⊎_elim (λ q. let z : s.0 ≡ i = ap final_number q in (omega arith, rw z ((has_fact m.0 i).0 e))) (λ y. absurd (Memᴰ.not-nil y)) (Memᴰ.cases_cons x)
-      side false e (inr x) r = absurd (Memᴰ.not-nil x)
-
-  pub finals-full : (i : ℕ) (s : State) → s.0 < i → Has m.0 s.0 → s ∈ finals_below m i
-  unfolding finals_below
-  finals-full zero s h o = absurd (omega arith)
-  finals-full (suc i) s h o = side (has m.0 i) refl (λ l. finals-full i s l o) (ℕ_discrete s.0 i)
-    where
-      side : (b : Bool) → has m.0 i ≡ b → (s.0 < i → s ∈ finals_below m i) → Dec (s.0 ≡ i) → s ∈ (finals_below m i ++ pick b (state i ∷ []) [])
-      side b e r (no z) = Memᴰ.append_left (pick b (state i ∷ []) []) (r (omega arith))
-      side true e r (yes z) = Memᴰ.append_right (finals_below m i) (Memᴰ.head (ap state z))
-      side false e r (yes z) = absurd (false≢true (sym e ∙ on m.0 i (rw z at o)))
+  full : (i k : ℕ) → k < i → p k ≡ true → x k ∈ listed_below p x i
+  unfolding listed_below
+  full zero k h o = absurd (omega arith)
+  full (suc i) k h o =
+      elim (ℕ_discrete k i) [
+        | yes z ↦ Memᴰ.append_right (listed_below p x i) (rw (← z, o) (Memᴰ.head refl))
+        | no z ↦ Memᴰ.append_left (pick (p i) (x i ∷ []) []) (full i k (omega arith) o)
+      ]
 
 -- lists that rise
 module _ {A : Type 0} (rank : A → ℕ) where
@@ -147,25 +77,71 @@ module _ {A : Type 0} (rank : A → ℕ) where
       same (inr i) (inl e) = sym e
       same (inr i) (inr k) = absurd (let a = g x i in let b = f y k in omega arith)
 
-pub steps-rise : (rows : List StateSet) (letters : List ℕ) (i : ℕ) → Rises step_rank (steps_below rows letters i)
-unfolding steps_below
-steps-rise rows letters zero = empty
-steps-rise rows letters (suc i) = side (state_marks rows (i / 16) (i % 16)) (steps-rise rows letters i)
-  where
-    side : (b : Bool) → Rises step_rank (steps_below rows letters i) → Rises step_rank (steps_below rows letters i ++ pick b (step_of letters i ∷ []) [])
-    side true r =
-        rises-snoc step_rank r (λ y m.
-        let w = steps-sound rows letters i y m in
-        let l = w.1 in
-        let e : step_rank y ≡ 16 * (w.0 / 16) + w.0 % 16 = ap step_rank w.3 in
-        omega arith)
-    side false r = rw (append-nil (steps_below rows letters i)) r
+  -- so does what is listed, where what stands at a higher number has a higher rank
+  listed-rise : (p : ℕ → Bool) (x : ℕ → A) → ((j k : ℕ) → j < k → rank (x j) < rank (x k)) → (i : ℕ) → Rises rank (listed_below p x i)
+  unfolding listed_below
+  listed-rise p x up zero = empty
+  listed-rise p x up (suc i) = side (p i) (listed-rise p x up i)
+    where
+      side : (b : Bool) → Rises rank (listed_below p x i) → Rises rank (listed_below p x i ++ pick b (x i ∷ []) [])
+      side true r = rises-snoc r (λ y m. let w = sound p x i y m in rw w.3 (up w.0 i w.1))
+      side false r = rw (append-nil (listed_below p x i)) r
 
-pub finals-rise : (m : StateSet) (i : ℕ) → Rises final_number (finals_below m i)
-unfolding finals_below
-finals-rise m zero = empty
-finals-rise m (suc i) = side (has m.0 i) (finals-rise m i)
-  where
-    side : (b : Bool) → Rises final_number (finals_below m i) → Rises final_number (finals_below m i ++ pick b (state i ∷ []) [])
-    side true r = rises-snoc final_number r (λ y n. (finals-sound m i y n).0)
-    side false r = rw (append-nil (finals_below m i)) r
+-- the loop over places, and the steps that it lists
+module _ (rows : List StateSet) (letters : List ℕ) where
+  abbrev at_place : ℕ → Bool
+  at_place p = state_marks rows (p / 16) (p % 16)
+
+  pub steps_none : [] ≡ flat_map step_numbers (steps_below rows letters 0)
+  unfolding listed_below
+  steps_none = refl
+
+  pub steps_on : (p : ℕ) → InRow rows (p / 16) (p % 16) → {t u v : List ℕ} → t ≡ flat_map step_numbers (steps_below rows letters p)
+      → u ≡ step_numbers (step_of letters p) → v ≡ t ++ u → v ≡ flat_map step_numbers (steps_below rows letters (p + 1))
+  steps_on p h {t} {u} {v} x y z =
+      z ∙ ap₂ ◌++◌ x (y ∙ sym (append-nil (step_numbers (step_of letters p))))
+      ∙ sym (flat_map-append step_numbers (steps_below rows letters p) (step_of letters p ∷ []))
+      ∙ ap (flat_map step_numbers) (sym (more-on at_place (step_of letters) p ((has_fact _ _).1 h)))
+
+  pub steps_off : (p : ℕ) → (InRow rows (p / 16) (p % 16) → ⊥) → {t : List ℕ} → t ≡ flat_map step_numbers (steps_below rows letters p)
+      → t ≡ flat_map step_numbers (steps_below rows letters (p + 1))
+  steps_off p h x = x ∙ ap (flat_map step_numbers) (sym (more-off at_place (step_of letters) p (test-fails (has_fact _ _) h)))
+
+  pub steps-sound : (i : ℕ) (s : Step) → s ∈ steps_below rows letters i
+      → (p : ℕ) × (p < i) × InRow rows (p / 16) (p % 16) × (s ≡ step_of letters p)
+  steps-sound i s m = let w = sound at_place (step_of letters) i s m in (w.0, w.1, (has_fact _ _).0 w.2, w.3)
+
+  pub steps-full : (i p : ℕ) → p < i → InRow rows (p / 16) (p % 16) → step_of letters p ∈ steps_below rows letters i
+  steps-full i p h o = full at_place (step_of letters) i p h ((has_fact _ _).1 o)
+
+  pub steps-rise : (i : ℕ) → Rises step_rank (steps_below rows letters i)
+  steps-rise = listed-rise step_rank at_place (step_of letters) (λ j k l. omega arith)
+
+-- the loop over states, and those that it lists
+module _ (m : StateSet) where
+  pub finals_none : [] ≡ map final_number (finals_below m 0)
+  unfolding listed_below
+  finals_none = refl
+
+  pub finals_on : (k : ℕ) → Has m.0 k → (out : List ℕ) (used : ℕ) → used < length out → take used out ≡ map final_number (finals_below m k)
+      → take (used + 1) (set out used k) ≡ map final_number (finals_below m (k + 1))
+  finals_on k h out used l x =
+      take_more_set out used k l ∙ ap (λ (t : List ℕ). t ++ (k ∷ [])) x ∙ sym (map-append final_number (finals_below m k) (state k ∷ []))
+      ∙ ap (map final_number) (sym (more-on (has m.0) state k ((has_fact m.0 k).1 h)))
+
+  pub finals_off : (k : ℕ) → (Has m.0 k → ⊥) → {t : List ℕ} → t ≡ map final_number (finals_below m k)
+      → t ≡ map final_number (finals_below m (k + 1))
+  finals_off k h x = x ∙ ap (map final_number) (sym (more-off (has m.0) state k (test-fails (has_fact m.0 k) h)))
+
+  pub finals-sound : (i : ℕ) (s : State) → s ∈ finals_below m i → (s.0 < i) × Has m.0 s.0
+  finals-sound i s n =
+      let w = sound (has m.0) state i s n in
+      let e : w.0 ≡ s.0 = sym (ap final_number w.3) in
+      let f = (has_fact m.0 w.0).0 w.2 in
+      (rw e at w.1, rw e at f)
+
+  pub finals-full : (i : ℕ) (s : State) → s.0 < i → Has m.0 s.0 → s ∈ finals_below m i
+  finals-full i s h o = full (has m.0) state i s.0 h ((has_fact m.0 s.0).1 o)
+
+  pub finals-rise : (i : ℕ) → Rises final_number (finals_below m i)
+  finals-rise = listed-rise final_number (has m.0) state (λ j k l. l)

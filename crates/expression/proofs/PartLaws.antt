@@ -1,10 +1,13 @@
 -- What is known of a mark, of two parts in sequence, of one or the other, and of one any number of times.
-use Rattle.std.specs.Prelude.{◌≡◌, refl, ◌⊎◌, Bool, true, false, ◌||◌, ◌&&◌, List, ℕ, suc, ◌+◌, ◌<◌, ◌≤◌, slice_index_or}
+use Rattle.std.specs.Prelude.{◌≡◌, refl, ◌⊎◌, true, false, ◌||◌, ◌&&◌, List, ℕ, suc, ◌+◌, ◌<◌, ◌≤◌, slice_index_or}
 use Rattle.std.proofs.Common.{sym, ap, ◌∙◌, inl, inr, ⊎_elim, arith}
 use Rattle.std.proofs.lemmas.Bool.{false≢true}
+use Rattle.laws.specs.Iff.{iff_then, iff_both, iff_either}
+use Rattle.laws.specs.Loops.{add_as, add_then}
+use Rattle.laws.specs.Truth.{and_true, or_true}
 use Rattle.kinds.specs.Kinds.{most_states}
 use Rattle.meaning.specs.Collection.{Letter}
-use Rattle.sets.specs.Bits.{Has, IsUnion}
+use Rattle.sets.specs.Bits.{IsUnion}
 use Rattle.sets.specs.declared.states.StateSet.{StateSet}
 use Rattle.expression.specs.Marks.{mark_letter}
 use Rattle.expression.specs.Tree.{Tree, mark, both, either, many}
@@ -14,7 +17,7 @@ use Rattle.expression.specs.Tree.{CanBeFirst, first, first_left, first_right, fi
 use Rattle.expression.specs.Tree.{CanBeLast, last, last_left, last_right, last_this, last_that, last_many}
 use Rattle.expression.specs.Tree.{CanFollow, follow_left, follow_right, follow_over, follow_this, follow_that, follow_many, follow_again}
 use Rattle.expression.specs.Numbered.{number, numbers, numbers_or, numbers_many}
-use Rattle.expression.specs.Parts.{InRow, IsAlone, IsWhen, Leads, Notes, Knows, IsJoined, IsEither, IsMany}
+use Rattle.expression.specs.Parts.{IsAlone, IsWhen, Leads, Notes, Knows, IsJoined, IsEither, IsMany}
 use Rattle.expression.specs.declared.parts.Part.{Part}
 use Rattle.expression.proofs.Words.{rises, reads-in}
 
@@ -78,8 +81,8 @@ either-firsts (first_that a) = inr a
 many-firsts : {e : Tree} {k : ℕ} → CanBeFirst (many e) k → CanBeFirst e k
 many-firsts (first_many a) = a
 
-both-lasts : {e f : Tree} {k : ℕ} → CanBeLast (both e f) k → (CanBeLast e k × AllowsEmpty f) ⊎ CanBeLast f k
-both-lasts (last_left a z) = inl (a, z)
+both-lasts : {e f : Tree} {k : ℕ} → CanBeLast (both e f) k → (AllowsEmpty f × CanBeLast e k) ⊎ CanBeLast f k
+both-lasts (last_left a z) = inl (z, a)
 both-lasts (last_right a) = inr a
 
 either-lasts : {e f : Tree} {k : ℕ} → CanBeLast (either e f) k → CanBeLast e k ⊎ CanBeLast f k
@@ -101,22 +104,6 @@ either-follows (follow_that a) = inr a
 many-follows : {e : Tree} {j k : ℕ} → CanFollow (many e) j k → CanFollow e j k ⊎ (CanBeLast e j × CanBeFirst e k)
 many-follows (follow_many a) = inl a
 many-follows (follow_again a b) = inr (a, b)
-
-and-true : (a b : Bool) → a && b ≡ true → (a ≡ true) × (b ≡ true)
-and-true true b h = (refl, h)
-and-true false b h = absurd (false≢true h)
-
-true-and : (a b : Bool) → a ≡ true → b ≡ true → a && b ≡ true
-true-and a b p q = rw (p, q) refl
-
-or-true : (a b : Bool) → a || b ≡ true → (a ≡ true) ⊎ (b ≡ true)
-or-true true b h = inl refl
-or-true false b h = inr h
-
-true-or : (a b : Bool) → (a ≡ true) ⊎ (b ≡ true) → a || b ≡ true
-true-or true b h = refl
-true-or false b (inl h) = absurd (false≢true h)
-true-or false b (inr h) = h
 
 -- a mark
 module _ (old : List StateSet) (was now : List ℕ) (n b : ℕ) (m : StateSet) (it : IsAlone (n + 1) m) (p : Part) (w : Notes was (n + 1) b now) where
@@ -145,24 +132,14 @@ module _ (n m : ℕ) (old before after : List StateSet) (was now : List ℕ) (e 
       record {
         numbered = numbers_many t.numbered;
         empty = rw z (λ h. empty_many, λ h. refl);
-        first = rw f (record { at = λ k h. (λ x. first_many ((t.first.at k h).0 x), λ x. (t.first.at k h).1 (many-firsts x)) });
-        last = rw l (record { at = λ k h. (λ x. last_many ((t.last.at k h).0 x), λ x. (t.last.at k h).1 (many-lasts x)) });
-        rows = λ j k h i. (λ x. into j k h i ((s.at j k h).0 x), λ x. (s.at j k h).1 (back j k h i x));
+        first = rw f (record { at = λ k h. iff_then (t.first.at k h) (λ x. first_many x, many-firsts) });
+        last = rw l (record { at = λ k h. iff_then (t.last.at k h) (λ x. last_many x, many-lasts) });
+        rows = λ j k h i.
+            add_as (⊎_elim (λ x. follow_many x) (λ x. follow_again x.0 x.1), many-follows)
+            (add_then (t.rows j k h i) (add_as (iff_both (t.last.at j h) (t.first.at k i)) (s.at j k h)));
         reads = λ k l h x. t.reads k l h (many-reads x);
         kept = t.kept;
       }
-    where
-      into : (j k : ℕ) → j < 16 → k < 16 → InRow before j k ⊎ (Has p.last.0 j × Has p.first.0 k) → InRow old j k ⊎ CanFollow (many e) j k
-      into j k h i (inl x) = ⊎_elim (λ y. inl y) (λ y. inr (follow_many y)) ((t.rows j k h i).0 x)
-      into j k h i (inr x) = inr (follow_again ((t.last.at j h).0 x.0) ((t.first.at k i).0 x.1))
-
-      apart : (j k : ℕ) → j < 16 → k < 16 → CanFollow e j k ⊎ (CanBeLast e j × CanBeFirst e k) → InRow before j k ⊎ (Has p.last.0 j × Has p.first.0 k)
-      apart j k h i (inl x) = inl ((t.rows j k h i).1 (inr x))
-      apart j k h i (inr x) = inr ((t.last.at j h).1 x.0, (t.first.at k i).1 x.1)
-
-      back : (j k : ℕ) → j < 16 → k < 16 → InRow old j k ⊎ CanFollow (many e) j k → InRow before j k ⊎ (Has p.last.0 j × Has p.first.0 k)
-      back j k h i (inl x) = inl ((t.rows j k h i).1 (inl x))
-      back j k h i (inr x) = apart j k h i (many-follows x)
 
 -- two in sequence, and one or the other
 module _ (n h m : ℕ) (old mid before : List StateSet) (was half now : List ℕ) (e f : Tree) (p q r : Part) (t : Knows n old was e p h mid half) (u : Knows h mid half f q m before now) where
@@ -179,85 +156,50 @@ module _ (n h m : ℕ) (old mid before : List StateSet) (was half now : List ℕ
     both-knows z g l s =
         record {
           numbered = numbers t.numbered u.numbered;
-          empty = rw z (
-            λ v. let w = and-true p.empty q.empty v in empty_both (t.empty.0 w.0) (u.empty.0 w.1),
-            λ v. let w = both-empties v in true-and p.empty q.empty (t.empty.1 w.0) (u.empty.1 w.1),
-          );
+          empty = rw z (iff_then (and_true p.empty q.empty) (iff_then (iff_both t.empty u.empty) (λ w. empty_both w.0 w.1, both-empties)));
           first = record {
-            at = λ k i. (
-              λ w. ⊎_elim (λ v. first_left ((t.first.at k i).0 v)) (λ v. let c = (x.member k).0 v in first_right (t.empty.0 c.0) ((u.first.at k i).0 c.1)) ((g.member k).0 w),
-              λ w. (g.member k).1 (⊎_elim (λ v. inl ((t.first.at k i).1 v)) (λ v. inr ((x.member k).1 (t.empty.1 v.0, (u.first.at k i).1 v.1))) (both-firsts w)),
-            );
+            at = λ k i.
+                iff_then (g.member k)
+                (iff_then (iff_either (t.first.at k i) (iff_then (x.member k) (iff_both t.empty (u.first.at k i))))
+                (⊎_elim (λ v. first_left v) (λ v. first_right v.0 v.1), both-firsts));
           };
           last = record {
-            at = λ k i. (
-              λ w. ⊎_elim (λ v. let c = (y.member k).0 v in last_left ((t.last.at k i).0 c.1) (u.empty.0 c.0)) (λ v. last_right ((u.last.at k i).0 v)) ((l.member k).0 w),
-              λ w. (l.member k).1 (⊎_elim (λ v. inl ((y.member k).1 (u.empty.1 v.1, (t.last.at k i).1 v.0))) (λ v. inr ((u.last.at k i).1 v)) (both-lasts w)),
-            );
+            at = λ k i.
+                iff_then (l.member k)
+                (iff_then (iff_either (iff_then (y.member k) (iff_both u.empty (t.last.at k i))) (u.last.at k i))
+                (⊎_elim (λ v. last_left v.1 v.0) (λ v. last_right v), both-lasts));
           };
-          rows = λ j k d i. (λ w. into j k d i ((s.at j k d).0 w), λ w. (s.at j k d).1 (back j k d i w));
+          rows = λ j k d i.
+              add_as (⊎_elim (⊎_elim (λ w. follow_left w) (λ w. follow_right w)) (λ w. follow_over w.0 w.1), both-follows)
+              (add_then (add_then (t.rows j k d i) (u.rows j k d i)) (add_as (iff_both (t.last.at j d) (u.first.at k i)) (s.at j k d)));
           reads = λ k l i v. reads-both k l i (both-reads v);
           kept = kept-both;
         }
-      where
-        old-or : (j k : ℕ) → InRow old j k ⊎ CanFollow e j k → InRow old j k ⊎ CanFollow (both e f) j k
-        old-or j k (inl w) = inl w
-        old-or j k (inr w) = inr (follow_left w)
-
-        into : (j k : ℕ) → j < 16 → k < 16 → InRow before j k ⊎ (Has p.last.0 j × Has q.first.0 k) → InRow old j k ⊎ CanFollow (both e f) j k
-        into j k d i (inl w) = ⊎_elim (λ v. old-or j k ((t.rows j k d i).0 v)) (λ v. inr (follow_right v)) ((u.rows j k d i).0 w)
-        into j k d i (inr w) = inr (follow_over ((t.last.at j d).0 w.0) ((u.first.at k i).0 w.1))
-
-        apart : (j k : ℕ) → j < 16 → k < 16 → (CanFollow e j k ⊎ CanFollow f j k) ⊎ (CanBeLast e j × CanBeFirst f k) → InRow before j k ⊎ (Has p.last.0 j × Has q.first.0 k)
-        apart j k d i (inl (inl w)) = inl ((u.rows j k d i).1 (inl ((t.rows j k d i).1 (inr w))))
-        apart j k d i (inl (inr w)) = inl ((u.rows j k d i).1 (inr w))
-        apart j k d i (inr w) = inr ((t.last.at j d).1 w.0, (u.first.at k i).1 w.1)
-
-        back : (j k : ℕ) → j < 16 → k < 16 → InRow old j k ⊎ CanFollow (both e f) j k → InRow before j k ⊎ (Has p.last.0 j × Has q.first.0 k)
-        back j k d i (inl w) = inl ((u.rows j k d i).1 (inl ((t.rows j k d i).1 (inl w))))
-        back j k d i (inr w) = apart j k d i (both-follows w)
 
   either-knows : r.empty ≡ p.empty || q.empty → IsUnion p.first.0 q.first.0 r.first.0 → IsUnion p.last.0 q.last.0 r.last.0
       → Knows n old was (either e f) r m before now
   either-knows z g l =
       record {
         numbered = numbers_or t.numbered u.numbered;
-        empty = rw z (
-          λ v. ⊎_elim (λ w. empty_this (t.empty.0 w)) (λ w. empty_that (u.empty.0 w)) (or-true p.empty q.empty v),
-          λ v. true-or p.empty q.empty (⊎_elim (λ w. inl (t.empty.1 w)) (λ w. inr (u.empty.1 w)) (either-empties v)),
-        );
+        empty =
+            rw z
+            (iff_then (or_true p.empty q.empty)
+            (iff_then (iff_either t.empty u.empty) (⊎_elim (λ w. empty_this w) (λ w. empty_that w), either-empties)));
         first = record {
-          at = λ k i. (
-            λ w. ⊎_elim (λ v. first_this ((t.first.at k i).0 v)) (λ v. first_that ((u.first.at k i).0 v)) ((g.member k).0 w),
-            λ w. (g.member k).1 (⊎_elim (λ v. inl ((t.first.at k i).1 v)) (λ v. inr ((u.first.at k i).1 v)) (either-firsts w)),
-          );
+          at = λ k i.
+              iff_then (g.member k)
+              (iff_then (iff_either (t.first.at k i) (u.first.at k i)) (⊎_elim (λ v. first_this v) (λ v. first_that v), either-firsts));
         };
         last = record {
-          at = λ k i. (
-            λ w. ⊎_elim (λ v. last_this ((t.last.at k i).0 v)) (λ v. last_that ((u.last.at k i).0 v)) ((l.member k).0 w),
-            λ w. (l.member k).1 (⊎_elim (λ v. inl ((t.last.at k i).1 v)) (λ v. inr ((u.last.at k i).1 v)) (either-lasts w)),
-          );
+          at = λ k i.
+              iff_then (l.member k)
+              (iff_then (iff_either (t.last.at k i) (u.last.at k i)) (⊎_elim (λ v. last_this v) (λ v. last_that v), either-lasts));
         };
-        rows = λ j k d i. (λ w. into j k d i ((u.rows j k d i).0 w), λ w. (u.rows j k d i).1 (back j k d i w));
+        rows = λ j k d i.
+            add_as (⊎_elim (λ w. follow_this w) (λ w. follow_that w), either-follows) (add_then (t.rows j k d i) (u.rows j k d i));
         reads = λ k l i v. reads-both k l i (either-reads v);
         kept = kept-both;
       }
-    where
-      old-or : (j k : ℕ) → InRow old j k ⊎ CanFollow e j k → InRow old j k ⊎ CanFollow (either e f) j k
-      old-or j k (inl w) = inl w
-      old-or j k (inr w) = inr (follow_this w)
-
-      into : (j k : ℕ) → j < 16 → k < 16 → InRow mid j k ⊎ CanFollow f j k → InRow old j k ⊎ CanFollow (either e f) j k
-      into j k d i (inl w) = old-or j k ((t.rows j k d i).0 w)
-      into j k d i (inr w) = inr (follow_that w)
-
-      apart : (j k : ℕ) → j < 16 → k < 16 → CanFollow e j k ⊎ CanFollow f j k → InRow mid j k ⊎ CanFollow f j k
-      apart j k d i (inl w) = inl ((t.rows j k d i).1 (inr w))
-      apart j k d i (inr w) = inr w
-
-      back : (j k : ℕ) → j < 16 → k < 16 → InRow old j k ⊎ CanFollow (either e f) j k → InRow mid j k ⊎ CanFollow f j k
-      back j k d i (inl w) = inl ((t.rows j k d i).1 (inl w))
-      back j k d i (inr w) = apart j k d i (either-follows w)
 
 -- what the code makes
 pub is_many : (before after : List StateSet) (p r : Part) → r.empty ≡ true → r.first ≡ p.first → r.last ≡ p.last → Leads before p.last p.first after → IsMany p before after r

@@ -16,11 +16,8 @@ use Rattle.expression.proofs.PartLaws.{knows-mark}
 -- the row from a place on
 module _ (s : List ℕ) (at : ℕ) where
   pub in_row : (next (drop at s) ≡ 0x81 → ⊥) → at < length s
-  in_row h = side (dec_lt at (length s))
-    where
-      side : Dec (at < length s) → at < length s
-      side (yes l) = l
-      side (no l) = absurd (h (ap next (drop_of_length-le s {i = at} (omega arith))))
+  in_row h =
+      elim (dec_lt at (length s)) [ yes l ↦ l | no l ↦ absurd (h (ap next (drop_of_length-le s {i = at} (omega arith)))) ]
 
   pub row_cons : at < length s → drop at s ≡ slice_index_or s at 0x81 ∷ drop (at + 1) s
   row_cons h = rw (add-one, drop-cons s at 0x81) refl
@@ -32,13 +29,13 @@ module _ (s : List ℕ) (at : ℕ) where
   row_here h = let l = in_row h in row_cons l ∙ ap (λ (b : ℕ). b ∷ drop (at + 1) s) (sym (row_next l))
 
   pub row_inside : {c : ℕ} {r : List ℕ} → drop at s ≡ c ∷ r → at < length s
-  row_inside {c} {r} h = side (dec_lt at (length s))
-    where
-      side : Dec (at < length s) → at < length s
-      side (yes l) = l
-      side (no l) =
-          let e = sym (drop_of_length-le s {i = at} (omega arith)) ∙ h in
-          absurd (let z : ◌≡◌ {A = ℕ} 0 1 = cc in omega arith)
+  row_inside {c} {r} h =
+      elim (dec_lt at (length s)) [
+        | yes l ↦ l
+        | no l ↦
+            let e = sym (drop_of_length-le s {i = at} (omega arith)) ∙ h in
+            absurd (let z : ◌≡◌ {A = ℕ} 0 1 = cc in omega arith)
+      ]
 
   pub row-tail : {c : ℕ} {r : List ℕ} → drop at s ≡ c ∷ r → drop (at + 1) s ≡ r
   row-tail {c} {r} h = let e = sym (row_cons (row_inside h)) ∙ h in cc

@@ -160,27 +160,25 @@ word_first (one {k = k} {l = m}) {l} {v} z =
     let a : ◌≡◌ {A = List Letter} [] v = cc in
     let b : l ≡ m = cc in
     record { k = k; may = first refl; reads = itself refl b; rest = rw (← a) (whole refl) }
-word_first (joined {e = e} {f = f} {u = u} {v = x} a b) {l} {v} z = side (begins u x z) (λ t h. word_first a h) (λ h. word_first b h)
-  where
-    side : Begins u x l v → ((t : List Letter) → u ≡ l ∷ t → Enters e (CanBeFirst e) l t) → (x ≡ l ∷ v → Enters f (CanBeFirst f) l v)
-        → Enters (both e f) (CanBeFirst (both e f)) l v
-    side (inl p) r s =
-        let q = s p.1 in
-        record { k = q.k; may = first_right (word-empty a p.0) q.may; reads = in_second q.reads; rest = after-right q.rest }
-    side (inr p) r s =
-        let q = r p.0 p.1 in
-        record { k = q.k; may = first_left q.may; reads = in_first q.reads; rest = rw p.2 (after-left q.rest b) }
+word_first (joined {u = u} {v = x} a b) z =
+    elim (begins u x z) [
+      | inl p ↦
+          let q = word_first b p.1 in
+          record { k = q.k; may = first_right (word-empty a p.0) q.may; reads = in_second q.reads; rest = after-right q.rest }
+      | inr p ↦
+          let q = word_first a p.1 in
+          record { k = q.k; may = first_left q.may; reads = in_first q.reads; rest = rw p.2 (after-left q.rest b) }
+    ]
 word_first (left a) z = let q = word_first a z in record { k = q.k; may = first_this q.may; reads = in_this q.reads; rest = after-this q.rest }
 word_first (right a) z = let q = word_first a z in record { k = q.k; may = first_that q.may; reads = in_that q.reads; rest = after-that q.rest }
 word_first none z = absurd (let z : ◌≡◌ {A = ℕ} 0 1 = cc in omega arith)
-word_first (more {e = e} {u = u} {v = x} a b) {l} {v} z = side (begins u x z) (λ t h. word_first a h) (λ h. word_first b h)
-  where
-    side : Begins u x l v → ((t : List Letter) → u ≡ l ∷ t → Enters e (CanBeFirst e) l t)
-        → (x ≡ l ∷ v → Enters (many e) (CanBeFirst (many e)) l v) → Enters (many e) (CanBeFirst (many e)) l v
-    side (inl p) r s = s p.1
-    side (inr p) r s =
-        let q = r p.0 p.1 in
-        record { k = q.k; may = first_many q.may; reads = in_many q.reads; rest = rw p.2 (after-many q.rest b) }
+word_first (more {u = u} {v = x} a b) z =
+    elim (begins u x z) [
+      | inl p ↦ word_first b p.1
+      | inr p ↦
+          let q = word_first a p.1 in
+          record { k = q.k; may = first_many q.may; reads = in_many q.reads; rest = rw p.2 (after-many q.rest b) }
+    ]
 
 first_word : {e : Tree} {n m k : ℕ} {l : Letter} {w : List Letter} → Numbered n e m → CanBeFirst e k → MarkReads e k l → After e k w → WordOf e (l ∷ w)
 first_word (number x y) (first p) (itself q e) (whole s) = rw e one
@@ -204,29 +202,29 @@ once (first_many h) = h
 -- after j a word goes on with a mark that can come next
 pub after_next : {e : Tree} {j : ℕ} {w : List Letter} → After e j w → {l : Letter} {v : List Letter} → w ≡ l ∷ v → Enters e (CanFollow e j) l v
 after_next (whole p) z = absurd (let z : ◌≡◌ {A = ℕ} 0 1 = cc in omega arith)
-after_next (after-left {e = e} {f = f} {k = j} {u = u} {v = x} a b) {l} {v} z = side (begins u x z) (λ t h. after_next a h)
-  where
-    side : Begins u x l v → ((t : List Letter) → u ≡ l ∷ t → Enters e (CanFollow e j) l t) → Enters (both e f) (CanFollow (both e f) j) l v
-    side (inl p) r =
-        let q = word_first b p.1 in
-        record { k = q.k; may = follow_over (after_last a p.0) q.may; reads = in_second q.reads; rest = after-right q.rest }
-    side (inr p) r =
-        let q = r p.0 p.1 in
-        record { k = q.k; may = follow_left q.may; reads = in_first q.reads; rest = rw p.2 (after-left q.rest b) }
+after_next (after-left {u = u} {v = x} a b) z =
+    elim (begins u x z) [
+      | inl p ↦
+          let q = word_first b p.1 in
+          record { k = q.k; may = follow_over (after_last a p.0) q.may; reads = in_second q.reads; rest = after-right q.rest }
+      | inr p ↦
+          let q = after_next a p.1 in
+          record { k = q.k; may = follow_left q.may; reads = in_first q.reads; rest = rw p.2 (after-left q.rest b) }
+    ]
 after_next (after-right a) z =
     let q = after_next a z in
     record { k = q.k; may = follow_right q.may; reads = in_second q.reads; rest = after-right q.rest }
 after_next (after-this a) z = let q = after_next a z in record { k = q.k; may = follow_this q.may; reads = in_this q.reads; rest = after-this q.rest }
 after_next (after-that a) z = let q = after_next a z in record { k = q.k; may = follow_that q.may; reads = in_that q.reads; rest = after-that q.rest }
-after_next (after-many {e = e} {k = j} {u = u} {v = x} a b) {l} {v} z = side (begins u x z) (λ t h. after_next a h)
-  where
-    side : Begins u x l v → ((t : List Letter) → u ≡ l ∷ t → Enters e (CanFollow e j) l t) → Enters (many e) (CanFollow (many e) j) l v
-    side (inl p) r =
-        let q = word_first b p.1 in
-        record { k = q.k; may = follow_again (after_last a p.0) (once q.may); reads = q.reads; rest = q.rest }
-    side (inr p) r =
-        let q = r p.0 p.1 in
-        record { k = q.k; may = follow_many q.may; reads = in_many q.reads; rest = rw p.2 (after-many q.rest b) }
+after_next (after-many {u = u} {v = x} a b) z =
+    elim (begins u x z) [
+      | inl p ↦
+          let q = word_first b p.1 in
+          record { k = q.k; may = follow_again (after_last a p.0) (once q.may); reads = q.reads; rest = q.rest }
+      | inr p ↦
+          let q = after_next a p.1 in
+          record { k = q.k; may = follow_many q.may; reads = in_many q.reads; rest = rw p.2 (after-many q.rest b) }
+    ]
 
 next-after : {e : Tree} {n m j k : ℕ} {l : Letter} {w : List Letter} → Numbered n e m → CanFollow e j k → MarkReads e k l → After e k w → After e j (l ∷ w)
 next-after (number a b) p h q = elim p [ ]

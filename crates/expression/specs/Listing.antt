@@ -1,5 +1,5 @@
 -- How the tables are listed from what a reader knows of the states.
-use Rattle.std.specs.Prelude.{List, [], ◌∷◌, ◌++◌, ℕ, zero, suc, ◌*◌, ◌/◌, ◌%◌, slice_index_or}
+use Rattle.std.specs.Prelude.{Bool, List, [], ◌∷◌, ◌++◌, ℕ, zero, suc, ◌*◌, ◌/◌, ◌%◌, slice_index_or}
 use Rattle.kinds.specs.declared.State.{State}
 use Rattle.kinds.specs.Kinds.{most_states, state}
 use Rattle.laws.specs.Search.{pick}
@@ -19,14 +19,16 @@ step_of letters p =
     step (state (p / most_states)) (mark_letter (slice_index_or letters (p % most_states) 0))
     (state (p % most_states))
 
+-- what x gives for each number below one that passes a test
+unfoldable pub listed_below : {A : Type 0} → (ℕ → Bool) → (ℕ → A) → ℕ → List A
+listed_below passes x zero = []
+listed_below passes x (suc k) = listed_below passes x k ++ pick (passes k) (x k ∷ []) []
+
 -- the steps at the places below one
-unfoldable pub steps_below : List StateSet → List ℕ → ℕ → List Step
-steps_below rows letters zero = []
-steps_below rows letters (suc p) =
-    steps_below rows letters p
-    ++ pick (state_marks rows (p / most_states) (p % most_states)) (step_of letters p ∷ []) []
+abbrev pub steps_below : List StateSet → List ℕ → ℕ → List Step
+steps_below rows letters =
+    listed_below (λ p. state_marks rows (p / most_states) (p % most_states)) (step_of letters)
 
 -- the states below one that are in a set
-unfoldable pub finals_below : StateSet → ℕ → List State
-finals_below set zero = []
-finals_below set (suc k) = finals_below set k ++ pick (has set.0 k) (state k ∷ []) []
+abbrev pub finals_below : StateSet → ℕ → List State
+finals_below set = listed_below (has set.0) state

@@ -1,6 +1,6 @@
 -- Lists in which no two places have the same, and how long they are.
 use Rattle.std.specs.Prelude.{◌≡◌, ◌≢◌, refl, ◌⊎◌, AllPairs, Bool, true, false, ℕ, zero, suc, ◌≤◌, ◌<◌, length, slice_index_or}
-use Rattle.std.proofs.Common.{sym, ap, ◌∙◌, inl, inr, arith}
+use Rattle.std.proofs.Common.{sym, ap, ◌∙◌, inl, inr, ⊎_elim, arith}
 use Rattle.std.proofs.lemmas.List.{get_or_default}
 use mathlib.Core.List.Memᴰ
 use mathlib.Core.List.{List, [], ◌∷◌, ◌++◌, map}
@@ -22,12 +22,11 @@ module _ {A : Type 0} where
 
   pub place-in : {x : A} (l : List A) → x ∈ l → (i : ℕ) × (i < length l) × ((d : A) → slice_index_or l i d ≡ x)
   place-in [] m = absurd (Memᴰ.not-nil m)
-  place-in {x} (y ∷ l) m = side (Memᴰ.cases_cons m) (place-in {x = x} l)
-    where
-      side : (x ≡ y) ⊎ (x ∈ l) → (x ∈ l → (i : ℕ) × (i < length l) × ((d : A) → slice_index_or l i d ≡ x))
-          → (i : ℕ) × (i < length (y ∷ l)) × ((d : A) → slice_index_or (y ∷ l) i d ≡ x)
-      side (inl e) r = (0, omega arith, λ d. sym e)
-      side (inr k) r = let w = r k in (suc w.0, omega (arith, w.1), w.2)
+  place-in {x} (y ∷ l) m =
+      elim (Memᴰ.cases_cons m) [
+        | inl e ↦ (0, omega arith, λ d. sym e)
+        | inr k ↦ let w = place-in l k in (suc w.0, omega (arith, w.1), w.2)
+      ]
 
   pub distinct-none : Distinct {A = A} []
   distinct-none i j d h k = absurd (omega arith)
@@ -47,11 +46,8 @@ module _ {A : Type 0} where
   pub distinct-both : (l m : List A) → Distinct l → Distinct m → ((x : A) → x ∈ l → x ∈ m → ⊥) → Distinct (l ++ m)
   distinct-both [] m h k apart = k
   distinct-both (x ∷ l) m h k apart =
-      distinct-more x (l ++ m) (λ i. side (Memᴰ.append_cases l i)) (distinct-both l m (distinct-rest x l h) k (λ z i. apart z (Memᴰ.tail i)))
-    where
-      side : (x ∈ l) ⊎ (x ∈ m) → ⊥
-      side (inl i) = distinct-first x l h i
-      side (inr i) = apart x (Memᴰ.head refl) i
+      distinct-more x (l ++ m) (λ i. ⊎_elim (λ j. distinct-first x l h j) (λ j. apart x (Memᴰ.head refl) j) (Memᴰ.append_cases l i))
+      (distinct-both l m (distinct-rest x l h) k (λ z i. apart z (Memᴰ.tail i)))
 
   pub distinct-select : (l : List A) (f : A → Bool) → Distinct l → Distinct (select l f)
   unfolding select
@@ -65,39 +61,28 @@ module _ {A : Type 0} where
   -- a list without one of its members, which loses nothing else
   cut : {x : A} (m : List A) → x ∈ m → (r : List A) × (length m ≡ suc (length r)) × ((y : A) → y ∈ m → (y ≡ x) ⊎ (y ∈ r))
   cut [] h = absurd (Memᴰ.not-nil h)
-  cut {x} (z ∷ m) h = side (Memᴰ.cases_cons h) (cut {x = x} m)
-    where
-      Cut : List A → Type 0
-      Cut l = (r : List A) × (length l ≡ suc (length r)) × ((y : A) → y ∈ l → (y ≡ x) ⊎ (y ∈ r))
-
-      here : x ≡ z → (y : A) → (y ≡ z) ⊎ (y ∈ m) → (y ≡ x) ⊎ (y ∈ m)
-      here e y (inl g) = inl (g ∙ sym e)
-      here e y (inr k) = inr k
-
-      there : (r : List A) (y : A) → (y ≡ z) ⊎ ((y ≡ x) ⊎ (y ∈ r)) → (y ≡ x) ⊎ (y ∈ (z ∷ r))
-      there r y (inl g) = inr (Memᴰ.head g)
-      there r y (inr (inl g)) = inl g
-      there r y (inr (inr k)) = inr (Memᴰ.tail k)
-
-      deeper : (r : List A) → ((y : A) → y ∈ m → (y ≡ x) ⊎ (y ∈ r)) → (y : A) → (y ≡ z) ⊎ (y ∈ m) → (y ≡ z) ⊎ ((y ≡ x) ⊎ (y ∈ r))
-      deeper r f y (inl g) = inl g
-      deeper r f y (inr k) = inr (f y k)
-
-      side : (x ≡ z) ⊎ (x ∈ m) → (x ∈ m → Cut m) → Cut (z ∷ m)
-      side (inl e) r = (m, refl, λ y k. here e y (Memᴰ.cases_cons k))
-      side (inr i) r = let w = r i in (z ∷ w.0, ap suc w.1, λ y k. there w.0 y (deeper w.0 w.2 y (Memᴰ.cases_cons k)))
+  cut {x} (z ∷ m) h =
+      elim (Memᴰ.cases_cons h) [
+        | inl e ↦ (m, refl, λ y k. ⊎_elim (λ g. inl (g ∙ sym e)) (λ i. inr i) (Memᴰ.cases_cons k))
+        | inr i ↦
+            let w = cut m i in (
+              z ∷ w.0,
+              ap suc w.1,
+              λ y k.
+                  ⊎_elim (λ g. inr (Memᴰ.head g)) (λ j. ⊎_elim (λ g. inl g) (λ q. inr (Memᴰ.tail q)) (w.2 y j))
+                  (Memᴰ.cases_cons k),
+            )
+      ]
 
   -- what stands in another list is no more than that list is long
   pub distinct-few : (l m : List A) → Distinct l → Within l m → length l ≤ length m
   distinct-few [] m h w = omega arith
   distinct-few (x ∷ l) m h w =
       let c = cut m (w x (Memᴰ.head refl)) in
-      let r = distinct-few l c.0 (distinct-rest x l h) (λ y i. side c.0 y i (c.2 y (w y (Memᴰ.tail i)))) in
+      let r =
+      distinct-few l c.0 (distinct-rest x l h)
+      (λ y i. ⊎_elim (λ e. absurd (distinct-first x l h (rw e at i))) (λ k. k) (c.2 y (w y (Memᴰ.tail i)))) in
       omega (arith, r, c.1)
-    where
-      side : (r : List A) (y : A) → y ∈ l → (y ≡ x) ⊎ (y ∈ r) → y ∈ r
-      side r y i (inl e) = absurd (distinct-first x l h (rw e at i))
-      side r y i (inr k) = k
 
   -- two lists with the same members are as long
   pub distinct-long : (l m : List A) → Distinct l → Distinct m → Within l m → Within m l → length l ≡ length m

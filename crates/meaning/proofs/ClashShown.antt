@@ -7,7 +7,7 @@ use Rattle.laws.specs.Member.{◌∈◌}
 use Rattle.meaning.specs.Collection.{Collection, NumbersDeclared}
 use Rattle.meaning.specs.Orders.{ConceptLe}
 use Rattle.theory.specs.Tree.{root, ◌▹◌}
-use Rattle.meaning.specs.Model.{Has, Belongs, bare, grown, fact, child, parent, individuals, Element, Contradiction, at-element, at_pair}
+use Rattle.meaning.specs.Model.{HasConcept, Belongs, bare, grown, fact, child, parent, individuals, Element, Contradiction, at-element, at_pair}
 use Rattle.meaning.specs.LawsOfModel.{NothingExcluded}
 use Rattle.meaning.proofs.ModelLaws.{has_above}
 use Rattle.meaning.specs.Clash.{Alive, sprouts, grows, Clash, individual-clash, unnamed-clash, fact-clash, down-clash, up-clash}
@@ -33,13 +33,13 @@ module _ (𝓒 : Collection) where
 
   -- THEOREM: an element, individual or unnamed, of a concept that is excluded from itself is a contradiction,
   -- so that it need not imply everything: no answer differs
-  pub self-exclusion : (x : Element 𝓒) (C : Concept) → (C, C) ∈ 𝓒.concept-exclusions → Belongs 𝓒 (individuals 𝓒) x → Has 𝓒 (individuals 𝓒) x C
+  pub self-exclusion : (x : Element 𝓒) (C : Concept) → (C, C) ∈ 𝓒.concept-exclusions → Belongs 𝓒 (individuals 𝓒) x → HasConcept 𝓒 (individuals 𝓒) x C
       → Contradiction 𝓒
   self-exclusion x C m b h = at-element x C C m b h h
 
   -- THEOREM: the same of a concept from which two follow that exclude each other
   pub empty-concept : (x : Element 𝓒) (C D E : Concept) → ConceptLe 𝓒 C D → ConceptLe 𝓒 C E → (D, E) ∈ 𝓒.concept-exclusions
-      → Belongs 𝓒 (individuals 𝓒) x → Has 𝓒 (individuals 𝓒) x C → Contradiction 𝓒
+      → Belongs 𝓒 (individuals 𝓒) x → HasConcept 𝓒 (individuals 𝓒) x C → Contradiction 𝓒
   empty-concept x C D E d e m b h = at-element x D E m b (has_above 𝓒 x h d) (has_above 𝓒 x h e)
 
   -- THEOREM: where nobody has what is excluded there is no contradiction

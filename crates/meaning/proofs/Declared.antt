@@ -1,5 +1,5 @@
 -- What is declared stands in its list, and what stands there is declared; how long the lists are; what rules lead to is declared.
-use Rattle.std.specs.Prelude.{◌≡◌, ◌⊎◌, ◌+◌, ◌*◌, length}
+use Rattle.std.specs.Prelude.{◌≡◌, ◌+◌, ◌*◌, length}
 use Rattle.std.proofs.Common.{inl, inr, length-append}
 use mathlib.Core.List.Memᴰ
 use mathlib.Core.List.{map}
@@ -42,16 +42,15 @@ module _ (c : Counts) where
 
   pub concept-out : (C : Concept) → C ∈ valid_concepts c → ConceptDeclared c C
   unfolding valid_concepts
-  concept-out C m = side (Memᴰ.append_cases (map Name (numbered concept_name c.names)) m)
-    where
-      side : (C ∈ map Name (numbered concept_name c.names)) ⊎ (C ∈ map Exists (signed_roles c)) → ConceptDeclared c C
-      side (inl k) =
-          let w = map-out Name (numbered concept_name c.names) k in
-          let v = numbered-out concept_name c.names w.1 in
-          rw (w.2, v.2) v.1
-      side (inr k) = let w = map-out Exists (signed_roles c) k in rw w.2 (signed-out w.0 w.1)
+  concept-out C m =
+      elim (Memᴰ.append_cases (map Name (numbered concept_name c.names)) m) [
+        | inl k ↦
+            let w = map-out Name (numbered concept_name c.names) k in
+            let v = numbered-out concept_name c.names w.1 in
+            rw (w.2, v.2) v.1
+        | inr k ↦ let w = map-out Exists (signed_roles c) k in rw w.2 (signed-out w.0 w.1)
+      ]
 
-  -- "concepts" as a count means names + 2 × roles
   pub concepts-count : length (valid_concepts c) ≡ c.names + 2 * c.roles
   unfolding valid_concepts signed_roles
   concepts-count = simp (length-append, length-map, length-numbered)

@@ -1,6 +1,6 @@
 -- Concepts that are excluded from themselves may imply everything: no answer differs for it.
 use Rattle.std.specs.Prelude.{◌≡◌, refl, ◌↔◌, ◌⊎◌, Bool, List, ℕ, ◌≤◌}
-use Rattle.std.proofs.Common.{inl, inr, sym, ◌∙◌, subst, arith}
+use Rattle.std.proofs.Common.{⊎_elim, sym, ◌∙◌, subst, arith}
 use Rattle.std.proofs.Math.Bool.{true, false}
 use Rattle.kinds.specs.declared.Individual.{Individual}
 use Rattle.kinds.specs.declared.State.{State}
@@ -13,12 +13,13 @@ use Rattle.kinds.specs.Asks.{AskDeclared}
 use Rattle.kinds.specs.declared.Answer.{Answer}
 use Rattle.kinds.specs.Answer.{answer_number}
 use Rattle.kinds.specs.Kinds.{IndividualDeclared}
+use Rattle.laws.specs.Truth.{test-false}
 use Rattle.laws.specs.Member.{◌∈◌}
 use Rattle.meaning.specs.Collection.{Collection, Each, NumbersDeclared, WellFormed}
 use Rattle.meaning.specs.Orders.{ConceptLe, same, then, rule, wider}
 use Rattle.theory.specs.Tree.{root, ◌▹◌}
 use Rattle.theory.specs.Run.{stop, go}
-use Rattle.meaning.specs.Model.{Has, Belongs, bare, grown, ModelEdge, fact, child, parent, individuals, Element, canonical, Typed, named, first, second, FactEdge, ahead, behind, Contradiction, at-element, at_pair}
+use Rattle.meaning.specs.Model.{HasConcept, Belongs, bare, grown, ModelEdge, fact, child, parent, individuals, Element, canonical, Typed, named, first, second, FactEdge, ahead, behind, Contradiction, at-element, at_pair}
 use Rattle.meaning.specs.Question.{along-role, at_name, PathIn, Yes}
 use Rattle.meaning.specs.Leaving.{Leaves}
 use Rattle.meaning.specs.Asks.{IsYes}
@@ -35,7 +36,7 @@ use Rattle.meaning.proofs.Demands.{Verdict, is-contradiction, is-yes, is-no}
 
 module _ (𝓒 : Collection) where
   -- THEOREM: whoever has a forbidden concept makes a contradiction
-  pub concept-forbidden : (x : Element 𝓒) (C : Concept) → SelfExcluded 𝓒 C → Belongs 𝓒 (individuals 𝓒) x → Has 𝓒 (individuals 𝓒) x C → Contradiction 𝓒
+  pub concept-forbidden : (x : Element 𝓒) (C : Concept) → SelfExcluded 𝓒 C → Belongs 𝓒 (individuals 𝓒) x → HasConcept 𝓒 (individuals 𝓒) x C → Contradiction 𝓒
   concept-forbidden x C f b h = let k = has_above 𝓒 x h f.1 in at-element x f.0 f.0 f.2 b k k
 
   -- THEOREM: so does a pair that has a forbidden role,
@@ -43,7 +44,7 @@ module _ (𝓒 : Collection) where
   role-forbidden x y R f e = let g = edge-above 𝓒 e f.1 in at_pair x y f.0 f.0 f.2 g g
 
   -- THEOREM: and whoever has a neighbour by it
-  pub neighbour-forbidden : (x : Element 𝓒) (R : SignedRole) → RoleSelfExcluded 𝓒 R → Belongs 𝓒 (individuals 𝓒) x → Has 𝓒 (individuals 𝓒) x (Exists R) → Contradiction 𝓒
+  pub neighbour-forbidden : (x : Element 𝓒) (R : SignedRole) → RoleSelfExcluded 𝓒 R → Belongs 𝓒 (individuals 𝓒) x → HasConcept 𝓒 (individuals 𝓒) x (Exists R) → Contradiction 𝓒
   neighbour-forbidden x R f b h = let w = has-neighbour 𝓒 x R b h in role-forbidden x w.0 R f w.2
 
 -- the same collection with other concept rules
@@ -65,17 +66,14 @@ module _ (𝓒 : Collection) (κ : List (Concept × Concept)) where
 
   -- where nothing is broken nobody has a concept that is forbidden, so that the added rules never apply
   module _ (added : Each κ (λ r. (r ∈ 𝓒.concept-rules) ⊎ SelfExcluded 𝓒 r.0)) (sane : Contradiction 𝓒 → ⊥) where
-    above-back : (x : Element 𝓒) → Belongs 𝓒 (individuals 𝓒) x → {C D : Concept} → Has 𝓒 (individuals 𝓒) x C → ConceptLe 𝓓 C D → Has 𝓒 (individuals 𝓒) x D
+    above-back : (x : Element 𝓒) → Belongs 𝓒 (individuals 𝓒) x → {C D : Concept} → HasConcept 𝓒 (individuals 𝓒) x C → ConceptLe 𝓓 C D → HasConcept 𝓒 (individuals 𝓒) x D
     above-back x b h same = h
     above-back x b h (then l m) = above-back x b (above-back x b h l) m
-    above-back x b {C} {D} h (rule m) = side (added (C, D) m)
-      where
-        side : ((C, D) ∈ 𝓒.concept-rules) ⊎ SelfExcluded 𝓒 C → Has 𝓒 (individuals 𝓒) x D
-        side (inl k) = has_above 𝓒 x h (rule k)
-        side (inr f) = absurd (sane (concept-forbidden 𝓒 x C f b h))
+    above-back x b {C} {D} h (rule m) =
+        ⊎_elim (λ k. has_above 𝓒 x h (rule k)) (λ f. absurd (sane (concept-forbidden 𝓒 x C f b h))) (added (C, D) m)
     above-back x b h (wider l) = has_above 𝓒 x h (wider l)
 
-    has-back : (x : Element 𝓒) (D : Concept) → Belongs 𝓒 (individuals 𝓒) x → Has 𝓓 (individuals 𝓓) x D → Has 𝓒 (individuals 𝓒) x D
+    has-back : (x : Element 𝓒) (D : Concept) → Belongs 𝓒 (individuals 𝓒) x → HasConcept 𝓓 (individuals 𝓓) x D → HasConcept 𝓒 (individuals 𝓒) x D
     has-back (root a) D b h = above-back (root a) b (h.0, typed-back h.1, same) h.2
     has-back (x ▹ R) D b h = above-back (x ▹ R) b same h
 
@@ -128,9 +126,9 @@ module _ {𝓒 𝓓 : Collection} (w : ImpliesMore 𝓒 𝓓) where
     breaks-alike = (contradiction-grows implies-larger ok ok', λ k. by k (clash 𝓒) refl)
       where
         by : Contradiction 𝓓 → (b : Bool) → clash 𝓒 ≡ b → Contradiction 𝓒
-        by k true e = (clash-is 𝓒 ok).0 (rw e tt)
+        by k true e = (clash-is 𝓒 ok).0 e
         by k false e =
-            let sane : Contradiction 𝓒 → ⊥ = λ h. let t = (clash-is 𝓒 ok).1 h in rw e at t in
+            let sane : Contradiction 𝓒 → ⊥ = test-false (clash-is 𝓒 ok) e in
             absurd (sane-still 𝓒 𝓓.concept-rules w.added sane (subst (λ 𝓔. Contradiction 𝓔) but-rules k))
 
     -- THEOREM: and where nothing is broken a pair is yes in the one exactly when it is in the other

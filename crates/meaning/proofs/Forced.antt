@@ -9,9 +9,9 @@ use Rattle.meaning.specs.Collection.{Collection, NumbersDeclared}
 use Rattle.meaning.specs.Orders.{RoleLe, ConceptLe, same, then, rule, turned, wider}
 use Rattle.theory.specs.Tree.{root, ◌▹◌}
 use Rattle.theory.specs.Run.{Run, stop, go, one, carry}
-use Rattle.meaning.specs.Model.{Has, Belongs, bare, ModelEdge, fact, child, parent, individuals, Element, Typed, named, first, second, FactEdge, ahead, behind, canonical, Contradiction, at-element, at_pair}
+use Rattle.meaning.specs.Model.{HasConcept, Belongs, bare, ModelEdge, fact, child, parent, individuals, Element, Typed, named, first, second, FactEdge, ahead, behind, canonical, Contradiction, at-element, at_pair}
 use Rattle.meaning.proofs.ModelLaws.{born, edge-back, edge-above, edge-has, has-neighbour, concept-fact-holds, role-fact-holds, concept-rule-kept}
-use Rattle.meaning.specs.Question.{Going, along-role, at_name, Yes}
+use Rattle.meaning.specs.Question.{PathStep, along-role, at_name, Yes}
 use Rattle.meaning.specs.Leaving.{LeavesIn, Leaves}
 use Rattle.meaning.specs.Clash.{Alive, sprouts, grows, Clash, individual-clash, unnamed-clash, fact-clash, down-clash, up-clash}
 use Rattle.meaning.proofs.Clash.{find}
@@ -52,7 +52,7 @@ module _ (𝓒 : Collection) (𝓦 : World) (keeps : Keeps 𝓒 𝓦) where
   fact-edge (behind m l) = keeps.back (edge-up l _ _ (keeps.role-fact m))
 
   -- a thing has the concepts of the element that it stands for
-  holds : {x : Element 𝓒} {d : structure.Thing} (C : Concept) → Stands 𝓒 𝓦 x d → Has 𝓒 (individuals 𝓒) x C → In structure d C
+  holds : {x : Element 𝓒} {d : structure.Thing} (C : Concept) → Stands 𝓒 𝓦 x d → HasConcept 𝓒 (individuals 𝓒) x C → In structure d C
   holds {d = d} C for-root h = in-up h.2 d (typed-in h.1)
   holds {d = e} C (for-child {d = d} s f) h = in-up h e (d, keeps.back f)
 
@@ -66,8 +66,8 @@ module _ (𝓒 : Collection) (𝓦 : World) (keeps : Keeps 𝓒 𝓦) where
   follows {d = e} (parent b l) (for-child {d = d} s f) = (d, s, keeps.back (edge-up l d e f))
 
   -- a path of the model is one of the world
-  path-in : {x y : Element 𝓒} {s t : State} {d : structure.Thing} → Run (Going 𝓒 (canonical 𝓒)) x s y t → Stands 𝓒 𝓦 x d
-      → (e : structure.Thing) × Stands 𝓒 𝓦 y e × Run (Going 𝓒 structure) d s e t
+  path-in : {x y : Element 𝓒} {s t : State} {d : structure.Thing} → Run (PathStep 𝓒 (canonical 𝓒)) x s y t → Stands 𝓒 𝓦 x d
+      → (e : structure.Thing) × Stands 𝓒 𝓦 y e × Run (PathStep 𝓒 structure) d s e t
   path-in {d = d} stop s = (d, s, stop)
   path-in (go (along-role S m f) p) s =
       let n = follows f s in
@@ -75,7 +75,7 @@ module _ (𝓒 : Collection) (𝓦 : World) (keeps : Keeps 𝓒 𝓦) where
       (w.0, w.1, go (along-role S m n.2) w.2)
   path-in (go (at_name A m h) p) s = let w = path-in p s in (w.0, w.1, go (at_name A m (holds (Name A) s h)) w.2)
 
-  ends : {b : Individual} {e d : structure.Thing} {s t : State} → Stands 𝓒 𝓦 (root b) e → Run (Going 𝓒 structure) d s e t → Run (Going 𝓒 structure) d s (person b) t
+  ends : {b : Individual} {e d : structure.Thing} {s t : State} → Stands 𝓒 𝓦 (root b) e → Run (PathStep 𝓒 structure) d s e t → Run (PathStep 𝓒 structure) d s (person b) t
   ends for-root p = p
 
   -- THEOREM: a yes of the model is a yes of every world that has the facts and keeps the rules
@@ -107,11 +107,11 @@ module _ (𝓒 : Collection) (𝓦 : World) (keeps : Keeps 𝓒 𝓦) where
 
 module _ (𝓒 : Collection) where
   -- in this world an element is in the concepts that it has
-  in-has : (x : Element 𝓒) (C : Concept) → In (model_world 𝓒).structure x C → Belongs 𝓒 (individuals 𝓒) x × Has 𝓒 (individuals 𝓒) x C
+  in-has : (x : Element 𝓒) (C : Concept) → In (model_world 𝓒).structure x C → Belongs 𝓒 (individuals 𝓒) x × HasConcept 𝓒 (individuals 𝓒) x C
   in-has x (Name A) h = h
   in-has x (Exists R) h = (h.1.0, edge-has 𝓒 h.1.2)
 
-  has_in : (x : Element 𝓒) (C : Concept) → Belongs 𝓒 (individuals 𝓒) x → Has 𝓒 (individuals 𝓒) x C → In (model_world 𝓒).structure x C
+  has_in : (x : Element 𝓒) (C : Concept) → Belongs 𝓒 (individuals 𝓒) x → HasConcept 𝓒 (individuals 𝓒) x C → In (model_world 𝓒).structure x C
   has_in x (Name A) b h = (b, h)
   has_in x (Exists R) b h = let n = has-neighbour 𝓒 x R b h in (n.0, (b, n.1, n.2))
 
@@ -132,7 +132,7 @@ module _ (𝓒 : Collection) where
     roles = λ {R} {S} m {x} {y} e f. sane (at_pair x y R S m e.2 f.2);
   }
 
-  going : (x y : Element 𝓒) (s t : State) → Going 𝓒 (model_world 𝓒).structure x s y t → Run (Going 𝓒 (canonical 𝓒)) x s y t
+  going : (x y : Element 𝓒) (s t : State) → PathStep 𝓒 (model_world 𝓒).structure x s y t → Run (PathStep 𝓒 (canonical 𝓒)) x s y t
   going x y s t (along-role S m e) = one (along-role S m e.2)
   going x y s t (at_name A m h) = one (at_name A m h.1)
 

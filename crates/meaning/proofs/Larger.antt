@@ -9,9 +9,9 @@ use Rattle.kinds.specs.Kinds.{IndividualDeclared}
 use Rattle.meaning.specs.Collection.{Collection, step, role, WellFormed}
 use Rattle.meaning.specs.Orders.{RoleLe, ConceptLe, same, then, rule, turned, wider}
 use Rattle.theory.specs.Tree.{root, ◌▹◌}
-use Rattle.meaning.specs.Model.{Has, Belongs, bare, grown, ModelEdge, fact, child, parent, individuals, canonical, Element, Typed, named, first, second, IndividualHas, FactEdge, ahead, behind, Contradiction, at-element, at_pair}
+use Rattle.meaning.specs.Model.{HasConcept, Belongs, bare, grown, ModelEdge, fact, child, parent, individuals, canonical, Element, Typed, named, first, second, IndividualHas, FactEdge, ahead, behind, Contradiction, at-element, at_pair}
 use Rattle.theory.specs.Run.{Run, one, carry}
-use Rattle.meaning.specs.Question.{Going, along-role, at_name, Yes}
+use Rattle.meaning.specs.Question.{PathStep, along-role, at_name, Yes}
 use Rattle.meaning.specs.Leaving.{Leaves}
 use Rattle.theory.specs.Grows.{Grows}
 use Rattle.meaning.specs.Demands.{Larger}
@@ -69,12 +69,12 @@ module _ {𝓒 𝓓 : Collection} (more : Larger 𝓒 𝓓) where
         let v : IndividualsWalk 𝓓 a 𝓒.counts.start b y.0 = walk-grows lite-grows (λ a. a) individual-grows near-grows w in
         (y.0, more.finals y.0 y.1, (path↔individuals-walk 𝓓 ok' a b 𝓓.counts.start y.0 j).1 (rw more.start at v))
 
-    has-grows : (x : Element 𝓒) (D : Concept) → Has 𝓒 (individuals 𝓒) x D → Has 𝓓 (individuals 𝓓) x D
+    has-grows : (x : Element 𝓒) (D : Concept) → HasConcept 𝓒 (individuals 𝓒) x D → HasConcept 𝓓 (individuals 𝓓) x D
     has-grows (root a) D h = individual-grows a D h
     has-grows (x ▹ R) D h = concept-grows h
 
     -- an element that has a concept belongs to the larger model: its individual has a fact, which the larger collection declares
-    belongs-grows : {x : Element 𝓒} → Belongs 𝓒 (individuals 𝓒) x → (D : Concept) → Has 𝓒 (individuals 𝓒) x D → Belongs 𝓓 (individuals 𝓓) x
+    belongs-grows : {x : Element 𝓒} → Belongs 𝓒 (individuals 𝓒) x → (D : Concept) → HasConcept 𝓒 (individuals 𝓒) x D → Belongs 𝓓 (individuals 𝓓) x
     belongs-grows (bare {a = a} i) D h = bare (typed-declared 𝓓 ok'.numbers (individual-grows a D h).1)
     belongs-grows (grown {x = x} {R = R} b k) D h = grown (belongs-grows b (Exists R) k) (has-grows x (Exists R) k)
 
@@ -91,7 +91,7 @@ module _ {𝓒 𝓓 : Collection} (more : Larger 𝓒 𝓓) where
     contradiction-grows (at-element x C D m b h k) = at-element x C D (more.concept-exclusions (C, D) m) (belongs-grows b C h) (has-grows x C h) (has-grows x D k)
     contradiction-grows (at_pair x y R S m g h) = at_pair x y R S (more.role-exclusions (R, S) m) (edge-grows g) (edge-grows h)
 
-    going-grows : (x y : Element 𝓒) (s t : State) → Going 𝓒 (canonical 𝓒) x s y t → Run (Going 𝓓 (canonical 𝓓)) x s y t
+    going-grows : (x y : Element 𝓒) (s t : State) → PathStep 𝓒 (canonical 𝓒) x s y t → Run (PathStep 𝓓 (canonical 𝓓)) x s y t
     going-grows x y s t (along-role S m e) = one (along-role S (more.steps _ m) (edge-grows e))
     going-grows x y s t (at_name A m h) = one (at_name A (more.steps _ m) (has-grows x (Name A) h))
 

@@ -87,11 +87,11 @@ module _ (b : ℕ → Bool) where
   packed_byte i h = get_d_numbered (byte_from b) area_length i 0 h
 
   pub packed-bytes : (i : ℕ) → get_or (packed b) i 0 < 2 ^ byte_bits
-  packed-bytes i = side (dec_lt i area_length)
-    where
-      side : Dec (i < area_length) → get_or (packed b) i 0 < 2 ^ byte_bits
-      side (yes l) = rw (packed_byte i l) (from_bits-fits byte_bits (λ j. b (byte_bits * i + j)))
-      side (no l) = let z = get_or-eq_default (packed b) 0 {n = i} (omega (arith, packed-long)) in omega (arith, z)
+  packed-bytes i =
+      elim (dec_lt i area_length) [
+        | yes l ↦ rw (packed_byte i l) (from_bits-fits byte_bits (λ j. b (byte_bits * i + j)))
+        | no l ↦ let z = get_or-eq_default (packed b) 0 {n = i} (omega (arith, packed-long)) in omega (arith, z)
+      ]
 
   pub packed-bit : (p : ℕ) → p < place_count → bit_in (packed b) p ≡ bit (b p)
   packed-bit p h =

@@ -126,11 +126,11 @@ module _ (𝓒 : Collection) (ok : WellFormed 𝓒) where
     ones = record { rising = rising places (rises one_at place_count 0 0 (omega arith)); ones = λ p. (into p, λ i. eqb→eq (bit_in area p) 1 ((select-out (upto place_count 0) one_at i).1)) }
       where
         into : (p : ℕ) → bit_in area p ≡ 1 → p ∈ places
-        into p e = side (dec_lt p place_count)
-          where
-            side : Dec (p < place_count) → p ∈ places
-            side (yes l) = select_in (upto place_count 0) one_at (upto-in place_count 0 p (omega arith) (omega arith)) (rw e (eqb_refl 1))
-            side (no g) = let z = bit_past area p lays.long (omega arith) in absurd (omega (arith, e, z))
+        into p e =
+            elim (dec_lt p place_count) [
+              | yes l ↦ select_in (upto place_count 0) one_at (upto-in place_count 0 p (omega arith) (omega arith)) (rw e (eqb_refl 1))
+              | no g ↦ let z = bit_past area p lays.long (omega arith) in absurd (omega (arith, e, z))
+            ]
 
     mark_place : State × State × Concept → ℕ
     mark_place m = place m.0 m.1 m.2

@@ -1,15 +1,16 @@
 -- DL-Lite's loop sheet as it is computed: in each round the definition's, and with the definition's rounds needed.
-use Rattle.std.specs.Prelude.{◌≡◌, Bool, ℕ, T}
+use Rattle.std.specs.Prelude.{◌≡◌, ◌↔◌, Bool, ℕ, T, IsTrue}
 use Rattle.kinds.specs.declared.State.{State}
 use Rattle.kinds.specs.declared.Concept.{Concept}
 use Rattle.laws.specs.Member.{◌∈◌}
+use Rattle.laws.specs.Truth.{test-same}
 use Rattle.meaning.specs.Collection.{Collection, NumbersDeclared}
 use Rattle.theory.specs.Sheet.{Markable, Mark, Needed}
 use Rattle.theory.proofs.SheetLaws.{mark→loop, loop→mark}
 use Rattle.theory.specs.Tree.{Loop}
 use Rattle.meaning.specs.Lite.{lite, valid_concepts, declared_states}
 use Rattle.meaning.proofs.Declared.{lite-sane}
-use Rattle.theory.proofs.Tests.{sheet, work, after, after_is, mark-in, mark-out, sheet-to, works}
+use Rattle.theory.proofs.Tests.{sheet, work, after, after_is, mark-is, mark-in, mark-out, works}
 use Rattle.meaning.proofs.LiteTests.{lite_tests, lite-decides}
 
 -- the sheet after n rounds; the same with a memory of what was computed; the rounds needed and the closed sheet
@@ -39,12 +40,10 @@ module _ (𝓒 : Collection) (ok : NumbersDeclared 𝓒) where
   closed-sheet = (works (lite 𝓒) (lite_tests 𝓒) (lite-decides 𝓒 ok) (lite-sane 𝓒 ok)).1
 
   -- the closed sheet that is computed holds exactly the loops
-  pub closed-out : (s t : State) (B : Concept) → s ∈ declared_states 𝓒.counts → B ∈ valid_concepts 𝓒.counts → T ((lite_work 𝓒).1 s t B) → Loop (lite 𝓒) B s t
-  closed-out s t B m b h =
+  pub closed-is : (s t : State) (B : Concept) → s ∈ declared_states 𝓒.counts → B ∈ valid_concepts 𝓒.counts
+      → IsTrue ((lite_work 𝓒).1 s t B) ↔ Loop (lite 𝓒) B s t
+  closed-is s t B m b =
       let n = (lite_work 𝓒).0 in
-      let k : T (lite_sheet 𝓒 n s t B) = rw closed-sheet at h in
-      let j = sheet-to (lite 𝓒) (lite_tests 𝓒) (lite-decides 𝓒 ok) (lite-sane 𝓒 ok) n s t B m b k in
-      mark→loop (lite 𝓒) n s t B (lite-mark-out n s t B (record { from = m; to = j; of = b }) k)
-
-  pub closed_in : (s t : State) (B : Concept) → s ∈ declared_states 𝓒.counts → B ∈ valid_concepts 𝓒.counts → Loop (lite 𝓒) B s t → T ((lite_work 𝓒).1 s t B)
-  closed_in s t B m b l = rw closed-sheet (lite-mark-in (lite_work 𝓒).0 s t B (loop→mark (lite 𝓒) (lite-sane 𝓒 ok) (lite_work 𝓒).0 lite-needed.holds l b m))
+      rw closed-sheet
+      (test-same (mark-is (lite 𝓒) (lite_tests 𝓒) (lite-decides 𝓒 ok) (lite-sane 𝓒 ok) n s t B m b) (mark→loop (lite 𝓒) n s t B)
+      (λ l. loop→mark (lite 𝓒) (lite-sane 𝓒 ok) n lite-needed.holds l b m))

@@ -1,7 +1,8 @@
 -- Calculation: R ≤ S, C ≤ D and DL-Lite's steps as tests that compute, and that they say what the definitions say.
-use Rattle.std.specs.Prelude.{◌≡◌, refl, Bool, false, ◌⊎◌, eqb}
+use Rattle.std.specs.Prelude.{◌≡◌, ◌↔◌, refl, Bool, false, ◌⊎◌, eqb, IsTrue}
 use Rattle.std.proofs.Common.{ap, inl, inr, eqb→eq}
 use Rattle.std.proofs.Math.Dec.{T, eqb_refl}
+use Rattle.std.proofs.lemmas.Bool.{false≢true}
 use Rattle.kinds.specs.declared.ConceptName.{ConceptName}
 use Rattle.kinds.specs.declared.Individual.{Individual}
 use Rattle.kinds.specs.declared.State.{State}
@@ -10,8 +11,9 @@ use Rattle.kinds.specs.declared.Concept.{Concept}
 use Rattle.kinds.specs.declared.Concept.TheVariants.{Name, Exists}
 use Rattle.kinds.specs.Kinds.{inverse, inverse-inverse, concept_name, individual, signed, state, SignedDeclared, ConceptDeclared}
 use Rattle.laws.specs.Member.{◌∈◌}
-use Rattle.laws.specs.Search.{any, any-in, any_out, or, or_left, or_right, or_case, and, and_left, and_right, and_both}
-use Rattle.laws.specs.Same.{Same, both, both-same, listed_in, listed-out}
+use Rattle.laws.specs.Search.{any, or, and, passed}
+use Rattle.laws.specs.Same.{Same, both, both-same}
+use Rattle.laws.specs.Truth.{test-of, test-in, test-out, test-self, test-same, test-and, test-or, test-any, test-equals, test-listed}
 use Rattle.laws.specs.Chain.{Chain, link, chain, closed, closed_in, closed-out}
 use Rattle.meaning.specs.Collection.{Collection, Letter, role, test, Step, step, RoleStep, TestStep, NumbersDeclared}
 use Rattle.meaning.specs.Orders.{RoleLe, ConceptLe, same, then, rule, turned, wider}
@@ -51,18 +53,30 @@ state-same = record { is = λ s t e. ap state (eqb→eq s.0 t.0 e); self = λ s.
 pub role_same : Same same_role
 role_same = record { is = λ R S e. ap signed (eqb→eq R.0 S.0 e); self = λ R. eqb_refl R.0 }
 
-concept-is : (C D : Concept) → T (same_concept C D) → C ≡ D
-concept-is (Name A) (Name B) e = ap Name (name-same.is A B e)
-concept-is (Name A) (Exists S) e = absurd e
-concept-is (Exists R) (Name B) e = absurd e
-concept-is (Exists R) (Exists S) e = ap Exists (role_same.is R S e)
-
-concept-self : (C : Concept) → T (same_concept C C)
-concept-self (Name A) = eqb_refl A.0
-concept-self (Exists R) = eqb_refl R.0
-
 pub concept-same : Same same_concept
-concept-same = record { is = concept-is; self = concept-self }
+concept-same = record { is = is; self = self }
+  where
+    is : (C D : Concept) → T (same_concept C D) → C ≡ D
+    is (Name A) (Name B) e = ap Name (name-same.is A B e)
+    is (Name A) (Exists S) e = absurd e
+    is (Exists R) (Name B) e = absurd e
+    is (Exists R) (Exists S) e = ap Exists (role_same.is R S e)
+
+    self : (C : Concept) → T (same_concept C C)
+    self (Name A) = eqb_refl A.0
+    self (Exists R) = eqb_refl R.0
+
+pub individual-equal : (a b : Individual) → IsTrue (same_individual a b) ↔ (a ≡ b)
+individual-equal = test-equals same_individual individual-same
+
+pub state-equal : (s t : State) → IsTrue (same_state s t) ↔ (s ≡ t)
+state-equal = test-equals same_state state-same
+
+pub role-equal : (R S : SignedRole) → IsTrue (same_role R S) ↔ (R ≡ S)
+role-equal = test-equals same_role role_same
+
+pub concept-equal : (C D : Concept) → IsTrue (same_concept C D) ↔ (C ≡ D)
+concept-equal = test-equals same_concept concept-same
 
 abbrev pub same_roles : SignedRole × SignedRole → SignedRole × SignedRole → Bool
 same_roles = both same_role same_role
@@ -130,174 +144,170 @@ module _ (𝓒 : Collection) where
   }
 
   -- where R ≤ S comes from in one link
-  data RoleFrom (R S : SignedRole) : Type 0 where
-    equal : R ≡ S → RoleFrom R S
-    typed : (R, S) ∈ 𝓒.role-rules → RoleFrom R S
-    mirrored : (inverse R, inverse S) ∈ 𝓒.role-rules → RoleFrom R S
+  abbrev RoleFrom : SignedRole → SignedRole → Type 0
+  RoleFrom R S = (R ≡ S) ⊎ (((R, S) ∈ 𝓒.role-rules) ⊎ ((inverse R, inverse S) ∈ 𝓒.role-rules))
 
-  role-base-in : (R S : SignedRole) → RoleFrom R S → T (role_base R S)
+  role-base-is : (R S : SignedRole) → IsTrue (role_base R S) ↔ RoleFrom R S
   unfolding role_base
-  role-base-in R S (equal e) = or_left (same_role R S) _ (rw e (role_same.self S))
-  role-base-in R S (typed m) = or_right (same_role R S) _ (or_left (any 𝓒.role-rules (same_roles (R, S))) _ (listed_in same_roles (both-same same_role same_role role_same role_same) 𝓒.role-rules (R, S) m))
-  role-base-in R S (mirrored m) = or_right (same_role R S) _ (or_right (any 𝓒.role-rules (same_roles (R, S))) _ (listed_in same_roles (both-same same_role same_role role_same role_same) 𝓒.role-rules (inverse R, inverse S) m))
-
-  role-base-out : (R S : SignedRole) → T (role_base R S) → RoleFrom R S
-  unfolding role_base
-  role-base-out R S h = one (or_case (same_role R S) _ h)
-    where
-      two : T (any 𝓒.role-rules (same_roles (R, S))) ⊎ T (any 𝓒.role-rules (same_roles (inverse R, inverse S))) → RoleFrom R S
-      two (inl k) = typed (listed-out same_roles (both-same same_role same_role role_same role_same) 𝓒.role-rules (R, S) k)
-      two (inr k) = mirrored (listed-out same_roles (both-same same_role same_role role_same role_same) 𝓒.role-rules (inverse R, inverse S) k)
-
-      one : T (same_role R S) ⊎ T (or (any 𝓒.role-rules (same_roles (R, S))) (any 𝓒.role-rules (same_roles (inverse R, inverse S)))) → RoleFrom R S
-      one (inl k) = equal (role_same.is R S k)
-      one (inr k) = two (or_case (any 𝓒.role-rules (same_roles (R, S))) _ k)
+  role-base-is R S =
+      let same = both-same same_role same_role role_same role_same in
+      test-or (role-equal R S)
+      (test-or (test-listed same_roles same 𝓒.role-rules (R, S)) (test-listed same_roles same 𝓒.role-rules (inverse R, inverse S)))
 
   abbrev RoleLinks : SignedRole → SignedRole → Type 0
   RoleLinks = Chain (λ R S. T (role_base R S))
 
+  role-link : (R S : SignedRole) → RoleFrom R S → RoleLinks R S
+  role-link R S h = link (test-in (role-base-is R S) h)
+
   flip : (R S : SignedRole) → RoleFrom R S → RoleFrom (inverse R) (inverse S)
-  flip R S (equal e) = equal (ap inverse e)
-  flip R S (typed m) = mirrored (rw (inverse-inverse R, inverse-inverse S) m)
-  flip R S (mirrored m) = typed m
+  flip R S (inl e) = inl (ap inverse e)
+  flip R S (inr (inl m)) = inr (inr (rw (inverse-inverse R, inverse-inverse S) m))
+  flip R S (inr (inr m)) = inr (inl m)
 
   flips : {R S : SignedRole} → RoleLinks R S → RoleLinks (inverse R) (inverse S)
-  flips (link {x = R} {y = S} h) = link (role-base-in (inverse R) (inverse S) (flip R S (role-base-out R S h)))
+  flips (link {x = R} {y = S} h) = role-link (inverse R) (inverse S) (flip R S (test-out (role-base-is R S) h))
   flips (chain c d) = chain (flips c) (flips d)
 
   role-links : {R S : SignedRole} → RoleLe 𝓒 R S → RoleLinks R S
-  role-links (same {R = R}) = link (role-base-in R R (equal refl))
+  role-links (same {R = R}) = role-link R R (inl refl)
   role-links (then l m) = chain (role-links l) (role-links m)
-  role-links (rule {R = R} {S = S} m) = link (role-base-in R S (typed m))
+  role-links (rule {R = R} {S = S} m) = role-link R S (inr (inl m))
   role-links (turned l) = flips (role-links l)
 
   role-mean : (R S : SignedRole) → RoleFrom R S → RoleLe 𝓒 R S
-  role-mean R S (equal e) = rw e same
-  role-mean R S (typed m) = rule m
-  role-mean R S (mirrored m) = (inverses-follow 𝓒).1 (rule m)
+  role-mean R S (inl e) = rw e same
+  role-mean R S (inr (inl m)) = rule m
+  role-mean R S (inr (inr m)) = (inverses-follow 𝓒).1 (rule m)
+
+  role-one : (R S : SignedRole) → T (role_base R S) → RoleLe 𝓒 R S
+  role-one R S h = role-mean R S (test-out (role-base-is R S) h)
 
   links-role : {R S : SignedRole} → RoleLinks R S → RoleLe 𝓒 R S
-  links-role (link {x = R} {y = S} h) = role-mean R S (role-base-out R S h)
+  links-role (link {x = R} {y = S} h) = role-one R S h
   links-role (chain c d) = then (links-role c) (links-role d)
 
   -- steps found by their letter
-  leads-in : (s t : State) (f : Letter → Bool) (l : Letter) → step s l t ∈ 𝓒.steps → T (f l) → T (any 𝓒.steps (leads s t f))
-  leads-in s t f l m h = any-in 𝓒.steps (leads s t f) m (and_both (same_state s s) _ (state-same.self s) (and_both (same_state t t) (f l) (state-same.self t) h))
-
-  leads-out : (s t : State) (f : Letter → Bool) → T (any 𝓒.steps (leads s t f)) → (l : Letter) × (step s l t ∈ 𝓒.steps) × T (f l)
-  leads-out s t f h = let w = any_out 𝓒.steps (leads s t f) h in side w.0 w.1 w.2
+  leads-is : (s t : State) (f : Letter → Bool) {P : Letter → Type 0} → ((l : Letter) → IsTrue (f l) ↔ P l)
+      → IsTrue (any 𝓒.steps (leads s t f)) ↔ ((l : Letter) × (step s l t ∈ 𝓒.steps) × P l)
+  leads-is s t f {P} h = test-same (test-any 𝓒.steps (λ e m. one e)) (λ w. to w.0 w.1 w.2) (λ w. (step s w.0 t, w.1, (refl, (refl, w.2))))
     where
-      side : (e : Step) → e ∈ 𝓒.steps → T (leads s t f e) → (l : Letter) × (step s l t ∈ 𝓒.steps) × T (f l)
-      side (step s' l t') m k =
-          let p = and_right (same_state s' s) (and (same_state t' t) (f l)) k in
-          let e = state-same.is s' s (and_left (same_state s' s) (and (same_state t' t) (f l)) k) in
-          let e' = state-same.is t' t (and_left (same_state t' t) (f l) p) in
-          (l, rw (e, e') at m, and_right (same_state t' t) (f l) p)
+      Leads : Step → Type 0
+      Leads (step s' l t') = (s' ≡ s) × ((t' ≡ t) × P l)
 
-  pub role-step-in : (s t : State) (f : SignedRole → Bool) (S : SignedRole) → RoleStep 𝓒 s S t → T (f S) → T (any 𝓒.steps (leads s t (role_letter f)))
-  role-step-in s t f S m h = leads-in s t (role_letter f) (role S) m h
+      one : (e : Step) → IsTrue (leads s t f e) ↔ Leads e
+      one (step s' l t') = test-and (state-equal s' s) (test-and (state-equal t' t) (h l))
 
-  pub role-step-out : (s t : State) (f : SignedRole → Bool) → T (any 𝓒.steps (leads s t (role_letter f))) → (S : SignedRole) × RoleStep 𝓒 s S t × T (f S)
-  role-step-out s t f h = let w = leads-out s t (role_letter f) h in side w.0 w.1 w.2
+      to : (e : Step) → e ∈ 𝓒.steps → Leads e → (l : Letter) × (step s l t ∈ 𝓒.steps) × P l
+      to (step s' l t') m p = let e = p.0 in let g = p.1.0 in (l, rw (e, g) at m, p.1.1)
+
+  pub role-step-is : (s t : State) (f : SignedRole → Bool) {P : SignedRole → Type 0} → ((S : SignedRole) → IsTrue (f S) ↔ P S)
+      → IsTrue (any 𝓒.steps (leads s t (role_letter f))) ↔ ((S : SignedRole) × RoleStep 𝓒 s S t × P S)
+  role-step-is s t f {P} h = test-same (leads-is s t (role_letter f) letter) (λ w. to w.0 w.1 w.2) (λ w. (role w.0, w.1, w.2))
     where
-      side : (l : Letter) → step s l t ∈ 𝓒.steps → T (role_letter f l) → (S : SignedRole) × RoleStep 𝓒 s S t × T (f S)
-      side (role S) m k = (S, m, k)
-      side (test A) m k = absurd k
+      By : Letter → Type 0
+      By (role S) = P S
+      By (test A) = ⊥
 
-  test-step-in : (s t : State) (f : ConceptName → Bool) (A : ConceptName) → TestStep 𝓒 s A t → T (f A) → T (any 𝓒.steps (leads s t (test_letter f)))
-  test-step-in s t f A m h = leads-in s t (test_letter f) (test A) m h
+      letter : (l : Letter) → IsTrue (role_letter f l) ↔ By l
+      letter (role S) = h S
+      letter (test A) = (false≢true, λ p. absurd p)
 
-  test-step-out : (s t : State) (f : ConceptName → Bool) → T (any 𝓒.steps (leads s t (test_letter f))) → (A : ConceptName) × TestStep 𝓒 s A t × T (f A)
-  test-step-out s t f h = let w = leads-out s t (test_letter f) h in side w.0 w.1 w.2
+      to : (l : Letter) → step s l t ∈ 𝓒.steps → By l → (S : SignedRole) × RoleStep 𝓒 s S t × P S
+      to (role S) m p = (S, m, p)
+      to (test A) m p = absurd p
+
+  test-step-is : (s t : State) (f : ConceptName → Bool) {P : ConceptName → Type 0} → ((A : ConceptName) → IsTrue (f A) ↔ P A)
+      → IsTrue (any 𝓒.steps (leads s t (test_letter f))) ↔ ((A : ConceptName) × TestStep 𝓒 s A t × P A)
+  test-step-is s t f {P} h = test-same (leads-is s t (test_letter f) letter) (λ w. to w.0 w.1 w.2) (λ w. (test w.0, w.1, w.2))
     where
-      side : (l : Letter) → step s l t ∈ 𝓒.steps → T (test_letter f l) → (A : ConceptName) × TestStep 𝓒 s A t × T (f A)
-      side (role S) m k = absurd k
-      side (test A) m k = (A, m, k)
+      By : Letter → Type 0
+      By (role S) = ⊥
+      By (test A) = P A
+
+      letter : (l : Letter) → IsTrue (test_letter f l) ↔ By l
+      letter (role S) = (false≢true, λ p. absurd p)
+      letter (test A) = h A
+
+      to : (l : Letter) → step s l t ∈ 𝓒.steps → By l → (A : ConceptName) × TestStep 𝓒 s A t × P A
+      to (role S) m p = absurd p
+      to (test A) m p = (A, m, p)
 
   module _ (ok : NumbersDeclared 𝓒) where
     role-base-to : (R S : SignedRole) → R ∈ signed_roles 𝓒.counts → T (role_base R S) → S ∈ signed_roles 𝓒.counts
-    role-base-to R S m h = signed-in 𝓒.counts S (role-declared 𝓒 ok (role-mean R S (role-base-out R S h)) (signed-out 𝓒.counts R m))
+    role-base-to R S m h = signed-in 𝓒.counts S (role-declared 𝓒 ok (role-one R S h) (signed-out 𝓒.counts R m))
 
-    pub role_le-out : (R S : SignedRole) → T (role_le R S) → RoleLe 𝓒 R S
+    role_le-out : (R S : SignedRole) → T (role_le R S) → RoleLe 𝓒 R S
     unfolding role_le
     role_le-out R S h = links-role (closed-out same_role (signed_roles 𝓒.counts) role_base role_same.is role-base-to R S h)
 
-    pub role_le-in : (R S : SignedRole) → SignedDeclared 𝓒.counts R → RoleLe 𝓒 R S → T (role_le R S)
+    pub role_le-is : (R S : SignedRole) → SignedDeclared 𝓒.counts R → IsTrue (role_le R S) ↔ RoleLe 𝓒 R S
     unfolding role_le
-    role_le-in R S h l = closed_in same_role (signed_roles 𝓒.counts) role_base role_same.is role-base-to R S (signed-in 𝓒.counts R h) (role-links l)
+    role_le-is R S d =
+        test-of (role_le R S) (role_le-out R S)
+        (λ l. closed_in same_role (signed_roles 𝓒.counts) role_base role_same.is role-base-to R S (signed-in 𝓒.counts R d) (role-links l))
 
     -- where C ≤ D comes from in one link
-    data ConceptFrom : Concept → Concept → Type 0 where
-      equal : {C D : Concept} → C ≡ D → ConceptFrom C D
-      typed : {C D : Concept} → (C, D) ∈ 𝓒.concept-rules → ConceptFrom C D
-      widened : {R S : SignedRole} → T (role_le R S) → ConceptFrom (Exists R) (Exists S)
+    abbrev ConceptFrom : Concept → Concept → Type 0
+    ConceptFrom C D = (C ≡ D) ⊎ (((C, D) ∈ 𝓒.concept-rules) ⊎ IsTrue (wide C D))
 
-    concept-base-in : (C D : Concept) → ConceptFrom C D → T (concept_base C D)
+    concept-base-is : (C D : Concept) → IsTrue (concept_base C D) ↔ ConceptFrom C D
     unfolding concept_base
-    concept-base-in C D (equal e) = or_left (same_concept C D) _ (rw e (concept-same.self D))
-    concept-base-in C D (typed m) = or_right (same_concept C D) _ (or_left (any 𝓒.concept-rules (same_concepts (C, D))) _ (listed_in same_concepts (both-same same_concept same_concept concept-same concept-same) 𝓒.concept-rules (C, D) m))
-    concept-base-in C D (widened {R = R} {S = S} h) = or_right (same_concept (Exists R) (Exists S)) _ (or_right (any 𝓒.concept-rules (same_concepts (Exists R, Exists S))) (role_le R S) h)
-
-    wide-out : (C D : Concept) → T (wide C D) → ConceptFrom C D
-    wide-out (Name A) (Name B) h = absurd h
-    wide-out (Name A) (Exists S) h = absurd h
-    wide-out (Exists R) (Name B) h = absurd h
-    wide-out (Exists R) (Exists S) h = widened h
-
-    concept-base-out : (C D : Concept) → T (concept_base C D) → ConceptFrom C D
-    unfolding concept_base
-    concept-base-out C D h = one (or_case (same_concept C D) _ h)
-      where
-        two : T (any 𝓒.concept-rules (same_concepts (C, D))) ⊎ T (wide C D) → ConceptFrom C D
-        two (inl k) = typed (listed-out same_concepts (both-same same_concept same_concept concept-same concept-same) 𝓒.concept-rules (C, D) k)
-        two (inr k) = wide-out C D k
-
-        one : T (same_concept C D) ⊎ T (or (any 𝓒.concept-rules (same_concepts (C, D))) (wide C D)) → ConceptFrom C D
-        one (inl k) = equal (concept-same.is C D k)
-        one (inr k) = two (or_case (any 𝓒.concept-rules (same_concepts (C, D))) _ k)
+    concept-base-is C D =
+        let same = both-same same_concept same_concept concept-same concept-same in
+        test-or (concept-equal C D) (test-or (test-listed same_concepts same 𝓒.concept-rules (C, D)) (test-self (wide C D)))
 
     abbrev ConceptLinks : Concept → Concept → Type 0
     ConceptLinks = Chain (λ C D. T (concept_base C D))
 
+    concept-link : (C D : Concept) → ConceptFrom C D → ConceptLinks C D
+    concept-link C D h = link (test-in (concept-base-is C D) h)
+
+    wide-mean : (C D : Concept) → IsTrue (wide C D) → ConceptLe 𝓒 C D
+    wide-mean (Name A) (Name B) h = absurd (false≢true h)
+    wide-mean (Name A) (Exists S) h = absurd (false≢true h)
+    wide-mean (Exists R) (Name B) h = absurd (false≢true h)
+    wide-mean (Exists R) (Exists S) h = wider (role_le-out R S (passed (role_le R S) h))
+
     concept-mean : (C D : Concept) → ConceptFrom C D → ConceptLe 𝓒 C D
-    concept-mean C D (equal e) = rw e same
-    concept-mean C D (typed m) = rule m
-    concept-mean C D (widened {R = R} {S = S} h) = wider (role_le-out R S h)
+    concept-mean C D (inl e) = rw e same
+    concept-mean C D (inr (inl m)) = rule m
+    concept-mean C D (inr (inr h)) = wide-mean C D h
+
+    concept-one : (C D : Concept) → T (concept_base C D) → ConceptLe 𝓒 C D
+    concept-one C D h = concept-mean C D (test-out (concept-base-is C D) h)
 
     links-concept : {C D : Concept} → ConceptLinks C D → ConceptLe 𝓒 C D
-    links-concept (link {x = C} {y = D} h) = concept-mean C D (concept-base-out C D h)
+    links-concept (link {x = C} {y = D} h) = concept-one C D h
     links-concept (chain c d) = then (links-concept c) (links-concept d)
 
     concept-links : {C D : Concept} → ConceptLe 𝓒 C D → ConceptDeclared 𝓒.counts C → ConceptLinks C D
-    concept-links (same {C = C}) h = link (concept-base-in C C (equal refl))
+    concept-links (same {C = C}) h = concept-link C C (inl refl)
     concept-links (then l m) h = chain (concept-links l h) (concept-links m (concept-declared 𝓒 ok l h))
-    concept-links (rule {C = C} {D = D} m) h = link (concept-base-in C D (typed m))
-    concept-links (wider {R = R} {S = S} l) h = link (concept-base-in (Exists R) (Exists S) (widened (role_le-in R S h l)))
+    concept-links (rule {C = C} {D = D} m) h = concept-link C D (inr (inl m))
+    concept-links (wider {R = R} {S = S} l) h = concept-link (Exists R) (Exists S) (inr (inr ((role_le-is R S h).1 l)))
 
     concept-base-to : (C D : Concept) → C ∈ valid_concepts 𝓒.counts → T (concept_base C D) → D ∈ valid_concepts 𝓒.counts
-    concept-base-to C D m h = concept-in 𝓒.counts D (concept-declared 𝓒 ok (concept-mean C D (concept-base-out C D h)) (concept-out 𝓒.counts C m))
+    concept-base-to C D m h = concept-in 𝓒.counts D (concept-declared 𝓒 ok (concept-one C D h) (concept-out 𝓒.counts C m))
 
-    pub concept_le-out : (C D : Concept) → T (concept_le C D) → ConceptLe 𝓒 C D
+    pub concept_le-is : (C D : Concept) → ConceptDeclared 𝓒.counts C → IsTrue (concept_le C D) ↔ ConceptLe 𝓒 C D
     unfolding concept_le
-    concept_le-out C D h = links-concept (closed-out same_concept (valid_concepts 𝓒.counts) concept_base concept-same.is concept-base-to C D h)
-
-    pub concept_le-in : (C D : Concept) → ConceptDeclared 𝓒.counts C → ConceptLe 𝓒 C D → T (concept_le C D)
-    unfolding concept_le
-    concept_le-in C D h l = closed_in same_concept (valid_concepts 𝓒.counts) concept_base concept-same.is concept-base-to C D (concept-in 𝓒.counts C h) (concept-links l h)
+    concept_le-is C D d =
+        let concepts = valid_concepts 𝓒.counts in
+        test-of (concept_le C D) (λ h. links-concept (closed-out same_concept concepts concept_base concept-same.is concept-base-to C D h))
+        (λ l.
+        closed_in same_concept concepts concept_base concept-same.is concept-base-to C D (concept-in 𝓒.counts C d) (concept-links l d))
 
     pub lite-decides : AreTestsOf (lite 𝓒) lite_tests
     lite-decides = record {
       states-same = state-same;
       concepts-same = concept-same;
       edge_in = λ B R m h. signed-in 𝓒.counts R (concept-declared 𝓒 ok h (concept-out 𝓒.counts B m));
-      child-in = λ B R m h. concept_le-in B (Exists R) (concept-out 𝓒.counts B m) h;
-      child-out = λ B R m h. concept_le-out B (Exists R) h;
-      test_in = λ B s t m h. test-step-in s t (λ A. concept_le B (Name A)) h.0 h.1 (concept_le-in B (Name h.0) (concept-out 𝓒.counts B m) h.2);
-      test-out = λ B s t m h. let w = test-step-out s t (λ A. concept_le B (Name A)) h in (w.0, w.1, concept_le-out B (Name w.0) w.2);
-      down-in = λ R s t m h. role-step-in s t (role_le R) h.0 h.1 (role_le-in R h.0 (signed-out 𝓒.counts R m) h.2);
-      down_out = λ R s t m h. let w = role-step-out s t (role_le R) h in (w.0, w.1, role_le-out R w.0 w.2);
-      up_in = λ R s t m h. role-step-in s t (λ S. role_le R (inverse S)) (inverse h.0) h.1 (rw (inverse-inverse h.0) (role_le-in R h.0 (signed-out 𝓒.counts R m) h.2));
-      up-out = λ R s t m h.
-          let w = role-step-out s t (λ S. role_le R (inverse S)) h in
-          (inverse w.0, rw (inverse-inverse w.0) w.1, role_le-out R (inverse w.0) w.2);
+      child = λ B R m. concept_le-is B (Exists R) (concept-out 𝓒.counts B m);
+      test = λ B s t m. test-step-is s t (λ A. concept_le B (Name A)) (λ A. concept_le-is B (Name A) (concept-out 𝓒.counts B m));
+      down = λ R s t m. role-step-is s t (role_le R) (λ S. role_le-is R S (signed-out 𝓒.counts R m));
+      up = λ R s t m.
+          test-same
+          (role-step-is s t (λ S. role_le R (inverse S)) (λ S. role_le-is R (inverse S) (signed-out 𝓒.counts R m)))
+          (λ w. (inverse w.0, rw (inverse-inverse w.0) w.1, w.2)) (λ h. (inverse h.0, h.1, rw (inverse-inverse h.0) h.2));
     }

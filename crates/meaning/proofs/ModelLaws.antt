@@ -12,12 +12,12 @@ use Rattle.laws.specs.Member.{◌∈◌}
 use Rattle.meaning.specs.Collection.{Collection}
 use Rattle.meaning.specs.Orders.{RoleLe, ConceptLe, same, then, rule, turned, wider}
 use Rattle.theory.specs.Tree.{Elem, root, ◌▹◌}
-use Rattle.meaning.specs.Model.{Roots, Has, Belongs, bare, grown, ModelEdge, fact, child, parent, individuals, Element, named, first, second, IndividualHas, FactEdge, ahead, behind, Contradiction, at_pair}
+use Rattle.meaning.specs.Model.{Roots, HasConcept, Belongs, bare, grown, ModelEdge, fact, child, parent, individuals, Element, named, first, second, IndividualHas, FactEdge, ahead, behind, Contradiction, at_pair}
 use Rattle.meaning.specs.LawsOfModel.{followed, JoinedToItself}
 use Rattle.meaning.proofs.RoleTurned.{turn}
 
 -- a child's parent belongs, and has what the child was promised by
-pub born : (𝓒 : Collection) (𝓡 : Roots) {x : Elem 𝓡.Root SignedRole} {R : SignedRole} → Belongs 𝓒 𝓡 (x ▹ R) → Belongs 𝓒 𝓡 x × Has 𝓒 𝓡 x (Exists R)
+pub born : (𝓒 : Collection) (𝓡 : Roots) {x : Elem 𝓡.Root SignedRole} {R : SignedRole} → Belongs 𝓒 𝓡 (x ▹ R) → Belongs 𝓒 𝓡 x × HasConcept 𝓒 𝓡 x (Exists R)
 born 𝓒 𝓡 (grown b h) = (b, h)
 
 -- a bare individual that belongs is declared
@@ -61,18 +61,18 @@ module _ (𝓒 : Collection) where
       rw (inverse-inverse S) at f
 
   -- THEOREM: an element has every concept that follows from its own
-  pub has_above : (x : Element 𝓒) {C D : Concept} → Has 𝓒 (individuals 𝓒) x C → ConceptLe 𝓒 C D → Has 𝓒 (individuals 𝓒) x D
+  pub has_above : (x : Element 𝓒) {C D : Concept} → HasConcept 𝓒 (individuals 𝓒) x C → ConceptLe 𝓒 C D → HasConcept 𝓒 (individuals 𝓒) x D
   has_above (root a) h k = (h.0, h.1, then h.2 k)
   has_above (x ▹ R) h k = then h k
 
   -- THEOREM: whoever has an S-neighbour has the concept ∃S
-  pub edge-has : {x y : Element 𝓒} {S : SignedRole} → ModelEdge 𝓒 (individuals 𝓒) x S y → Has 𝓒 (individuals 𝓒) x (Exists S)
+  pub edge-has : {x y : Element 𝓒} {S : SignedRole} → ModelEdge 𝓒 (individuals 𝓒) x S y → HasConcept 𝓒 (individuals 𝓒) x (Exists S)
   edge-has (fact f) = fact-has f
   edge-has (child {x = x} b l) = has_above x (born 𝓒 (individuals 𝓒) b).1 (wider l)
   edge-has (parent b l) = wider (turned l)
 
   -- THEOREM: whoever has the concept ∃S has an S-neighbour
-  pub has-neighbour : (x : Element 𝓒) (S : SignedRole) → Belongs 𝓒 (individuals 𝓒) x → Has 𝓒 (individuals 𝓒) x (Exists S)
+  pub has-neighbour : (x : Element 𝓒) (S : SignedRole) → Belongs 𝓒 (individuals 𝓒) x → HasConcept 𝓒 (individuals 𝓒) x (Exists S)
       → (y : Element 𝓒) × Belongs 𝓒 (individuals 𝓒) y × ModelEdge 𝓒 (individuals 𝓒) x S y
   has-neighbour x S b h = let c : Belongs 𝓒 (individuals 𝓒) (x ▹ S) = grown b h in (x ▹ S, c, child c same)
 
@@ -99,14 +99,14 @@ module _ (𝓒 : Collection) where
       at_pair (root a) (root a) R (inverse R) x (rw (inverse-inverse R) at w.1) w.0
 
   -- THEOREM: every fact holds
-  pub concept-fact-holds : (A : ConceptName) (a : Individual) → (A, a) ∈ 𝓒.concept-facts → Has 𝓒 (individuals 𝓒) (root a) (Name A)
+  pub concept-fact-holds : (A : ConceptName) (a : Individual) → (A, a) ∈ 𝓒.concept-facts → HasConcept 𝓒 (individuals 𝓒) (root a) (Name A)
   concept-fact-holds A a m = (Name A, named m, same)
 
   pub role-fact-holds : (r : RoleName) (a b : Individual) → (r, a, b) ∈ 𝓒.role-facts → ModelEdge 𝓒 (individuals 𝓒) (root a) (forward r) (root b)
   role-fact-holds r a b m = fact (ahead m same)
 
   -- THEOREM: every rule is kept
-  pub concept-rule-kept : (C D : Concept) → (C, D) ∈ 𝓒.concept-rules → (x : Element 𝓒) → Has 𝓒 (individuals 𝓒) x C → Has 𝓒 (individuals 𝓒) x D
+  pub concept-rule-kept : (C D : Concept) → (C, D) ∈ 𝓒.concept-rules → (x : Element 𝓒) → HasConcept 𝓒 (individuals 𝓒) x C → HasConcept 𝓒 (individuals 𝓒) x D
   concept-rule-kept C D m x h = has_above x h (rule m)
 
   pub role-rule-kept : (R S : SignedRole) → (R, S) ∈ 𝓒.role-rules → (x y : Element 𝓒) → ModelEdge 𝓒 (individuals 𝓒) x R y → ModelEdge 𝓒 (individuals 𝓒) x S y

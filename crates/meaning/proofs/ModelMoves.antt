@@ -8,19 +8,19 @@ use Rattle.kinds.specs.Kinds.{inverse}
 use Rattle.meaning.specs.Collection.{Collection}
 use Rattle.meaning.specs.Orders.{ConceptLe, same}
 use Rattle.theory.specs.Tree.{Elem, root, ◌▹◌, Holds, Move, tests, downs, ups, hops}
-use Rattle.meaning.specs.Model.{Roots, Has, fact, child, parent, grown_from}
+use Rattle.meaning.specs.Model.{Roots, HasConcept, fact, child, parent, grown_from}
 use Rattle.meaning.proofs.ModelLaws.{born}
-use Rattle.meaning.specs.Question.{Going, along-role, at_name}
+use Rattle.meaning.specs.Question.{PathStep, along-role, at_name}
 use Rattle.meaning.specs.Lite.{lite}
 use Rattle.meaning.specs.Walk.{Near}
 
 module _ (𝓒 : Collection) (𝓡 : Roots) where
-  has→holds : (x : Elem 𝓡.Root SignedRole) {D : Concept} → Has 𝓒 𝓡 x D → (B : Concept) × Holds (lite 𝓒) 𝓡.has (Near 𝓒 𝓡) x B × ConceptLe 𝓒 B D
+  has→holds : (x : Elem 𝓡.Root SignedRole) {D : Concept} → HasConcept 𝓒 𝓡 x D → (B : Concept) × Holds (lite 𝓒) 𝓡.has (Near 𝓒 𝓡) x B × ConceptLe 𝓒 B D
   has→holds (root a) {D} h = (D, h, same)
   has→holds (x ▹ R) h = (Exists (inverse R), refl, h)
 
   -- THEOREM: a step of a path is a move
-  pub to-move : {x y : Elem 𝓡.Root SignedRole} {s t : State} → Going 𝓒 (grown_from 𝓒 𝓡) x s y t → Move (lite 𝓒) 𝓡.has (Near 𝓒 𝓡) x s y t
+  pub to-move : {x y : Elem 𝓡.Root SignedRole} {s t : State} → PathStep 𝓒 (grown_from 𝓒 𝓡) x s y t → Move (lite 𝓒) 𝓡.has (Near 𝓒 𝓡) x s y t
   to-move (along-role S e (fact f)) = hops (S, e, f)
   to-move (along-role S e (child {x = x} {R = R} b l)) = let w = has→holds x (born 𝓒 𝓡 b).1 in downs w.0 R w.1 w.2 (S, e, l)
   to-move (along-role S e (parent b l)) = ups (_, e, l)

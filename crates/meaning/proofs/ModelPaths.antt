@@ -9,7 +9,7 @@ use Rattle.meaning.specs.Collection.{Collection}
 use Rattle.meaning.specs.Orders.{ConceptLe}
 use Rattle.theory.specs.Run.{Run, stop, go, one, carry}
 use Rattle.theory.specs.Tree.{Elem, root, ◌▹◌, Holds, Move, tests, downs, ups, hops, Stride, path↔walk}
-use Rattle.meaning.specs.Model.{Roots, Has, Belongs, bare, grown, fact, child, parent, grown_from}
+use Rattle.meaning.specs.Model.{Roots, HasConcept, Belongs, bare, grown, fact, child, parent, grown_from}
 use Rattle.meaning.proofs.ModelLaws.{born}
 use Rattle.meaning.specs.Question.{along-role, at_name, PathIn}
 use Rattle.meaning.specs.Lite.{lite}
@@ -25,7 +25,7 @@ module _ (𝓒 : Collection) (𝓡 : Roots) (keep : RootsKeep 𝓒 𝓡) where
   abbrev Walk : 𝓡.Root → State → 𝓡.Root → State → Type 0
   Walk = Run (Stride (lite 𝓒) 𝓡.has (Near 𝓒 𝓡))
 
-  holds→has : (x : Elem 𝓡.Root SignedRole) (B D : Concept) → Holds (lite 𝓒) 𝓡.has (Near 𝓒 𝓡) x B → ConceptLe 𝓒 B D → Has 𝓒 𝓡 x D
+  holds→has : (x : Elem 𝓡.Root SignedRole) (B D : Concept) → Holds (lite 𝓒) 𝓡.has (Near 𝓒 𝓡) x B → ConceptLe 𝓒 B D → HasConcept 𝓒 𝓡 x D
   holds→has (root a) B D h k = keep.upward a B D h k
   holds→has (x ▹ R) B D h k = rw h k
 

@@ -11,12 +11,12 @@ use Rattle.meaning.specs.Collection.{Collection, WellFormed}
 use Rattle.meaning.specs.Orders.{RoleLe, ConceptLe}
 use Rattle.theory.specs.Run.{stop, go, one, carry}
 use Rattle.theory.specs.Tree.{root, ◌▹◌}
-use Rattle.meaning.specs.Model.{Has, Belongs, ModelEdge, individuals, Element, canonical, Contradiction}
+use Rattle.meaning.specs.Model.{HasConcept, Belongs, ModelEdge, individuals, Element, canonical, Contradiction}
 use Rattle.meaning.specs.StraightBack.{GoesBack, Lean, bare, grown, LeanEdge, fact, child, parent, lean_model, LeanContradiction, at-element, at_pair, LeanYes}
 use Rattle.meaning.proofs.ModelLaws.{born, has_above}
 use Rattle.meaning.proofs.RoleTurned.{turn}
 use Rattle.meaning.proofs.ModelWalk.{edge-declared}
-use Rattle.meaning.specs.Question.{Going, along-role, at_name, PathIn, Yes}
+use Rattle.meaning.specs.Question.{PathStep, along-role, at_name, PathIn, Yes}
 use Rattle.meaning.specs.Leaving.{LeavesIn, Leaves}
 use Rattle.meaning.proofs.LiteTests.{same_role, role_same}
 
@@ -31,11 +31,11 @@ module _ (𝓒 : Collection) where
   lean-edge (child l k) = ModelEdge.child (lean-belongs l) k
   lean-edge (parent l k) = ModelEdge.parent (lean-belongs l) k
 
-  lean-going : {x y : Element 𝓒} {s t : State} → Going 𝓒 (lean_model 𝓒) x s y t → Going 𝓒 (canonical 𝓒) x s y t
+  lean-going : {x y : Element 𝓒} {s t : State} → PathStep 𝓒 (lean_model 𝓒) x s y t → PathStep 𝓒 (canonical 𝓒) x s y t
   lean-going (along-role S e g) = along-role S e (lean-edge g)
   lean-going (at_name A e h) = at_name A e h
 
-  lean-born : {x : Element 𝓒} {R : SignedRole} → Lean 𝓒 (x ▹ R) → Lean 𝓒 x × Has 𝓒 (individuals 𝓒) x (Exists R)
+  lean-born : {x : Element 𝓒} {R : SignedRole} → Lean 𝓒 (x ▹ R) → Lean 𝓒 x × HasConcept 𝓒 (individuals 𝓒) x (Exists R)
   lean-born (grown l h n) = (l, h)
 
   -- where y ▹ R is folded to: the parent of y if R goes straight back, else y ▹ R itself
@@ -56,12 +56,12 @@ module _ (𝓒 : Collection) where
   fold (root a) = root a
   fold (x ▹ R) = (next (fold x) R).0
 
-  next-lean : {y z : Element 𝓒} {R : SignedRole} → Next y R z → Lean 𝓒 y → Has 𝓒 (individuals 𝓒) y (Exists R) → Lean 𝓒 z
+  next-lean : {y z : Element 𝓒} {R : SignedRole} → Next y R z → Lean 𝓒 y → HasConcept 𝓒 (individuals 𝓒) y (Exists R) → Lean 𝓒 z
   next-lean (on n) l h = grown l h n
   next-lean back l h = (lean-born l).0
 
   -- gone back to z, the concepts of y ▹ R are those above ∃Q, which z has since z ▹ Q is its child
-  next-has : {y z : Element 𝓒} {R : SignedRole} {D : Concept} → Next y R z → Lean 𝓒 y → ConceptLe 𝓒 (Exists (inverse R)) D → Has 𝓒 (individuals 𝓒) z D
+  next-has : {y z : Element 𝓒} {R : SignedRole} {D : Concept} → Next y R z → Lean 𝓒 y → ConceptLe 𝓒 (Exists (inverse R)) D → HasConcept 𝓒 (individuals 𝓒) z D
   next-has (on n) l k = k
   next-has (back {z = z} {Q = Q}) l k = has_above 𝓒 z (lean-born l).1 (rw (inverse-inverse Q) at k)
 
@@ -77,7 +77,7 @@ module _ (𝓒 : Collection) where
   next-parent {S = S} (back {Q = Q}) l m k = child l (turn 𝓒 k)
 
   -- an element that belongs is folded to one that is left and has all its concepts
-  fold-lean : {x : Element 𝓒} → Belongs 𝓒 (individuals 𝓒) x → Lean 𝓒 (fold x) × ((D : Concept) → Has 𝓒 (individuals 𝓒) x D → Has 𝓒 (individuals 𝓒) (fold x) D)
+  fold-lean : {x : Element 𝓒} → Belongs 𝓒 (individuals 𝓒) x → Lean 𝓒 (fold x) × ((D : Concept) → HasConcept 𝓒 (individuals 𝓒) x D → HasConcept 𝓒 (individuals 𝓒) (fold x) D)
   fold-lean (Belongs.bare i) = (bare i, λ D h. h)
   fold-lean (Belongs.grown {x = x} {R = R} b h) =
       let w = fold-lean b in

@@ -25,8 +25,8 @@ use Rattle.meaning.specs.StraightBack.{lean_model, LeanContradiction, LeanYes}
 abbrev pub Belongs : (𝓒 : Collection) → Element 𝓒 → Type 0
 Belongs 𝓒 = model.Belongs 𝓒 (individuals 𝓒)
 
-abbrev pub Has : (𝓒 : Collection) → Element 𝓒 → Concept → Type 0
-Has 𝓒 = model.Has 𝓒 (individuals 𝓒)
+abbrev pub HasConcept : (𝓒 : Collection) → Element 𝓒 → Concept → Type 0
+HasConcept 𝓒 = model.HasConcept 𝓒 (individuals 𝓒)
 
 abbrev pub Edge : (𝓒 : Collection) → Element 𝓒 → SignedRole → Element 𝓒 → Type 0
 Edge 𝓒 = model.ModelEdge 𝓒 (individuals 𝓒)
@@ -49,12 +49,12 @@ BareBelongs = (𝓒 : Collection) (a : Individual)
 -- an element followed by R belongs exactly when the element belongs and has ∃R
 abbrev pub RowBelongs : Type 0
 RowBelongs = (𝓒 : Collection) (x : Element 𝓒) (R : SignedRole)
-    → Belongs 𝓒 (x ▹ R) ↔ (Belongs 𝓒 x × Has 𝓒 x (Exists R))
+    → Belongs 𝓒 (x ▹ R) ↔ (Belongs 𝓒 x × HasConcept 𝓒 x (Exists R))
 
 -- an unnamed element that ends in R has every D with ∃(inverse of R) ≤ D
 abbrev pub UnnamedHas : Type 0
 UnnamedHas = (𝓒 : Collection) (x : Element 𝓒) (R : SignedRole) (D : Concept)
-    → Has 𝓒 (x ▹ R) D ↔ ConceptLe 𝓒 (Exists (inverse R)) D
+    → HasConcept 𝓒 (x ▹ R) D ↔ ConceptLe 𝓒 (Exists (inverse R)) D
 
 -- a role fact r(a, b) gives the pair (a, b) every S with r ≤ S, and the pair (b, a) the inverses
 abbrev pub FactsJoin : Type 0
@@ -92,7 +92,7 @@ RoleFactsHold = (𝓒 : Collection) (r : RoleName) (a b : Individual) → (r, a,
 -- every rule is kept
 abbrev pub ConceptRulesKept : Type 0
 ConceptRulesKept = (𝓒 : Collection) (C D : Concept) → (C, D) ∈ 𝓒.concept-rules
-    → (x : Element 𝓒) → Has 𝓒 x C → Has 𝓒 x D
+    → (x : Element 𝓒) → HasConcept 𝓒 x C → HasConcept 𝓒 x D
 
 abbrev pub RoleRulesKept : Type 0
 RoleRulesKept = (𝓒 : Collection) (R S : SignedRole) → (R, S) ∈ 𝓒.role-rules
@@ -100,8 +100,8 @@ RoleRulesKept = (𝓒 : Collection) (R S : SignedRole) → (R, S) ∈ 𝓒.role-
 
 -- an element has every D with C ≤ D, an ordered pair every S with R ≤ S
 abbrev pub ConceptsAbove : Type 0
-ConceptsAbove = (𝓒 : Collection) (x : Element 𝓒) (C D : Concept) → Has 𝓒 x C → ConceptLe 𝓒 C D
-    → Has 𝓒 x D
+ConceptsAbove = (𝓒 : Collection) (x : Element 𝓒) (C D : Concept) → HasConcept 𝓒 x C → ConceptLe 𝓒 C D
+    → HasConcept 𝓒 x D
 
 abbrev pub RolesAbove : Type 0
 RolesAbove = (𝓒 : Collection) (x y : Element 𝓒) (R S : SignedRole) → Edge 𝓒 x R y → RoleLe 𝓒 R S
@@ -115,11 +115,11 @@ InversesBack = (𝓒 : Collection) (x y : Element 𝓒) (S : SignedRole) → Edg
 -- ∃S is "has a neighbour by S": whoever has one has the concept, and the other way round
 abbrev pub NeighbourIsHad : Type 0
 NeighbourIsHad = (𝓒 : Collection) (x y : Element 𝓒) (S : SignedRole) → Edge 𝓒 x S y
-    → Has 𝓒 x (Exists S)
+    → HasConcept 𝓒 x (Exists S)
 
 abbrev pub NeighbourIsThere : Type 0
 NeighbourIsThere = (𝓒 : Collection) (x : Element 𝓒) (S : SignedRole) → Belongs 𝓒 x
-    → Has 𝓒 x (Exists S) → (y : Element 𝓒) × Belongs 𝓒 y × Edge 𝓒 x S y
+    → HasConcept 𝓒 x (Exists S) → (y : Element 𝓒) × Belongs 𝓒 y × Edge 𝓒 x S y
 
 -- neighbours that two rules promise are two elements, and not one
 abbrev pub NeighboursDiffer : Type 0
@@ -137,7 +137,7 @@ LeanYesSame = (𝓒 : Collection) → WellFormed 𝓒 → (a b : Individual)
 -- an exclusion of a concept or role from itself forbids it altogether
 abbrev pub ConceptForbidden : Type 0
 ConceptForbidden = (𝓒 : Collection) (C : Concept) → (C, C) ∈ 𝓒.concept-exclusions
-    → (x : Element 𝓒) → Belongs 𝓒 x → Has 𝓒 x C → Contradiction 𝓒
+    → (x : Element 𝓒) → Belongs 𝓒 x → HasConcept 𝓒 x C → Contradiction 𝓒
 
 abbrev pub RoleForbidden : Type 0
 RoleForbidden = (𝓒 : Collection) (R : SignedRole) → (R, R) ∈ 𝓒.role-exclusions
@@ -154,12 +154,12 @@ SelfForbidden = (𝓒 : Collection) (R : SignedRole) → (R, inverse R) ∈ 𝓒
 abbrev pub EmptyConceptForbidden : Type 0
 EmptyConceptForbidden = (𝓒 : Collection) (C D E : Concept) → ConceptLe 𝓒 C D → ConceptLe 𝓒 C E
     → (D, E) ∈ 𝓒.concept-exclusions
-    → (x : Element 𝓒) → Belongs 𝓒 x → Has 𝓒 x C → Contradiction 𝓒
+    → (x : Element 𝓒) → Belongs 𝓒 x → HasConcept 𝓒 x C → Contradiction 𝓒
 
 -- no element has both sides of a concept exclusion, and no pair those of a role exclusion
 pub record NothingExcluded (𝓒 : Collection) : Type 0 where
   pub concepts : (C D : Concept) → (C, D) ∈ 𝓒.concept-exclusions
-      → (x : Element 𝓒) → Belongs 𝓒 x → Has 𝓒 x C → Has 𝓒 x D → ⊥
+      → (x : Element 𝓒) → Belongs 𝓒 x → HasConcept 𝓒 x C → HasConcept 𝓒 x D → ⊥
   pub roles : (R S : SignedRole) → (R, S) ∈ 𝓒.role-exclusions
       → (x y : Element 𝓒) → Edge 𝓒 x R y → Edge 𝓒 x S y → ⊥
 
@@ -179,7 +179,7 @@ RoleStepMoves = (𝓒 : Collection) (s t : State) (S : SignedRole) (x y : Elemen
 -- a test step stays, at an element that has that name
 abbrev pub TestStepStays : Type 0
 TestStepStays = (𝓒 : Collection) (s t : State) (A : ConceptName) (x : Element 𝓒)
-    → TestStep 𝓒 s A t → Has 𝓒 x (Name A) → PathIn 𝓒 (canonical 𝓒) x s x t
+    → TestStep 𝓒 s A t → HasConcept 𝓒 x (Name A) → PathIn 𝓒 (canonical 𝓒) x s x t
 
 -- a pair is yes exactly when a path from the first to the second spells a word of the question
 abbrev pub YesIsWord : Type 0

@@ -29,14 +29,14 @@ pub record Roots : Type 1 where
 module _ (𝓒 : Collection) (𝓡 : Roots) where
   -- the concepts of an element: a root's own; of an unnamed element ending in R, all D with
   -- ∃(inverse of R) ≤ D
-  abbrev pub Has : Elem 𝓡.Root SignedRole → Concept → Type 0
-  Has (root a) D = 𝓡.has a D
-  Has (x ▹ R) D = ConceptLe 𝓒 (Exists (inverse R)) D
+  abbrev pub HasConcept : Elem 𝓡.Root SignedRole → Concept → Type 0
+  HasConcept (root a) D = 𝓡.has a D
+  HasConcept (x ▹ R) D = ConceptLe 𝓒 (Exists (inverse R)) D
 
   -- the elements that belong: the bare roots, and x followed by R when x belongs and has ∃R
   pub data Belongs : Elem 𝓡.Root SignedRole → Type 0 where
     bare : {a : 𝓡.Root} → 𝓡.belongs a → Belongs (root a)
-    grown : {x : Elem 𝓡.Root SignedRole} {R : SignedRole} → Belongs x → Has x (Exists R)
+    grown : {x : Elem 𝓡.Root SignedRole} {R : SignedRole} → Belongs x → HasConcept x (Exists R)
         → Belongs (x ▹ R)
 
   -- roots are joined as said; an element and its child by R have every S with R ≤ S, and back
@@ -51,7 +51,7 @@ module _ (𝓒 : Collection) (𝓡 : Roots) where
   abbrev pub grown_from : Structure
   grown_from = record {
     Thing = Elem 𝓡.Root SignedRole;
-    name = λ x A. Has x (Name A);
+    name = λ x A. HasConcept x (Name A);
     edge = ModelEdge;
   }
 
@@ -96,8 +96,8 @@ module _ (𝓒 : Collection) where
   -- the canonical model breaks an exclusion, at an element or an ordered pair; unnamed ones count
   pub data Contradiction : Type 0 where
     at-element : (x : Element) (C D : Concept) → (C, D) ∈ 𝓒.concept-exclusions
-        → Belongs 𝓒 individuals x → Has 𝓒 individuals x C
-        → Has 𝓒 individuals x D → Contradiction
+        → Belongs 𝓒 individuals x → HasConcept 𝓒 individuals x C
+        → HasConcept 𝓒 individuals x D → Contradiction
     at_pair : (x y : Element) (R S : SignedRole) → (R, S) ∈ 𝓒.role-exclusions
         → ModelEdge 𝓒 individuals x R y → ModelEdge 𝓒 individuals x S y → Contradiction
 

@@ -22,15 +22,15 @@ pub data Spells (𝓢 : Structure) : 𝓢.Thing → List Letter → 𝓢.Thing �
 module _ (𝓒 : Collection) where
   -- a role step moves along an edge with that signed role; a test step stays, at a thing that has
   -- that name
-  pub data Going (𝓢 : Structure) : 𝓢.Thing → State → 𝓢.Thing → State → Type 0 where
+  pub data PathStep (𝓢 : Structure) : 𝓢.Thing → State → 𝓢.Thing → State → Type 0 where
     along-role : {x y : 𝓢.Thing} {s t : State} (S : SignedRole) → RoleStep 𝓒 s S t → 𝓢.edge x S y
-        → Going 𝓢 x s y t
+        → PathStep 𝓢 x s y t
     at_name : {x : 𝓢.Thing} {s t : State} (A : ConceptName) → TestStep 𝓒 s A t → 𝓢.name x A
-        → Going 𝓢 x s x t
+        → PathStep 𝓢 x s x t
 
   -- a path: things and states in step. The empty path counts
   abbrev pub PathIn : (𝓢 : Structure) → 𝓢.Thing → State → 𝓢.Thing → State → Type 0
-  PathIn 𝓢 = Run (Going 𝓢)
+  PathIn 𝓢 = Run (PathStep 𝓢)
 
   -- the pair (a, b) is yes when a path runs from (a, start state) to (b, some final state)
   abbrev pub Yes : Individual → Individual → Type 0

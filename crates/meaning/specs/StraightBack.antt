@@ -11,7 +11,7 @@ use Rattle.laws.specs.Member.{◌∈◌}
 use Rattle.meaning.specs.Collection.{Collection}
 use Rattle.meaning.specs.Orders.{RoleLe}
 use Rattle.theory.specs.Tree.{root, ◌▹◌}
-use Rattle.meaning.specs.Model.{Structure, Has, individuals, Element, FactEdge}
+use Rattle.meaning.specs.Model.{Structure, HasConcept, individuals, Element, FactEdge}
 use Rattle.meaning.specs.Question.{PathIn}
 
 module _ (𝓒 : Collection) where
@@ -23,7 +23,7 @@ module _ (𝓒 : Collection) where
   -- the elements that are left: as `Belongs`, but no S follows R where S goes straight back
   pub data Lean : Element 𝓒 → Type 0 where
     bare : {a : Individual} → IndividualDeclared 𝓒.counts a → Lean (root a)
-    grown : {x : Element 𝓒} {R : SignedRole} → Lean x → Has 𝓒 (individuals 𝓒) x (Exists R)
+    grown : {x : Element 𝓒} {R : SignedRole} → Lean x → HasConcept 𝓒 (individuals 𝓒) x (Exists R)
         → (GoesBack x R → ⊥)
         → Lean (x ▹ R)
 
@@ -38,14 +38,14 @@ module _ (𝓒 : Collection) where
   abbrev pub lean_model : Structure
   lean_model = record {
     Thing = Element 𝓒;
-    name = λ x A. Has 𝓒 (individuals 𝓒) x (Name A);
+    name = λ x A. HasConcept 𝓒 (individuals 𝓒) x (Name A);
     edge = LeanEdge;
   }
 
   -- as `Contradiction` and `Yes`, of what is left
   pub data LeanContradiction : Type 0 where
     at-element : (x : Element 𝓒) (C D : Concept) → (C, D) ∈ 𝓒.concept-exclusions → Lean x
-        → Has 𝓒 (individuals 𝓒) x C → Has 𝓒 (individuals 𝓒) x D
+        → HasConcept 𝓒 (individuals 𝓒) x C → HasConcept 𝓒 (individuals 𝓒) x D
         → LeanContradiction
     at_pair : (x y : Element 𝓒) (R S : SignedRole) → (R, S) ∈ 𝓒.role-exclusions → LeanEdge x R y
         → LeanEdge x S y → LeanContradiction

@@ -8,7 +8,7 @@ ghost use Rattle.kinds.specs.declared.Answer.{Answer};
 ghost use Rattle.kinds.specs.Answer.{answer_number};
 ghost use Rattle.kinds.specs.Kinds.{IndividualDeclared};
 ghost use Rattle.meaning.specs.Collection.{Collection, WellFormed};
-ghost use Rattle.meaning.specs.Model.{Element, Has, Belongs, ModelEdge, individuals, Contradiction};
+ghost use Rattle.meaning.specs.Model.{Element, HasConcept, Belongs, ModelEdge, individuals, Contradiction};
 ghost use Rattle.meaning.specs.Question.{Yes};
 ghost use Rattle.meaning.specs.Leaving.{Leaves};
 ghost use Rattle.meaning.specs.Lent.{Call};
@@ -21,7 +21,7 @@ pub fn forbidden()
     ensures role { (c : Collection) (x y : Element c) (R : SignedRole) → RoleSelfExcluded c R
         → ModelEdge c (individuals c) x R y → Contradiction c }
     ensures neighbour { (c : Collection) (x : Element c) (R : SignedRole) → RoleSelfExcluded c R
-        → Belongs c (individuals c) x → Has c (individuals c) x (Exists R) → Contradiction c }
+        → Belongs c (individuals c) x → HasConcept c (individuals c) x (Exists R) → Contradiction c }
 {}
 
 // A forbidden concept may imply anything: no contradiction, yes or no differs for it. Counts and

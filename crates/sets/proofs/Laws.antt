@@ -28,11 +28,11 @@ is_or : (m n i : ℕ) → Has (bit_or m n) i ↔ (Has m i ⊎ Has n i)
 is_or m n i = (to, from)
   where
     to : Has (bit_or m n) i → Has m i ⊎ Has n i
-    to p = side (ℕ_discrete (bit_at m i) 1)
-      where
-        side : Dec (bit_at m i ≡ 1) → Has m i ⊎ Has n i
-        side (yes q) = inl q
-        side (no q) = inr (omega (arith, p, bit_at_or m n i, bit_at-lt m i, bit_at-lt n i))
+    to p =
+        elim (ℕ_discrete (bit_at m i) 1) [
+          | yes q ↦ inl q
+          | no q ↦ inr (omega (arith, p, bit_at_or m n i, bit_at-lt m i, bit_at-lt n i))
+        ]
 
     from : Has m i ⊎ Has n i → Has (bit_or m n) i
     from (inl q) = omega (arith, q, bit_at_or m n i, bit_at-lt n i)
@@ -46,11 +46,11 @@ is_and m n i =
     (λ p. (omega arith, omega arith), λ p. let q = p.0 in let r = p.1 in omega arith)
 
 has_pow : (k i : ℕ) → Has (2 ^ k) i ↔ (i ≡ k)
-has_pow k i = side (ℕ_discrete i k)
-  where
-    side : Dec (i ≡ k) → Has (2 ^ k) i ↔ (i ≡ k)
-    side (yes e) = (λ p. e, λ p. rw e (bit_at-pow_same k))
-    side (no ne) = let z = bit_at-pow_other k i ne in (λ p. absurd (omega arith), λ p. absurd (ne p))
+has_pow k i =
+    elim (ℕ_discrete i k) [
+      | yes e ↦ (λ p. e, λ p. rw e (bit_at-pow_same k))
+      | no ne ↦ let z = bit_at-pow_other k i ne in (λ p. absurd (omega arith), λ p. absurd (ne p))
+    ]
 
 pub is_union : (m n : ℕ) → IsUnion m n (bit_or m n)
 is_union m n = record { member = is_or m n }
@@ -76,11 +76,11 @@ is_only_64 k h = is_only 64 k h
 pub is_only_32 : (k : ℕ) → k < 32 → IsOnly 32 k (1 * 2 ^ k % 2 ^ 32)
 is_only_32 k h = is_only 32 k h
 
-no_bit : (i : ℕ) → Has 0 i → ⊥
-no_bit i p = let z = bit_at-zero i in absurd (omega arith)
+pub none_has : (i : ℕ) → Has 0 i → ⊥
+none_has i p = let z = bit_at-zero i in absurd (omega arith)
 
 pub is_only_none : (b k : ℕ) → b ≤ k → IsOnly b k 0
-is_only_none b k h = record { member = λ i. (λ p. absurd (no_bit i p), λ p. let l = p.1 in absurd (omega arith)) }
+is_only_none b k h = record { member = λ i. (λ p. absurd (none_has i p), λ p. let l = p.1 in absurd (omega arith)) }
 
 pub inserts : (b n k x : ℕ) → IsOnly b k x → Inserts b n k (bit_or n x)
 inserts b n k x o =
@@ -105,11 +105,14 @@ inserts_if b n k false h =
     (record {
       member = λ i.
           let u = is_or n 0 i in
-          (λ p. ⊎_elim (λ q. inl q) (λ q. absurd (no_bit i q)) (u.0 p), λ p. u.1 (⊎_elim (λ q. inl q) (λ q. absurd (false≢true q.2)) p));
+          (λ p. ⊎_elim (λ q. inl q) (λ q. absurd (none_has i q)) (u.0 p), λ p. u.1 (⊎_elim (λ q. inl q) (λ q. absurd (false≢true q.2)) p));
     })
 
 pub inserts_if_64 : (n k : ℕ) (on : Bool) → k < 64 → InsertsIf 64 n k on (bit_or n (from_bool on * 2 ^ k % 2 ^ 64))
 inserts_if_64 n k on h = inserts_if 64 n k on h
+
+pub inserts_if_32 : (n k : ℕ) (on : Bool) → k < 32 → InsertsIf 32 n k on (bit_or n (from_bool on * 2 ^ k % 2 ^ 32))
+inserts_if_32 n k on h = inserts_if 32 n k on h
 
 pub inserts_if_none : (b n k : ℕ) (on : Bool) → b ≤ k → InsertsIf b n k on n
 inserts_if_none b n k on h = record { member = λ i. (λ p. inl p, ⊎_elim (λ p. p) (λ p. let l = p.1 in absurd (omega arith))) }
@@ -165,11 +168,7 @@ minus_32 n m h k = minus w32 n m h k
 
 -- a number of b bits has no member from b on
 pub past : (b n k : ℕ) → n < 2 ^ b → Has n k → k < b
-past b n k h p = by (dec_lt k b)
-  where
-    by : Dec (k < b) → k < b
-    by (yes l) = l
-    by (no g) = let z = bit_at_above n b k h (omega arith) in absurd (omega arith)
+past b n k h p = elim (dec_lt k b) [ yes l ↦ l | no g ↦ let z = bit_at_above n b k h (omega arith) in absurd (omega arith) ]
 
 -- and the test of one that is not below b says so
 pub absent : (b n k : ℕ) → n < 2 ^ b → b ≤ k → IsTrue (nat_lt k b) ↔ Has n k
@@ -193,26 +192,23 @@ none : (n : ℕ) → IsEmpty n → n ≡ 0
 none n h = same_from_bits n 0 (λ i. let z = bit_at-zero i in let b = bit_at-lt n i in bit i)
   where
     bit : (i : ℕ) → bit_at n i ≡ bit_at 0 i
-    bit i = side (ℕ_discrete (bit_at n i) 1)
-      where
-        side : Dec (bit_at n i ≡ 1) → bit_at n i ≡ bit_at 0 i
-        side (yes p) = absurd (h i p)
-        side (no p) = let z = bit_at-zero i in let b = bit_at-lt n i in omega arith
-
-zero_none : IsEmpty 0
-zero_none i p = let z = bit_at-zero i in absurd (omega arith)
+    bit i =
+        elim (ℕ_discrete (bit_at n i) 1) [
+          | yes p ↦ absurd (h i p)
+          | no p ↦ let z = bit_at-zero i in let b = bit_at-lt n i in omega arith
+        ]
 
 pub is_empty : (n : ℕ) → IsTrue (nat_eq n 0) ↔ IsEmpty n
-is_empty n = (λ p. let e : n ≡ 0 = search rules in rw e zero_none, λ h. let e = none n h in search rules)
+is_empty n = (λ p. let e : n ≡ 0 = search rules in rw e none_has, λ h. let e = none n h in search rules)
 
 -- a number that is not 0 has a bit
 some_bit : (w n : ℕ) → n ≢ 0 → n ≤ w → (i : ℕ) × Has n i
 some_bit zero n h l = absurd (h (omega arith))
-some_bit (suc w) n h l = side (ℕ_discrete (n % 2) 1) (λ half. some_bit w (n / 2) half (omega arith))
-  where
-    side : Dec (n % 2 ≡ 1) → (n / 2 ≢ 0 → (i : ℕ) × Has (n / 2) i) → (i : ℕ) × Has n i
-    side (yes p) more = (0, bit_at_lowest n ∙ p)
-    side (no p) more = let r = more (λ e. h (omega arith)) in (suc r.0, bit_at-suc n r.0 ∙ r.1)
+some_bit (suc w) n h l =
+    elim (ℕ_discrete (n % 2) 1) [
+      | yes p ↦ (0, bit_at_lowest n ∙ p)
+      | no p ↦ let r = some_bit w (n / 2) (λ e. h (omega arith)) (omega arith) in (suc r.0, bit_at-suc n r.0 ∙ r.1)
+    ]
 
 pub meets : (m n : ℕ) → IsTrue (not (nat_eq (bit_and m n) 0)) ↔ Meets m n
 meets m n = (to (ℕ_discrete (bit_and m n) 0), from (ℕ_discrete (bit_and m n) 0))
@@ -222,7 +218,7 @@ meets m n = (to (ℕ_discrete (bit_and m n) 0), from (ℕ_discrete (bit_and m n)
     to (no ne) t = let w = some_bit (bit_and m n) (bit_and m n) ne (omega arith) in let b = (is_and m n w.0).0 w.1 in (w.0, b.0, b.1)
 
     from : Dec (bit_and m n ≡ 0) → Meets m n → IsTrue (not (nat_eq (bit_and m n) 0))
-    from (yes e) (i, p, q) = let b = (is_and m n i).1 (p, q) in absurd (zero_none i (rw e at b))
+    from (yes e) (i, p, q) = let b = (is_and m n i).1 (p, q) in absurd (none_has i (rw e at b))
     from (no ne) t = search (rules, ne)
 
 -- ---- how many members
@@ -259,11 +255,7 @@ twice : (n q a b c d : ℕ) → n % 2 ≡ 0 → n / 2 ≡ q * a + b → c ≡ a 
 twice n q a b c d z e f g = rw (f, g) (omega arith)
 
 even : (n : ℕ) → (Has n 0 → ⊥) → n % 2 ≡ 0
-even n h = side (ℕ_discrete (n % 2) 0)
-  where
-    side : Dec (n % 2 ≡ 0) → n % 2 ≡ 0
-    side (yes p) = p
-    side (no p) = absurd (h (bit_at_lowest n ∙ omega arith))
+even n h = elim (ℕ_discrete (n % 2) 0) [ yes p ↦ p | no p ↦ absurd (h (bit_at_lowest n ∙ omega arith)) ]
 
 lowest : (t n : ℕ) → Has n t → ((i : ℕ) → i < t → Has n i → ⊥) → (q : ℕ) × (n ≡ q * 2 ^ suc t + 2 ^ t)
 lowest zero n h least = let e = bit_at_lowest n in (n / 2, omega arith)
@@ -326,11 +318,16 @@ less_removed n t r h m =
     omega arith
   where
     same : (i : ℕ) → bit_at (bit_and n r) i ≡ bit_at r i
-    same i = by (ℕ_discrete (bit_at r i) 1)
-      where
-        by : Dec (bit_at r i ≡ 1) → bit_at (bit_and n r) i ≡ bit_at r i
-        by (yes p) = (is_and n r i).1 (((m.member i).0 p).0, p) ∙ sym p
-        by (no p) = let e = bit_at_and n r i in let a = bit_at-lt r i in let b = bit_at-lt n i in let z : bit_at r i ≡ 0 = omega arith in rw z at e ∙ omega arith
+    same i =
+        elim (ℕ_discrete (bit_at r i) 1) [
+          | yes p ↦ (is_and n r i).1 (((m.member i).0 p).0, p) ∙ sym p
+          | no p ↦
+              let e = bit_at_and n r i in
+              let a = bit_at-lt r i in
+              let b = bit_at-lt n i in
+              let z : bit_at r i ≡ 0 = omega arith in
+              rw z at e ∙ omega arith
+        ]
 
 -- the first member is in the lower half l, or in the upper half h where the lower has none
 pub takes_low : (n l h x : ℕ) → IsLower 64 n l → IsLowered 64 n h → IsRaised 64 h x → 0 < l → l < 2 ^ 64
@@ -367,11 +364,11 @@ takes_low n l h x low high up pos small =
 
 module _ (n h : ℕ) (low : IsLower 64 n 0) (high : IsLowered 64 n h) where
   upper : (i : ℕ) → Has n i → (64 ≤ i) × Has h (i - 64)
-  upper i p = by (dec_lt i 64)
-    where
-      by : Dec (i < 64) → (64 ≤ i) × Has h (i - 64)
-      by (yes b) = absurd (no_bit i ((low.member i).1 (b, p)))
-      by (no g) = let e : i ≡ 64 + (i - 64) = omega arith in (omega arith, (high.member (i - 64)).1 (rw e at p))
+  upper i p =
+      elim (dec_lt i 64) [
+        | yes b ↦ absurd (none_has i ((low.member i).1 (b, p)))
+        | no g ↦ let e : i ≡ 64 + (i - 64) = omega arith in (omega arith, (high.member (i - 64)).1 (rw e at p))
+      ]
 
   pub takes_high : (k r x : ℕ) → TakesFirst 64 h k r → IsRaised 64 r x → TakesFirst 128 n (64 + k) x
   takes_high k r x t up = let e : 64 + k - 64 ≡ k = omega arith in record {
@@ -407,26 +404,22 @@ module _ (p q : ℕ → Bool) where
   first_of : (m a t : ℕ) → a ≤ t → t < a + m → ((i : ℕ) → i < t → p i ≡ false) → p t ≡ true → q t ≡ false → ((i : ℕ) → i ≢ t → p i ≡ q i)
       → filter p (range_with_len a m) ≡ t ∷ filter q (range_with_len a m)
   first_of zero a t l h below at off same = absurd (omega arith)
-  first_of (suc m) a t l h below at off same = side (ℕ_discrete a t) (λ n. first_of m (a + 1) t n (omega arith) below at off same)
-    where
-      side : Dec (a ≡ t) → (a + 1 ≤ t → filter p (range_with_len (a + 1) m) ≡ t ∷ filter q (range_with_len (a + 1) m))
-          → filter p (range_with_len a (suc m)) ≡ t ∷ filter q (range_with_len a (suc m))
-      side (yes e) more = rw (e, at, off) (ap (λ (l : List ℕ). t ∷ l) (agree m (t + 1) (λ i l. same i (omega arith))))
-      side (no ne) more = rw (← same a ne, below a (omega arith)) (more (omega arith))
+  first_of (suc m) a t l h below at off same =
+      elim (ℕ_discrete a t) [
+        | yes e ↦ rw (e, at, off) (ap (λ (l : List ℕ). t ∷ l) (agree m (t + 1) (λ i l. same i (omega arith))))
+        | no ne ↦ rw (← same a ne, below a (omega arith)) (first_of m (a + 1) t (omega arith) (omega arith) below at off same)
+      ]
 
 has_false : (n k : ℕ) → (Has n k → ⊥) → has n k ≡ false
-has_false n k h = side (ℕ_discrete (bit_at n k) 1)
-  where
-    side : Dec (bit_at n k ≡ 1) → has n k ≡ false
-    side (yes p) = absurd (h p)
-    side (no p) = let b = bit_at-lt n k in let e : bit_at n k ≡ 0 = omega arith in rw e refl
+has_false n k h =
+    elim (ℕ_discrete (bit_at n k) 1) [
+      | yes p ↦ absurd (h p)
+      | no p ↦ let b = bit_at-lt n k in let e : bit_at n k ≡ 0 = omega arith in rw e refl
+    ]
 
 has_same : (n m k : ℕ) → Has n k ↔ Has m k → has n k ≡ has m k
-has_same n m k s = side (ℕ_discrete (bit_at n k) 1)
-  where
-    side : Dec (bit_at n k ≡ 1) → has n k ≡ has m k
-    side (yes p) = rw (p, s.0 p) refl
-    side (no p) = has_false n k p ∙ sym (has_false m k (λ q. p (s.1 q)))
+has_same n m k s =
+    elim (ℕ_discrete (bit_at n k) 1) [ yes p ↦ rw (p, s.0 p) refl | no p ↦ has_false n k p ∙ sym (has_false m k (λ q. p (s.1 q))) ]
 
 pub members_first : (w n k r : ℕ) → TakesFirst w n k r → members w n ≡ k ∷ members w r
 unfolding members
@@ -494,4 +487,4 @@ is_bytes m n = record { long = let e : 8 * m / 8 ≡ m = omega arith in rw e (by
 pub is_bytes_16 : (n : ℕ) → IsBytesOf 128 n (to_le_bytes w128 n)
 is_bytes_16 n = is_bytes 16 n
 
-pub ruleset laws = (tests, is_union, is_intersection, inserts, inserts_if_64, inserts_if_none, is_empty, meets, how_many, is_only_128, is_only_64, is_only_32, is_only_none, lowered, lower, minus_128, minus_64, minus_32, takes_lowest_64, takes_lowest_32, is_bytes_16)
+pub ruleset laws = (tests, is_union, is_intersection, inserts, inserts_if_64, inserts_if_32, inserts_if_none, is_empty, meets, how_many, is_only_128, is_only_64, is_only_32, is_only_none, lowered, lower, minus_128, minus_64, minus_32, takes_lowest_64, takes_lowest_32, is_bytes_16)

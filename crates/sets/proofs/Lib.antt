@@ -1,3 +1,4 @@
 pub mod Laws
+pub mod Gathering
 pub mod Once
 pub mod RowLaws

@@ -11,11 +11,8 @@ use Rattle.sets.specs.declared.roles.RoleSet.{RoleSet}
 use Rattle.sets.proofs.Laws.{past}
 
 same_bit : (a b : ℕ) → a < 2 → b < 2 → (a ≡ 1) ↔ (b ≡ 1) → a ≡ b
-same_bit a b la lb s = by (ℕ_discrete a 1)
-  where
-    by : Dec (a ≡ 1) → a ≡ b
-    by (yes p) = let q = s.0 p in omega arith
-    by (no p) = let q : b ≢ 1 = (λ e. p (s.1 e)) in omega arith
+same_bit a b la lb s =
+    elim (ℕ_discrete a 1) [ yes p ↦ let q = s.0 p in omega arith | no p ↦ let q : b ≢ 1 = (λ e. p (s.1 e)) in omega arith ]
 
 -- THEOREM: two sets with the same members are one
 pub set-once : (P : ℕ → Type 0) (m n : ℕ) → ((i : ℕ) → Has m i ↔ P i) → ((i : ℕ) → Has n i ↔ P i) → m ≡ n
@@ -25,13 +22,12 @@ set-once P m n p q =
 -- THEOREM: there is one first member, and one rest
 pub first-once : (w n j k r s : ℕ) → TakesFirst w n j r → TakesFirst w n k s → (j ≡ k) × (r ≡ s)
 first-once w n j k r s p q =
-    let e = same (dec_lt j k) (dec_lt k j) in
+    let e : j ≡ k =
+    elim (dec_lt j k) [
+      | yes l ↦ absurd (q.least j l p.member)
+      | no l ↦ elim (dec_lt k j) [ yes g ↦ absurd (p.least k g q.member) | no g ↦ omega arith ]
+    ] in
     (e, set-once (λ i. Has n i × (i ≢ j)) r s p.rest.member (let m = q.rest.member in rw e m))
-  where
-    same : Dec (j < k) → Dec (k < j) → j ≡ k
-    same (yes l) d = absurd (q.least j l p.member)
-    same (no l) (yes g) = absurd (p.least k g q.member)
-    same (no l) (no g) = omega arith
 
 -- THEOREM: one row of bytes holds a set
 pub bytes-once : (m n : ℕ) (a b : List ℕ) → IsBytesOf (8 * m) n a → IsBytesOf (8 * m) n b → a ≡ b

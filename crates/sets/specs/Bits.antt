@@ -23,6 +23,10 @@ has n k = nat_eq (bit_at n k) 1
 abbrev pub Has : ℕ → ℕ → Type 0
 Has n k = bit_at n k ≡ 1
 
+-- the members of r are the numbers with P
+pub record IsSetOf (P : ℕ → Type 0) (r : ℕ) : Type 0 where
+  pub member : (i : ℕ) → Has r i ↔ P i
+
 -- k alone is in r; where a set of width w has no room for k, nothing is
 pub record IsOnly (w k r : ℕ) : Type 0 where
   pub member : (i : ℕ) → Has r i ↔ ((i ≡ k) × (k < w))

@@ -2,7 +2,7 @@
 
 ghost use Rattle.std.specs.Prelude.{◌≤◌, ◌≡◌, ◌↔◌, IsTrue, length};
 ghost use Rattle.std.specs.Iterator.{at_most};
-ghost use Rattle.sets.specs.Bits.{state_width, Has, IsOnly, Inserts, IsUnion, IsIntersection, IsMinus, Meets, IsEmpty, Takes, members};
+ghost use Rattle.sets.specs.Bits.{state_width, Has, IsOnly, Inserts, InsertsIf, IsUnion, IsIntersection, IsMinus, Meets, IsEmpty, Takes, members};
 
 use kinds::State;
 
@@ -37,6 +37,16 @@ impl StateSet {
         ensures { Inserts state_width self.old.0 member.0 self.new.0 }
     {
         self.0 |= StateSet::only(member).0;
+    }
+
+    /// Without a branch on the test: for gathering the states that pass it.
+    pub fn insert_if(&mut self, member: State, on: bool)
+        ensures { InsertsIf state_width self.old.0 member.0 on self.new.0 }
+    {
+        let k = member.0 as usize;
+        if k < StateSet::ROOM {
+            self.0 |= (on as u32) << k;
+        }
     }
 
     pub fn union(self, other: StateSet) -> StateSet

@@ -1,6 +1,6 @@
 -- Paths from a root to any element whatever, for any rules' kind: they are walks that lead out.
 use Rattle.std.specs.Prelude.{◌≡◌, ◌↔◌, ◌⊎◌, refl}
-use Rattle.std.proofs.Common.{inl, inr}
+use Rattle.std.proofs.Common.{inl, inr, ⊎_elim}
 use Rattle.theory.specs.Kind.{Kind}
 use Rattle.theory.specs.Grows.{Grows}
 use Rattle.theory.specs.Run.{Run, stop, go, join}
@@ -71,11 +71,13 @@ module _ (𝓚 : Kind) where
       onward→path (deeper {B = B} {R = R} c d w) x i = let r = onward→path w (x ▹ R) refl in (r.0, r.1, r.2, go (downs B R i c d) r.3)
 
       out→path : {a : I} {s : State} → Out a s → Reach (root a) s
-      out→path {a} {s} w = side w.out
-        where
-          side : final w.last ⊎ ((B : Concept) × has w.to B × LeadsOn 𝓚 final w.last B) → (y : Elem I Edge) × (t : State) × final t × Run (Move 𝓚 has near) (root a) s y t
-          side (inl h) = (root w.to, w.last, h, (path↔walk 𝓚 has near).1 w.walk)
-          side (inr k) = let r = onward→path k.2 (root w.to) k.1 in (r.0, r.1, r.2, join ((path↔walk 𝓚 has near).1 w.walk) r.3)
+      out→path {a} {s} w =
+          elim w.out [
+            | inl h ↦ (root w.to, w.last, h, (path↔walk 𝓚 has near).1 w.walk)
+            | inr k ↦
+                let r = onward→path k.2 (root w.to) k.1 in
+                (r.0, r.1, r.2, join ((path↔walk 𝓚 has near).1 w.walk) r.3)
+          ]
 
       -- THEOREM: the walk over roots leads out exactly when a path leads from its root to any element whatever in a final state
       pub out↔path : (a : I) (s : State) → Out a s ↔ ((y : Elem I Edge) × (t : State) × final t × Run (Move 𝓚 has near) (root a) s y t)
@@ -92,11 +94,7 @@ module _ (𝓚 : Kind) where
     onward↔tree s B = (λ w. onward→path (λ B C. B ≡ C) (alone 𝓚) w (root B) refl, λ p. back (path→left (λ B C. B ≡ C) (alone 𝓚) p.3 p.2))
       where
         back : WalksOut 𝓚 (λ B C. B ≡ C) (alone 𝓚) final B s → LeadsOn 𝓚 final s B
-        back w = walk→onward w.walk (side w.out)
-          where
-            side : final w.last ⊎ ((C : Concept) × (w.to ≡ C) × LeadsOn 𝓚 final w.last C) → LeadsOn 𝓚 final w.last w.to
-            side (inl h) = ends h
-            side (inr k) = rw k.1 k.2
+        back w = walk→onward w.walk (⊎_elim (λ h. ends h) (λ k. rw k.1 k.2) w.out)
 
 -- growth: a kind that yields more leads on where the other does
 module _ {𝓚 𝓛 : Kind} (g : Grows 𝓚 𝓛) where

@@ -1,5 +1,5 @@
 -- The rounds of any rules' kind: marks stay, the rounds needed are few and final, and the closed sheet is the smallest closed one.
-use Rattle.std.specs.Prelude.{◌≡◌, refl, ◌↔◌, ◌⊎◌, ℕ, zero, suc, ◌≤◌, ◌<◌}
+use Rattle.std.specs.Prelude.{◌≡◌, refl, ◌↔◌, ℕ, zero, suc, ◌≤◌}
 use Rattle.std.proofs.Common.{inl, inr, eq-or-lt_of_le, arith}
 use Rattle.laws.specs.Member.{◌∈◌}
 use Rattle.laws.specs.Rounds.{least-once}
@@ -27,20 +27,17 @@ module _ (𝓚 : Kind) where
   -- a mark of a round stands in every later one
   pub marks-later : (m n : ℕ) → n ≤ m → (s t : State) (B : Concept) → Mark 𝓚 n s t B → Mark 𝓚 m s t B
   marks-later zero n h s t B k = let e : n ≡ 0 = omega arith in rw e at k
-  marks-later (suc m) n h s t B k = side (eq-or-lt_of_le h) (marks-later m n)
-    where
-      side : (n ≡ suc m) ⊎ (n < suc m) → (n ≤ m → (s t : State) (B : Concept) → Mark 𝓚 n s t B → Mark 𝓚 m s t B) → Mark 𝓚 (suc m) s t B
-      side (inl e) r = rw e at k
-      side (inr l) r = marks_stay m s t B (r (omega arith) s t B k)
+  marks-later (suc m) n h s t B k =
+      elim (eq-or-lt_of_le h) [ inl e ↦ rw e at k | inr l ↦ marks_stay m s t B (marks-later m n (omega arith) s t B k) ]
 
   -- a sheet that one more round leaves as it is stays so for ever
   pub unchanged-later : (n : ℕ) → Unchanged 𝓚 n → (m : ℕ) → n ≤ m → (s t : State) (B : Concept) → Mark 𝓚 m s t B → Mark 𝓚 n s t B
   unchanged-later n still zero h s t B k = let e : n ≡ 0 = omega arith in rw e k
-  unchanged-later n still (suc m) h s t B k = side (eq-or-lt_of_le h) (unchanged-later n still m)
-    where
-      side : (n ≡ suc m) ⊎ (n < suc m) → (n ≤ m → (s t : State) (B : Concept) → Mark 𝓚 m s t B → Mark 𝓚 n s t B) → Mark 𝓚 n s t B
-      side (inl e) r = rw e k
-      side (inr l) r = still s t B (k.0, round_mono (r (omega arith)) k.1)
+  unchanged-later n still (suc m) h s t B k =
+      elim (eq-or-lt_of_le h) [
+        | inl e ↦ rw e k
+        | inr l ↦ still s t B (k.0, round_mono (unchanged-later n still m (omega arith)) k.1)
+      ]
 
   -- THEOREM: the rounds needed are unique
   pub rounds-unique : (m n : ℕ) → Needed 𝓚 m → Needed 𝓚 n → m ≡ n

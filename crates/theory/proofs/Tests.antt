@@ -1,16 +1,17 @@
 -- Calculation: a rules' kind as tests that compute, the sheet that they come to round by round, and the bound on the rounds.
-use Rattle.std.specs.Prelude.{◌≡◌, Bool, ◌⊎◌, List, length}
+use Rattle.std.specs.Prelude.{◌≡◌, ◌↔◌, Bool, ◌⊎◌, List, length, IsTrue}
 use Rattle.std.proofs.Math.Path.{refl, fun_ext, sym, ap}
 use Rattle.std.proofs.Common.{◌∙◌, inl, inr, arith}
 use Prim.Native.Nat.{ℕ, zero, suc, ◌+◌, ◌*◌, ◌-◌, ◌≤◌}
 use Rattle.std.proofs.Math.Nat.{mul-le-mul_right}
 use Rattle.std.proofs.Math.Dec.{T}
 use Rattle.laws.specs.Member.{◌∈◌}
-use Rattle.laws.specs.Search.{any, any-in, any_out, or, or_left, or_right, or_case, and, and_left, and_right, and_both}
+use Rattle.laws.specs.Search.{any, or, or_left, and}
+use Rattle.laws.specs.Truth.{test-in, test-out, test-same, test-and, test-and-then, test-or, test-any, test-equals}
 use Rattle.laws.specs.Count.{count}
 use Rattle.laws.specs.Pairs.{pairs, pairs-in, pairs-out, length_pairs, count-pairs, count-each}
 use Rattle.laws.specs.Rounds.{Least, least-same, Still, needed}
-use Rattle.laws.specs.Settle.{memo, memo-is, settle, settled}
+use Rattle.laws.specs.Fixpoint.{memo, memo-is, fixpoint, fixpoint-is}
 use Rattle.theory.specs.Kind.{Kind, Sane}
 use Rattle.theory.specs.Tests.{Tests, AreTestsOf}
 use Rattle.theory.specs.Sheet.{Markable, Round, kept, tested, joined, hung, Mark, Unchanged, Needed}
@@ -25,7 +26,7 @@ room c zero k g = omega arith
 room c (suc s) k g = let e : suc s - 1 ≡ s = omega arith in rw e (omega arith)
 
 module _ (𝓚 : Kind) (𝓣 : Tests 𝓚) where
-  open 𝓚 use {Concept, State, Edge, concepts, states, end}
+  open 𝓚 use {Concept, State, Edge, concepts, states, end, child, test, down, up}
   open 𝓣 use {edges, same-state, same-concept, has-child, has-test, has-down, has-up}
 
   unfoldable pub joins : (State → State → Concept → Bool) → State → State → Concept → State → Bool
@@ -72,76 +73,20 @@ module _ (𝓚 : Kind) (𝓣 : Tests 𝓚) where
 
   -- the rounds needed and the closed sheet, as they are computed
   unfoldable pub work : ℕ × (State → State → Concept → Bool)
-  work = settle places at (λ f. table (round f)) most 0 (λ s t B. same-state s t)
+  work = fixpoint places at (λ f. table (round f)) most 0 (λ s t B. same-state s t)
 
   -- the sheet after a number of rounds, as it is computed
   unfoldable pub after : ℕ → State → State → Concept → Bool
   after zero = λ s t B. same-state s t
   after (suc k) = let f = after k in table (round f)
 
-  -- what a round adds, with where its states and edge are found
-  data Next (f : State → State → Concept → Bool) (s t : State) (B : Concept) : Type 0 where
-    keeps : T (f s t B) → Next f s t B
-    passes : T (has-test B s t) → Next f s t B
-    through : (u : State) → u ∈ states → T (f s u B) → T (f u t B) → Next f s t B
-    under : (R : Edge) (u v : State) → R ∈ edges → u ∈ states → v ∈ states → T (has-child B R) → T (has-down R s u) → T (f u v (end R))
-        → T (has-up R v t) → Next f s t B
-
-  module _ (f : State → State → Concept → Bool) (s t : State) (B : Concept) where
-    J : Bool
-    J = any states (joins f s t B)
-
-    H : Bool
-    H = any edges (hangs f s t B)
-
-    round-in : Next f s t B → T (round f s t B)
-    unfolding round J H joins hangs hangs_from hangs_to
-    round-in (keeps h) = or_left (f s t B) _ h
-    round-in (passes h) = or_right (f s t B) _ (or_left (has-test B s t) _ h)
-    round-in (through u m h k) = or_right (f s t B) _ (or_right (has-test B s t) _ (or_left J H (any-in states (joins f s t B) m (and_both (f s u B) (f u t B) h k))))
-    round-in (under R u v mR mu mv k d h p) =
-        or_right (f s t B) _ (or_right (has-test B s t) _ (or_right J H
-        (any-in edges (hangs f s t B) mR (and_both (has-child B R) _ k
-        (any-in states (hangs_from f s t R) mu (and_both (has-down R s u) _ d
-        (any-in states (hangs_to f t R u) mv (and_both (f u v (end R)) (has-up R v t) h p))))))))
-
-    out-joins : (u : State) × (u ∈ states) × T (joins f s t B u) → Next f s t B
-    unfolding joins
-    out-joins w = let u = w.0 in through u w.1 (and_left (f s u B) (f u t B) w.2) (and_right (f s u B) (f u t B) w.2)
-
-    out-hangs : (R : Edge) × (R ∈ edges) × T (hangs f s t B R) → Next f s t B
-    unfolding hangs hangs_from hangs_to
-    out-hangs w =
-        let R = w.0 in
-        let x = any_out states (hangs_from f s t R) (and_right (has-child B R) _ w.2) in
-        let u = x.0 in
-        let y = any_out states (hangs_to f t R u) (and_right (has-down R s u) _ x.2) in
-        let v = y.0 in
-        under R u v w.1 x.1 y.1 (and_left (has-child B R) _ w.2) (and_left (has-down R s u) _ x.2) (and_left (f u v (end R)) (has-up R v t) y.2) (and_right (f u v (end R)) (has-up R v t) y.2)
-
-    round-out : T (round f s t B) → Next f s t B
-    unfolding round J H joins hangs hangs_from hangs_to
-    round-out h = first (or_case (f s t B) _ h)
-      where
-        third : T J ⊎ T H → Next f s t B
-        third (inl j) = out-joins (any_out states (joins f s t B) j)
-        third (inr j) = out-hangs (any_out edges (hangs f s t B) j)
-
-        second : T (has-test B s t) ⊎ T (or J H) → Next f s t B
-        second (inl j) = passes j
-        second (inr j) = third (or_case J H j)
-
-        first : T (f s t B) ⊎ T (or (has-test B s t) (or J H)) → Next f s t B
-        first (inl j) = keeps j
-        first (inr j) = second (or_case (has-test B s t) (or J H) j)
-
   length-places : length places ≡ length states * length states * length concepts
   unfolding places
   length-places = rw (length_pairs, length_pairs)
 
   sheet-keeps : (k : ℕ) (p : Spot) → T (at (sheet k) p) → T (at (sheet (suc k)) p)
-  unfolding sheet
-  sheet-keeps k p h = round-in (sheet k) p.0.0 p.0.1 p.1 (keeps h)
+  unfolding sheet round
+  sheet-keeps k p h = or_left (at (sheet k) p) _ h
 
   pub spot_in : (s t : State) (B : Concept) → Markable 𝓚 s t B → ◌∈◌ {A = Spot} ((s, t), B) places
   unfolding places
@@ -155,45 +100,48 @@ module _ (𝓚 : Kind) (𝓣 : Tests 𝓚) where
       record { from = v.0; to = v.1; of = w.1 }
 
   module _ (ok : AreTestsOf 𝓚 𝓣) (sane : Sane 𝓚) where
+    -- what a round makes of the marks M, with where its states and edge are found
+    abbrev Found : (State → State → Concept → Type 0) → State → State → Concept → Type 0
+    Found M s t B =
+        M s t B ⊎ (test B s t ⊎ (((u : State) × (u ∈ states) × (M s u B × M u t B)) ⊎ ((R : Edge) × (R ∈ edges)
+        × (child B R × ((u : State) × (u ∈ states) × (down R s u × ((v : State) × (v ∈ states) × (M u v (end R) × up R v t))))))))
+
+    made : (n : ℕ) (s t : State) (B : Concept) → s ∈ states → B ∈ concepts → Found (Mark 𝓚 n) s t B → Mark 𝓚 (suc n) s t B
+    made n s t B m b (inl k) = (mark-markable 𝓚 n s t B k, kept k)
+    made n s t B m b (inr (inl e)) = (record { from = m; to = sane.test_in B s t e; of = b }, tested e)
+    made n s t B m b (inr (inr (inl (u, i, p)))) = (record { from = m; to = (mark-markable 𝓚 n u t B p.1).to; of = b }, joined p.0 p.1)
+    made n s t B m b (inr (inr (inr (R, i, p)))) =
+        let u = p.1 in
+        let v = u.2.1 in
+        (record { from = m; to = sane.up_in R v.0 t v.2.1; of = b }, hung p.0 u.2.0 v.2.0 v.2.1)
+
+    found : (n : ℕ) (s t : State) (B : Concept) → B ∈ concepts → Round 𝓚 (Mark 𝓚 n) s t B → Found (Mark 𝓚 n) s t B
+    found n s t B b (kept k) = inl k
+    found n s t B b (tested e) = inr (inl e)
+    found n s t B b (joined {u = u} k l) = inr (inr (inl (u, (mark-markable 𝓚 n s u B k).to, (k, l))))
+    found n s t B b (hung {R = R} {u = u} {v = v} c d k e) =
+        let p = mark-markable 𝓚 n u v (end R) k in
+        inr (inr (inr (R, ok.edge_in B R b c, (c, (u, p.from, (d, (v, p.to, (k, e))))))))
+
     -- in each round the sheet that is computed is the definition's
+    pub mark-is : (n : ℕ) (s t : State) (B : Concept) → s ∈ states → B ∈ concepts → IsTrue (sheet n s t B) ↔ Mark 𝓚 n s t B
+    unfolding sheet round joins hangs hangs_from hangs_to
+    mark-is zero s t B m b =
+        test-same (test-equals same-state ok.states-same s t) (λ e. (record { from = m; to = rw e at m; of = b }, e)) (λ k. k.1)
+    mark-is (suc n) s t B m b =
+        test-same
+        (test-or (mark-is n s t B m b) (test-or (ok.test B s t b) (test-or
+        (test-any states (λ u i. test-and (mark-is n s u B m b) (mark-is n u t B i b)))
+        (test-any edges (λ R e. test-and-then (ok.child B R b) (λ c.
+        test-any states (λ u i. test-and (ok.down R s u e)
+        (test-any states (λ v j. test-and (mark-is n u v (end R) i (sane.end-in B R b c)) (ok.up R v t e))))))))))
+        (made n s t B m b) (λ k. found n s t B b k.1)
+
     pub mark-in : (n : ℕ) (s t : State) (B : Concept) → Mark 𝓚 n s t B → T (sheet n s t B)
-    unfolding sheet
-    mark-in zero s t B m = rw m.1 (ok.states-same.self t)
-    mark-in (suc n) s t B m = round-in (sheet n) s t B (mean m.1 (mark-in n))
-      where
-        mean : Round 𝓚 (Mark 𝓚 n) s t B → ((s t : State) (B : Concept) → Mark 𝓚 n s t B → T (sheet n s t B)) → Next (sheet n) s t B
-        mean (kept k) r = keeps (r s t B k)
-        mean (tested e) r = passes (ok.test_in B s t m.0.of e)
-        mean (joined {u = u} k l) r = through u (mark-markable 𝓚 n s u B k).to (r s u B k) (r u t B l)
-        mean (hung {R = R} {u = u} {v = v} c d k e) r =
-            let p = mark-markable 𝓚 n u v (end R) k in
-            let i = ok.edge_in B R m.0.of c in
-            under R u v i p.from p.to (ok.child-in B R m.0.of c) (ok.down-in R s u i d) (r u v (end R) k) (ok.up_in R v t i e)
+    mark-in n s t B k = let p = mark-markable 𝓚 n s t B k in test-in (mark-is n s t B p.from p.of) k
 
     pub mark-out : (n : ℕ) (s t : State) (B : Concept) → Markable 𝓚 s t B → T (sheet n s t B) → Mark 𝓚 n s t B
-    unfolding sheet
-    mark-out zero s t B p h = (p, ok.states-same.is s t h)
-    mark-out (suc n) s t B p h = (p, mean (round-out (sheet n) s t B h) (mark-out n))
-      where
-        mean : Next (sheet n) s t B → ((s t : State) (B : Concept) → Markable 𝓚 s t B → T (sheet n s t B) → Mark 𝓚 n s t B) → Round 𝓚 (Mark 𝓚 n) s t B
-        mean (keeps k) r = kept (r s t B p k)
-        mean (passes k) r = tested (ok.test-out B s t p.of k)
-        mean (through u m k l) r = joined (r s u B (record { from = p.from; to = m; of = p.of }) k) (r u t B (record { from = m; to = p.to; of = p.of }) l)
-        mean (under R u v i m l c d k e) r =
-            let g = ok.child-out B R p.of c in
-            hung g (ok.down_out R s u i d) (r u v (end R) (record { from = m; to = l; of = sane.end-in B R p.of g }) k) (ok.up-out R v t i e)
-
-    -- a mark leads to a declared state
-    pub sheet-to : (n : ℕ) (s t : State) (B : Concept) → s ∈ states → B ∈ concepts → T (sheet n s t B) → t ∈ states
-    unfolding sheet
-    sheet-to zero s t B m b h = rw (ok.states-same.is s t h) at m
-    sheet-to (suc n) s t B m b h = mean (round-out (sheet n) s t B h) (sheet-to n)
-      where
-        mean : Next (sheet n) s t B → ((s t : State) (B : Concept) → s ∈ states → B ∈ concepts → T (sheet n s t B) → t ∈ states) → t ∈ states
-        mean (keeps k) r = r s t B m b k
-        mean (passes k) r = sane.test_in B s t (ok.test-out B s t b k)
-        mean (through u i k l) r = r u t B i b l
-        mean (under R u v i j l c d k e) r = sane.up_in R v t (ok.up-out R v t i e)
+    mark-out n s t B p h = test-out (mark-is n s t B p.from p.of) h
 
     still→unchanged : (n : ℕ) → Still places (λ k. at (sheet k)) n → Unchanged 𝓚 n
     still→unchanged n still s t B m =
@@ -231,7 +179,7 @@ module _ (𝓚 : Kind) (𝓣 : Tests 𝓚) where
     pub works : Needed 𝓚 work.0 × (work.1 ≡ sheet work.0) × (work.0 ≤ most)
     unfolding work sheet
     works =
-        let w = settled places at (λ f. table (round f)) sheet (λ k. sym (table_is (round (sheet k)))) sheet-keeps most 0 most (omega arith)
+        let w = fixpoint-is places at (λ f. table (round f)) sheet (λ k. sym (table_is (round (sheet k)))) sheet-keeps most 0 most (omega arith)
         (rw length-places (room (length concepts) (length states) _ first_marks)) (λ m l. omega arith) in
         (needed-in work.0 w.0, w.1, w.2)
 

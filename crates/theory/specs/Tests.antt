@@ -1,5 +1,5 @@
 -- A rules' kind as tests that compute.
-use Rattle.std.specs.Prelude.{Bool, List, T}
+use Rattle.std.specs.Prelude.{◌↔◌, Bool, List, IsTrue}
 use Rattle.laws.specs.Member.{◌∈◌}
 use Rattle.laws.specs.Same.{Same}
 use Rattle.theory.specs.Kind.{Kind}
@@ -19,13 +19,11 @@ pub record AreTestsOf (𝓚 : Kind) (𝓣 : Tests 𝓚) : Type 0 where
   pub states-same : Same 𝓣.same-state
   pub concepts-same : Same 𝓣.same-concept
   pub edge_in : (B : 𝓚.Concept) (R : 𝓚.Edge) → B ∈ 𝓚.concepts → 𝓚.child B R → R ∈ 𝓣.edges
-  pub child-in : (B : 𝓚.Concept) (R : 𝓚.Edge) → B ∈ 𝓚.concepts → 𝓚.child B R → T (𝓣.has-child B R)
-  pub child-out : (B : 𝓚.Concept) (R : 𝓚.Edge) → B ∈ 𝓚.concepts → T (𝓣.has-child B R) → 𝓚.child B R
-  pub test_in : (B : 𝓚.Concept) (s t : 𝓚.State) → B ∈ 𝓚.concepts → 𝓚.test B s t
-      → T (𝓣.has-test B s t)
-  pub test-out : (B : 𝓚.Concept) (s t : 𝓚.State) → B ∈ 𝓚.concepts → T (𝓣.has-test B s t)
-      → 𝓚.test B s t
-  pub down-in : (R : 𝓚.Edge) (s t : 𝓚.State) → R ∈ 𝓣.edges → 𝓚.down R s t → T (𝓣.has-down R s t)
-  pub down_out : (R : 𝓚.Edge) (s t : 𝓚.State) → R ∈ 𝓣.edges → T (𝓣.has-down R s t) → 𝓚.down R s t
-  pub up_in : (R : 𝓚.Edge) (s t : 𝓚.State) → R ∈ 𝓣.edges → 𝓚.up R s t → T (𝓣.has-up R s t)
-  pub up-out : (R : 𝓚.Edge) (s t : 𝓚.State) → R ∈ 𝓣.edges → T (𝓣.has-up R s t) → 𝓚.up R s t
+  pub child : (B : 𝓚.Concept) (R : 𝓚.Edge) → B ∈ 𝓚.concepts
+      → IsTrue (𝓣.has-child B R) ↔ 𝓚.child B R
+  pub test : (B : 𝓚.Concept) (s t : 𝓚.State) → B ∈ 𝓚.concepts
+      → IsTrue (𝓣.has-test B s t) ↔ 𝓚.test B s t
+  pub down : (R : 𝓚.Edge) (s t : 𝓚.State) → R ∈ 𝓣.edges
+      → IsTrue (𝓣.has-down R s t) ↔ 𝓚.down R s t
+  pub up : (R : 𝓚.Edge) (s t : 𝓚.State) → R ∈ 𝓣.edges
+      → IsTrue (𝓣.has-up R s t) ↔ 𝓚.up R s t

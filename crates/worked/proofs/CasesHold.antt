@@ -14,7 +14,7 @@ use Rattle.laws.specs.Truth.{test-and, test-out}
 use Rattle.laws.specs.Pairs.{pairs}
 use Rattle.laws.specs.Numbers.{upto, numbered}
 use Rattle.laws.specs.Select.{select, select_in, select-out, rises_from, rising}
-use Rattle.laws.specs.Settle.{memo, settle, stays, new}
+use Rattle.laws.specs.Fixpoint.{memo, fixpoint, stays, new}
 use Rattle.laws.specs.Chain.{via, compose, tab, closing}
 use Rattle.meaning.specs.Collection.{Collection, WellFormed}
 use Rattle.meaning.specs.Lite.{signed_roles, valid_concepts, declared_states, lite}
@@ -107,7 +107,7 @@ holds k = let b = answer_ok (given k) (computed k) k.number k.count k.marks k.ad
 
 -- every row passes
 table-computes : every cases holds ≡ true
-unfolding every cases holds sound_ok answer_ok adds_ok list_ok rises_from stands_at select counts_fit whole shapes_ok concepts_declared roles_declared concept_fact_declared role_fact_declared numbers_declared numbers_ok ask_ok sound_answer after_clash after_rounds records concept_of number_of inverse any upto numbered pairs memo settle stays new via compose tab closing both signed_roles valid_concepts declared_states joins hangs_to hangs_from hangs round places table work after role_base role_le concept_base concept_le declared_individuals fact_types end_types is_typed typed_to individual_has joins_by fact_edge follows alive_by alive_at alive clash_at clash_under concept_clash clash_between clash_below role_clash clash marked stride walks reaches_in reaches is_final goes_on out_from leaves goes_round goes_to goes_down further nodes kept onward_work
+unfolding every cases holds sound_ok answer_ok adds_ok list_ok rises_from stands_at select counts_fit whole shapes_ok concepts_declared roles_declared concept_fact_declared role_fact_declared numbers_declared numbers_ok ask_ok sound_answer after_clash after_rounds records concept_of number_of inverse any upto numbered pairs memo fixpoint stays new via compose tab closing both signed_roles valid_concepts declared_states joins hangs_to hangs_from hangs round places table work after role_base role_le concept_base concept_le declared_individuals fact_types end_types is_typed typed_to individual_has joins_by fact_edge follows alive_by alive_at alive clash_at clash_under concept_clash clash_between clash_below role_clash clash marked stride walks reaches_in reaches is_final goes_on out_from leaves goes_round goes_to goes_down further nodes kept onward_work
 table-computes = refl
 
 -- the list that is computed is that of the places that hold 1, in any area that holds the sheet

@@ -1,7 +1,6 @@
 -- C ≤ D: by its constructors, and the test that computes it.
-use Rattle.laws.specs.Truth.{test-of}
 use Rattle.meaning.specs.Orders.{same, then, rule, wider}
-use Rattle.meaning.proofs.LiteTests.{concept_le, concept_le-in, concept_le-out}
+use Rattle.meaning.proofs.LiteTests.{concept_le, concept_le-is}
 use Rattle.meaning.proofs.orders.concepts.Goals as goal
 
 pub returns : goal.returns
@@ -13,5 +12,5 @@ returns c = record {
     neighbours = λ R S l. wider l;
   };
   concepts_computed = λ 𝓒 ok.
-      (concept_le 𝓒, λ C D h. test-of (concept_le 𝓒 C D) (concept_le-out 𝓒 ok C D) (concept_le-in 𝓒 ok C D h));
+      (concept_le 𝓒, concept_le-is 𝓒 ok);
 }

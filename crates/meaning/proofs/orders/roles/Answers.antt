@@ -1,8 +1,7 @@
 -- R ≤ S: by its constructors, its inverse, and the test that computes it.
-use Rattle.laws.specs.Truth.{test-of}
 use Rattle.meaning.specs.Orders.{same, then, rule, turned}
 use Rattle.meaning.proofs.RoleTurned.{inverses-follow}
-use Rattle.meaning.proofs.LiteTests.{role_le, role_le-in, role_le-out}
+use Rattle.meaning.proofs.LiteTests.{role_le, role_le-is}
 use Rattle.meaning.proofs.orders.roles.Goals as goal
 
 pub returns : goal.returns
@@ -15,5 +14,5 @@ returns c = record {
   };
   inverses = λ 𝓒 R S. inverses-follow 𝓒;
   roles_computed = λ 𝓒 ok.
-      (role_le 𝓒, λ R S h. test-of (role_le 𝓒 R S) (role_le-out 𝓒 ok R S) (role_le-in 𝓒 ok R S h));
+      (role_le 𝓒, role_le-is 𝓒 ok);
 }
