@@ -7,7 +7,7 @@ use Rattle.sets.specs.Rows.{concept_marks, ConceptRows}
 use Rattle.sets.specs.declared.concepts.ConceptSet.{ConceptSet}
 use Rattle.sets.proofs.Once.{concept_rows_once, below-once}
 use Rattle.elements.specs.Concepts.{Concepts}
-use Rattle.elements.specs.Living.{Living}
+use Rattle.elements.specs.Generating.{AreGenerating}
 
 -- THEOREM: of two tables and one order there is one set of concepts for each individual
 pub concepts-once : {cf rf : List ℕ} {order : ℕ → ℕ → Bool} (m n : List ConceptSet) → Concepts cf rf order (concept_marks m)
@@ -16,7 +16,8 @@ concepts-once m n o p s u =
     concept_rows_once most_individuals m n s u
     (λ i j hi hj. test-once (concept_marks m i j) (concept_marks n i j) (o.at i j hi hj) (p.at i j hi hj))
 
--- THEOREM: and one set of living roles
-pub living-once : {concepts order : ℕ → ℕ → Bool} (m n : ℕ) → Living concepts order (has m) → Living concepts order (has n)
+-- THEOREM: and one set of generating roles
+pub generating-once : {concepts order : ℕ → ℕ → Bool} (m n : ℕ) → AreGenerating concepts order (has m)
+    → AreGenerating concepts order (has n)
     → m < 2 ^ role_width → n < 2 ^ role_width → m ≡ n
-living-once m n o p hm hn = below-once role_width m n hm hn (λ i hi. test-once (has m i) (has n i) (o.at i hi) (p.at i hi))
+generating-once m n o p hm hn = below-once role_width m n hm hn (λ i hi. test-once (has m i) (has n i) (o.at i hi) (p.at i hi))

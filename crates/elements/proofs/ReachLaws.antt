@@ -1,4 +1,4 @@
--- The living roles: what some individual has, and a set that grows, with the set of those still to follow.
+-- The generating roles: what some individual has, and a set that grows, with the set of those still to follow.
 use Rattle.std.specs.Prelude.{ℕ, ◌+◌, ◌-◌, ◌*◌, ◌^◌, ◌<◌, ◌≡◌, ◌↔◌, ◌⊎◌, Bool, true, List, get_or}
 use Rattle.std.proofs.Common.{sym, ◌∙◌, inl, inr, ⊎_elim, arith}
 use Rattle.std.proofs.Math.Decide.{ℕ_discrete}
@@ -12,9 +12,9 @@ use Rattle.sets.specs.Rows.{concept_marks, no_concepts}
 use Rattle.sets.specs.declared.concepts.ConceptSet.{ConceptSet}
 use Rattle.sets.proofs.Laws.{is_union, past}
 use Rattle.sets.proofs.RowLaws.{has_fact}
-use Rattle.elements.specs.Living.{Lives, Living}
-use Rattle.elements.specs.Living as lives
-use Rattle.elements.specs.Steps.{Gathers, Sprouted, Reached, sprouts, grows, IsReached, Next}
+use Rattle.elements.specs.Generating.{IsGenerating, AreGenerating}
+use Rattle.elements.specs.Generating as generating_roles
+use Rattle.elements.specs.Steps.{Gathers, AreSeeds, Reached, seed, child, IsReached, ChildRoles}
 
 -- ---- all rows in one
 
@@ -38,8 +38,8 @@ gathers_more rows i n r g u =
     last j k l p (no ne) = inl ((g.member j).1 (k, omega arith, p))
 
 -- the roles of all rows
-pub sprouted_end : (m : ℕ → ℕ → Bool) (n r : ℕ) → Gathers most_individuals m n → IsLowered base n r → r < 2 ^ 64 → Sprouted m r
-sprouted_end m n r g o small =
+pub seeds_end : (m : ℕ → ℕ → Bool) (n r : ℕ) → Gathers most_individuals m n → IsLowered base n r → r < 2 ^ 64 → AreSeeds m r
+seeds_end m n r g o small =
     record {
       member = λ R. (
         λ p. let v = (g.member (base + R)).0 ((o.member R).0 p) in (past role_width r R small p, v.0, v.1, v.2),
@@ -47,45 +47,47 @@ sprouted_end m n r g o small =
       );
     }
 
--- what is reached from the roles that sprout is what lives
-pub all_living : (concepts order : ℕ → ℕ → Bool) (sprouted living : ℕ) → Sprouted concepts sprouted → IsReached sprouted order living
-    → Living concepts order (has living)
-all_living concepts order sprouted living s r =
+-- what is reached from the seeds are the generating roles
+pub all_generating : (concepts order : ℕ → ℕ → Bool) (seeds generating : ℕ) → AreSeeds concepts seeds → IsReached seeds order generating
+    → AreGenerating concepts order (has generating)
+all_generating concepts order seeds generating s r =
     record {
       at = λ R h.
-          let f = has_fact living R in
+          let f = has_fact generating R in
           (λ p. to ((r.member R h).0 (f.0 p)), λ l. f.1 ((r.member R h).1 (back l)));
     }
   where
-    to : {R : ℕ} → Reached sprouted order R → Lives concepts order R
-    to (sprouts R p) = let w = (s.member R).0 p in lives.sprouts w.1 R w.2 w.0 w.3
-    to (grows R S l p e) = lives.grows R S l (to p) e
+    to : {R : ℕ} → Reached seeds order R → IsGenerating concepts order R
+    to (seed R p) = let w = (s.member R).0 p in generating_roles.seed w.1 R w.2 w.0 w.3
+    to (child R S l p e) = generating_roles.child R S l (to p) e
 
-    back : {R : ℕ} → Lives concepts order R → Reached sprouted order R
-    back (lives.sprouts a R h l p) = sprouts R ((s.member R).1 (l, a, h, p))
-    back (lives.grows R S l p e) = grows R S l (back p) e
+    back : {R : ℕ} → IsGenerating concepts order R → Reached seeds order R
+    back (generating_roles.seed a R h l p) = seed R ((s.member R).1 (l, a, h, p))
+    back (generating_roles.child R S l p e) = child R S l (back p) e
 
 -- ---- the set that grows
 
 -- the set that grows, and those of it whose steps are still to be taken
-pub record Reaching (sprouted : ℕ) (m : ℕ → ℕ → Bool) (living waiting : ℕ) : Type 0 where
-  pub sound : (R : ℕ) → Has living R → Reached sprouted m R
-  pub starts : (R : ℕ) → Has sprouted R → Has living R
-  pub part : (R : ℕ) → Has waiting R → Has living R
-  pub follows : (R S : ℕ) → S < role_width → Has living R → (Has waiting R → ⊥) → m (base + flip R) (base + S) ≡ true → Has living S
+pub record Reaching (seeds : ℕ) (m : ℕ → ℕ → Bool) (generating waiting : ℕ) : Type 0 where
+  pub sound : (R : ℕ) → Has generating R → Reached seeds m R
+  pub starts : (R : ℕ) → Has seeds R → Has generating R
+  pub part : (R : ℕ) → Has waiting R → Has generating R
+  pub follows : (R S : ℕ) → S < role_width → Has generating R → (Has waiting R → ⊥) → m (base + flip R) (base + S) ≡ true → Has generating S
 
-module _ (sprouted : ℕ) (m : ℕ → ℕ → Bool) where
-  pub reaching_start : Reaching sprouted m sprouted sprouted
-  reaching_start = record { sound = λ R p. sprouts R p; starts = λ R p. p; part = λ R p. p; follows = λ R S l p q e. absurd (q p) }
+module _ (seeds : ℕ) (m : ℕ → ℕ → Bool) where
+  pub reaching_start : Reaching seeds m seeds seeds
+  reaching_start = record { sound = λ R p. seed R p; starts = λ R p. p; part = λ R p. p; follows = λ R S l p q e. absurd (q p) }
 
-  pub reaching_end : (living waiting : ℕ) → Reaching sprouted m living waiting → ((R : ℕ) → Has waiting R → ⊥) → IsReached sprouted m living
-  reaching_end living waiting r h = record { member = λ R l. (r.sound R, back R) }
+  pub reaching_end : (generating waiting : ℕ) → Reaching seeds m generating waiting → ((R : ℕ) → Has waiting R → ⊥)
+      → IsReached seeds m generating
+  reaching_end generating waiting r h = record { member = λ R l. (r.sound R, back R) }
     where
-      back : (R : ℕ) → Reached sprouted m R → Has living R
-      back T (sprouts R p) = r.starts R p
-      back T (grows R S l p e) = r.follows R S l (back R p) (h R) e
+      back : (R : ℕ) → Reached seeds m R → Has generating R
+      back T (seed R p) = r.starts R p
+      back T (child R S l p e) = r.follows R S l (back R p) (h R) e
 
-  module _ (living waiting role rest next : ℕ) (r : Reaching sprouted m living waiting) (t : TakesFirst role_width waiting role rest) (n : Next m role next) where
+  module _ (generating waiting role rest next : ℕ) (r : Reaching seeds m generating waiting) (t : TakesFirst role_width waiting role rest)
+      (n : ChildRoles m role next) where
     -- one that was not waiting, or is the one that is followed
     followed : (R : ℕ) → (Has rest R → ⊥) → (R ≡ role) ⊎ (Has waiting R → ⊥)
     followed R q = side (ℕ_discrete R role)
@@ -94,7 +96,7 @@ module _ (sprouted : ℕ) (m : ℕ → ℕ → Bool) where
         side (yes e) = inl e
         side (no ne) = inr (λ p. q ((t.rest.member R).1 (p, ne)))
 
-    pub reaching_same : ((S : ℕ) → Has next S → Has living S) → Reaching sprouted m living rest
+    pub reaching_same : ((S : ℕ) → Has next S → Has generating S) → Reaching seeds m generating rest
     reaching_same all =
         record {
           sound = r.sound;
@@ -103,23 +105,29 @@ module _ (sprouted : ℕ) (m : ℕ → ℕ → Bool) where
           follows = λ R S l p q e. ⊎_elim (λ f. all S ((n.member S).1 (l, rw f at e))) (λ f. r.follows R S l p f e) (followed R q);
         }
 
-    pub reaching_more : (grown fresh more : ℕ) → IsUnion living next grown → IsMinus next living fresh → IsUnion rest fresh more → Reaching sprouted m grown more
+    pub reaching_more : (grown fresh more : ℕ) → IsUnion generating next grown → IsMinus next generating fresh → IsUnion rest fresh more
+        → Reaching seeds m grown more
     reaching_more grown fresh more g f u =
         record {
-          sound = λ R p. ⊎_elim (r.sound R) (λ q. grows role R ((n.member R).0 q).0 (r.sound role (r.part role t.member)) ((n.member R).0 q).1) ((g.member R).0 p);
+          sound = λ R p. ⊎_elim (r.sound R)
+              (λ q. child role R ((n.member R).0 q).0 (r.sound role (r.part role t.member)) ((n.member R).0 q).1) ((g.member R).0 p);
           starts = λ R p. (g.member R).1 (inl (r.starts R p));
-          part = λ R p. (g.member R).1 (⊎_elim (λ q. inl (r.part R ((t.rest.member R).0 q).0)) (λ q. inr ((f.member R).0 q).0) ((u.member R).0 p));
-          follows = λ R S l p q e. (g.member S).1 (by R S l (ℕ_discrete (bit_at living R) 1) ((g.member R).0 p) q e);
+          part = λ R p. (g.member R).1
+              (⊎_elim (λ q. inl (r.part R ((t.rest.member R).0 q).0)) (λ q. inr ((f.member R).0 q).0) ((u.member R).0 p));
+          follows = λ R S l p q e. (g.member S).1 (by R S l (ℕ_discrete (bit_at generating R) 1) ((g.member R).0 p) q e);
         }
       where
-        by : (R S : ℕ) → S < role_width → Dec (bit_at living R ≡ 1) → Has living R ⊎ Has next R → (Has more R → ⊥) → m (base + flip R) (base + S) ≡ true → Has living S ⊎ Has next S
+        by : (R S : ℕ) → S < role_width → Dec (bit_at generating R ≡ 1) → Has generating R ⊎ Has next R → (Has more R → ⊥)
+            → m (base + flip R) (base + S) ≡ true → Has generating S ⊎ Has next S
         by R S l (yes p) o q e =
-            ⊎_elim (λ f. inr ((n.member S).1 (l, rw f at e))) (λ f. inl (r.follows R S l p f e)) (followed R (λ x. q ((u.member R).1 (inl x))))
+            ⊎_elim (λ f. inr ((n.member S).1 (l, rw f at e))) (λ f. inl (r.follows R S l p f e))
+            (followed R (λ x. q ((u.member R).1 (inl x))))
         by R S l (no np) o q e = absurd (q ((u.member R).1 (inr ((f.member R).1 (⊎_elim (λ p. absurd (np p)) (λ p. p) o, np)))))
 
 -- what a row of the order has beyond 64, of the inverse's concept
-pub next_is : (rows : List ConceptSet) (R r : ℕ) → r < 2 ^ 64 → IsLowered base (get_or rows (base + flip R) no_concepts).0 r → Next (concept_marks rows) R r
-next_is rows R r small o =
+pub child_roles : (rows : List ConceptSet) (R r : ℕ) → r < 2 ^ 64 → IsLowered base (get_or rows (base + flip R) no_concepts).0 r
+    → ChildRoles (concept_marks rows) R r
+child_roles rows R r small o =
     record {
       member = λ S.
           let f = has_fact (get_or rows (base + flip R) no_concepts).0 (base + S) in
@@ -127,11 +135,13 @@ next_is rows R r small o =
     }
 
 -- a turn that adds nothing leaves fewer to follow, and one that adds some a larger set
-pub less_waiting : (living waiting rest : ℕ) → rest < waiting → (2 ^ 64 - living) * 2 ^ 64 + rest < (2 ^ 64 - living) * 2 ^ 64 + waiting
-less_waiting living waiting rest h = omega arith
+pub less_waiting : (generating waiting rest : ℕ) → rest < waiting
+    → (2 ^ 64 - generating) * 2 ^ 64 + rest < (2 ^ 64 - generating) * 2 ^ 64 + waiting
+less_waiting generating waiting rest h = omega arith
 
-pub more_living : (living grown waiting more : ℕ) → living < grown → grown < 2 ^ 64 → more < 2 ^ 64 → (2 ^ 64 - grown) * 2 ^ 64 + more < (2 ^ 64 - living) * 2 ^ 64 + waiting
-more_living living grown waiting more h s l = omega arith
+pub more_generating : (generating grown waiting more : ℕ) → generating < grown → grown < 2 ^ 64 → more < 2 ^ 64
+    → (2 ^ 64 - grown) * 2 ^ 64 + more < (2 ^ 64 - generating) * 2 ^ 64 + waiting
+more_generating generating grown waiting more h s l = omega arith
 
 -- a union of the same number has nothing new; another one is more
 pub union_same : (m n r : ℕ) → IsUnion m n r → r ≡ m → (i : ℕ) → Has n i → Has m i

@@ -1,6 +1,6 @@
 -- What the public contract names.
 pub mod Concepts
-pub mod Living
+pub mod Generating
 pub mod Meant
 -- What the private ones name.
 pub mod Steps

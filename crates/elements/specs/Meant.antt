@@ -1,4 +1,4 @@
--- What the rows of the individuals and the living roles say of a collection (docs/RULES.md,
+-- What the rows of the individuals and the generating roles say of a collection (docs/RULES.md,
 -- section 5).
 use Rattle.std.specs.Prelude.{ℕ, ◌↔◌, IsTrue, Bool}
 use Rattle.kinds.specs.declared.Individual.{Individual}
@@ -12,7 +12,7 @@ use Rattle.meaning.specs.Model.{IndividualHas, Belongs, individuals, Element}
 use Rattle.meaning.specs.Clash.{Alive}
 use Rattle.orders.specs.Rows.{IsConceptOrder}
 use Rattle.elements.specs.Concepts.{Concepts}
-use Rattle.elements.specs.Living.{Lives, Living}
+use Rattle.elements.specs.Generating.{IsGenerating, AreGenerating}
 
 -- an order of the concepts and rows of the individuals, as the contracts leave them
 pub record AreOf (t : Tables) (order concepts : ℕ → ℕ → Bool) : Type 0 where
@@ -33,15 +33,15 @@ module _ (c : Counts) (t : Tables) where
       → (a : Individual) (B : Concept) → IndividualDeclared c a → ConceptDeclared c B
       → IsTrue (concepts a.0 (number_of B)) ↔ IndividualHas (collection c t) a B
 
-  -- a signed role lives in the rows exactly where it is alive in the canonical model
-  abbrev pub LivesMean : Type 0
-  LivesMean =
+  -- a signed role is generating in the rows exactly where it is alive in the canonical model
+  abbrev pub IsGeneratingMean : Type 0
+  IsGeneratingMean =
       (order concepts : ℕ → ℕ → Bool) → AreOf t order concepts
-      → (R : SignedRole) → Lives concepts order R.0 ↔ Alive (collection c t) R
+      → (R : SignedRole) → IsGenerating concepts order R.0 ↔ Alive (collection c t) R
 
-  -- the set of living roles has a declared role exactly where an unnamed element ends by it
-  abbrev pub LivingMean : Type 0
-  LivingMean =
+  -- the set of generating roles has a declared role exactly where an unnamed element ends by it
+  abbrev pub GeneratingMean : Type 0
+  GeneratingMean =
       (order concepts : ℕ → ℕ → Bool) → AreOf t order concepts
-      → (m : ℕ → Bool) → Living concepts order m
+      → (m : ℕ → Bool) → AreGenerating concepts order m
       → (R : SignedRole) → SignedDeclared c R → IsTrue (m R.0) ↔ EndsBy c t R

@@ -1,4 +1,4 @@
--- What the steps of `fill` do: one fact, a table of facts, the roles that sprout, and those that are
+-- What the steps of `fill` do: one fact, a table of facts, the seeds, and those that are
 -- reached from them.
 use Rattle.std.specs.Prelude.{ℕ, ◌+◌, ◌*◌, ◌/◌, ◌<◌, ◌≡◌, ◌↔◌, ◌⊎◌, IsTrue, Bool, List, length}
 use Rattle.kinds.specs.Kinds.{most_names, most_roles, most_individuals, base, flip}
@@ -44,21 +44,21 @@ pub record Gathers (h : ℕ) (m : ℕ → ℕ → Bool) (n : ℕ) : Type 0 where
   pub member : (j : ℕ) → Has n j ↔ ((i : ℕ) × (i < h) × IsTrue (m i j))
 
 -- the set n has the roles R where some individual has ∃R
-pub record Sprouted (concepts : ℕ → ℕ → Bool) (n : ℕ) : Type 0 where
+pub record AreSeeds (concepts : ℕ → ℕ → Bool) (n : ℕ) : Type 0 where
   pub member : (R : ℕ) → Has n R
       ↔ ((R < 2 * most_roles) × (a : ℕ) × (a < most_individuals) × IsTrue (concepts a (base + R)))
 
 -- R is in the set, or ∃S follows from what an element that ends by R has: ∃ of the inverse of R
-pub data Reached (sprouted : ℕ) (m : ℕ → ℕ → Bool) : ℕ → Type 0 where
-  sprouts : (R : ℕ) → Has sprouted R → Reached sprouted m R
-  grows : (R S : ℕ) → S < 2 * most_roles → Reached sprouted m R
-      → IsTrue (m (base + flip R) (base + S)) → Reached sprouted m S
+pub data Reached (seeds : ℕ) (m : ℕ → ℕ → Bool) : ℕ → Type 0 where
+  seed : (R : ℕ) → Has seeds R → Reached seeds m R
+  child : (R S : ℕ) → S < 2 * most_roles → Reached seeds m R
+      → IsTrue (m (base + flip R) (base + S)) → Reached seeds m S
 
 -- r has exactly these
-pub record IsReached (sprouted : ℕ) (m : ℕ → ℕ → Bool) (r : ℕ) : Type 0 where
-  pub member : (R : ℕ) → R < 2 * most_roles → Has r R ↔ Reached sprouted m R
+pub record IsReached (seeds : ℕ) (m : ℕ → ℕ → Bool) (r : ℕ) : Type 0 where
+  pub member : (R : ℕ) → R < 2 * most_roles → Has r R ↔ Reached seeds m R
 
 -- r has the roles S where ∃(inverse R) ≤ ∃S
-pub record Next (m : ℕ → ℕ → Bool) (R r : ℕ) : Type 0 where
+pub record ChildRoles (m : ℕ → ℕ → Bool) (R r : ℕ) : Type 0 where
   pub member : (S : ℕ) → Has r S
       ↔ ((S < 2 * most_roles) × IsTrue (m (base + flip R) (base + S)))

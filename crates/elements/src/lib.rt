@@ -4,10 +4,10 @@
 ghost use Rattle.sets.specs.Bits.{has};
 ghost use Rattle.sets.specs.Rows.{concept_marks};
 ghost use Rattle.elements.specs.Concepts.{Concepts};
-ghost use Rattle.elements.specs.Living.{Living};
+ghost use Rattle.elements.specs.Generating.{AreGenerating};
 
+mod generating;
 mod individuals;
-mod living;
 pub mod theorems;
 
 use kinds::Individual;
@@ -15,21 +15,21 @@ use orders::ConceptOrder;
 use sets::{ConceptSet, RoleSet};
 use tables::{ConceptFact, RoleFact, Table};
 
-/// The concepts of each individual, and the living roles: those by which some unnamed element ends.
+/// The concepts of each individual, and the generating roles: those by which some unnamed element ends.
 #[derive(Clone, Copy)]
 pub struct Elements {
     pub individuals: [ConceptSet; Individual::NUMBERS],
-    pub living: RoleSet,
+    pub generating: RoleSet,
 }
 
 impl Elements {
     pub const EMPTY: Elements = Elements {
         individuals: [ConceptSet::EMPTY; Individual::NUMBERS],
-        living: RoleSet::EMPTY,
+        generating: RoleSet::EMPTY,
     };
 
-    /// From the facts and the order of the concepts, whatever stood here before; a fact with a number that has no row is passed over.
-    #[tactic(auto, using(crate::proofs::ReachLaws::all_living))]
+    /// Both fields are written from the facts and the order of the concepts; a fact with a number out of range is passed over.
+    #[tactic(auto, using(crate::proofs::ReachLaws::all_generating))]
     pub fn fill(
         &mut self,
         concept_facts: Table<ConceptFact>,
@@ -38,10 +38,10 @@ impl Elements {
     )
         ensures individuals { Concepts concept_facts.entry.numbers.now role_facts.entry.numbers.now
             (concept_marks order.now.above) (concept_marks self.new.individuals) }
-        ensures living { Living (concept_marks self.new.individuals) (concept_marks order.now.above)
-            (has self.new.living.0) }
+        ensures generating { AreGenerating (concept_marks self.new.individuals) (concept_marks order.now.above)
+            (has self.new.generating.0) }
     {
         individuals::fill(&mut self.individuals, concept_facts, role_facts, order);
-        self.living = living::reached(living::sprouted(&self.individuals), order);
+        self.generating = generating::reached(generating::seeds(&self.individuals), order);
     }
 }

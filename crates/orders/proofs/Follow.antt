@@ -14,7 +14,7 @@ use Rattle.laws.specs.Gains.{Either}
 use Rattle.orders.specs.Rows.{role_rules, concept_rules, IsRoleOrder, IsConceptOrder}
 use Rattle.sets.specs.Rows.{Adds}
 use Rattle.sets.proofs.RowLaws.{adds_same, adds_then}
-use Rattle.orders.specs.Marks.{Shows, Pair, Listed, RoleListed, Turned, turn, Wide, IsPair, IsClosedOver}
+use Rattle.orders.specs.Marks.{Shows, Pair, Listed, RoleListed, WithInverses, turn, Wide, IsPair, IsClosedOver}
 use Rattle.sets.specs.Bits.{concept_width, role_width}
 use Rattle.orders.proofs.Table.{rule-in, rule-out}
 
@@ -26,30 +26,35 @@ unfolding inverse
 turn_below i h = omega arith
 
 -- a pair, and then the pair of the inverses
-pub adds_turned : (m s r : ℕ → ℕ → Bool) (R S R' S' : SignedRole) → Adds role_width role_width m (Pair R.0 S.0) s → Adds role_width role_width s (Pair R'.0 S'.0) r
-    → R' ≡ inverse R → S' ≡ inverse S → Adds role_width role_width m (Turned (Pair R.0 S.0)) r
-adds_turned m s r R S R' S' f g e e' =
+pub adds_with_inverses : (m s r : ℕ → ℕ → Bool) (R S R' S' : SignedRole) → Adds role_width role_width m (Pair R.0 S.0) s
+    → Adds role_width role_width s (Pair R'.0 S'.0) r
+    → R' ≡ inverse R → S' ≡ inverse S → Adds role_width role_width m (WithInverses (Pair R.0 S.0)) r
+adds_with_inverses m s r R S R' S' f g e e' =
     let a : R'.0 ≡ turn R.0 = ap (λ (R : SignedRole). R.0) e in
     let b : S'.0 ≡ turn S.0 = ap (λ (R : SignedRole). R.0) e' in
-    adds_same role_width role_width m (Either (Pair R.0 S.0) (Pair R'.0 S'.0)) (Turned (Pair R.0 S.0)) r
+    adds_same role_width role_width m (Either (Pair R.0 S.0) (Pair R'.0 S'.0)) (WithInverses (Pair R.0 S.0)) r
     (adds_then role_width role_width m (Pair R.0 S.0) (Pair R'.0 S'.0) s r f g)
     (λ i j hi hj. ⊎_elim (λ p. inl p) (λ p. inr (ap turn (p.0 ∙ a) ∙ turn-turn R.0, ap turn (p.1 ∙ b) ∙ turn-turn S.0)))
     (λ i j hi hj. ⊎_elim (λ p. inl p) (λ p. inr (sym (turn-turn i) ∙ ap turn p.0 ∙ sym a, sym (turn-turn j) ∙ ap turn p.1 ∙ sym b)))
 
 -- an order F of numbered things, and a matrix whose pairs below n follow and lead to all that follows
-module _ {A : Type 0} (of : ℕ → A) (number : A → ℕ) (back : (i : ℕ) → number (of i) ≡ i) (n : ℕ) (F : A → A → Type 0) (m r : ℕ → ℕ → Bool) where
+module _ {A : Type 0} (of : ℕ → A) (number : A → ℕ) (back : (i : ℕ) → number (of i) ≡ i) (n : ℕ) (F : A → A → Type 0)
+    (m r : ℕ → ℕ → Bool) where
   closed : ((a : A) → F a a) → ((a b c : A) → F a b → F b c → F a c) → ((i j : ℕ) → MarkedPair n m i j → F (of i) (of j))
       → ((a b : A) → F a b → Star (MarkedPair n m) (number a) (number b)) → Closes n m r
       → (i j : ℕ) → i < n → j < n → IsTrue (r i j) ↔ F (of i) (of j)
-  closed self next sound whole c i j hi hj =
-      (λ p. smallest {P = λ i j. F (of i) (of j)} (λ i. self (of i)) sound (λ i j k. next (of i) (of j) (of k)) (c.only i j hi hj p), λ p. c.each i j hi hj (subst₂ (λ (x y : ℕ). Star (MarkedPair n m) x y) (back i) (back j) (whole _ _ p)))
+  closed self next sound whole c i j hi hj = (
+    λ p. smallest {P = λ i j. F (of i) (of j)} (λ i. self (of i)) sound (λ i j k. next (of i) (of j) (of k)) (c.only i j hi hj p),
+    λ p. c.each i j hi hj (subst₂ (λ (x y : ℕ). Star (MarkedPair n m) x y) (back i) (back j) (whole _ _ p)),
+  )
 
 module _ (t : List ℕ) where
   role-in : {i j : ℕ} → i < role_width → j < role_width → Listed t i j → RoleFollows (role_rules t) (signed i) (signed j)
   unfolding role_rules
   role-in hi hj p = rule (rule-in signed (λ R. R.0) role_width (λ i. refl) t hi hj p)
 
-  role-out : {R S : SignedRole} → Memᴰ {A = SignedRole × SignedRole} (R, S) (role_rules t) → (R.0 < role_width) × (S.0 < role_width) × Listed t R.0 S.0
+  role-out : {R S : SignedRole} → Memᴰ {A = SignedRole × SignedRole} (R, S) (role_rules t)
+      → (R.0 < role_width) × (S.0 < role_width) × Listed t R.0 S.0
   unfolding role_rules
   role-out h = rule-out signed (λ R. R.0) role_width (λ i. refl) t h
 
@@ -92,7 +97,10 @@ module _ (t : List ℕ) where
 
     pub role-closed : (r : ℕ → ℕ → Bool) → Closes role_width m r → IsRoleOrder t r
     role-closed r c =
-        record { at = closed signed (λ R. R.0) (λ i. refl) role_width (RoleFollows (role_rules t)) m r (λ R. same) (λ R S U. then) role-sound (λ R S. role-whole) c }
+        record {
+          at = closed signed (λ R. R.0) (λ i. refl) role_width (RoleFollows (role_rules t)) m r (λ R. same)
+              (λ R S U. then) role-sound (λ R S. role-whole) c;
+        }
 
 module _ (t roles : List ℕ) (from : ℕ → ℕ → Bool) (o : IsRoleOrder roles from) (m : ℕ → ℕ → Bool)
     (e : Shows concept_width m (Either (Wide from) (Listed t))) where
@@ -100,7 +108,8 @@ module _ (t roles : List ℕ) (from : ℕ → ℕ → Bool) (o : IsRoleOrder rol
   unfolding concept_of
   exists-of i h = rw (le-ltb i base h)
 
-  concept-sound : (i j : ℕ) → MarkedPair concept_width m i j → ConceptFollows (concept_rules t) (role_rules roles) (concept_of i) (concept_of j)
+  concept-sound : (i j : ℕ) → MarkedPair concept_width m i j
+      → ConceptFollows (concept_rules t) (role_rules roles) (concept_of i) (concept_of j)
   unfolding concept_rules
   concept-sound i j d =
       let hi = d.row in
@@ -119,10 +128,12 @@ module _ (t roles : List ℕ) (from : ℕ → ℕ → Bool) (o : IsRoleOrder rol
       let hS = w.1 in
       let a : base + R.0 - base ≡ R.0 = omega arith in
       let b : base + S.0 - base ≡ S.0 = omega arith in
-      edge (concept-edge (base + R.0) (base + S.0) (omega arith) (omega arith) (inl (omega arith, omega arith, rw (a, b) ((o.at R.0 S.0 hR hS).1 l)))))
+      edge (concept-edge (base + R.0) (base + S.0) (omega arith) (omega arith)
+      (inl (omega arith, omega arith, rw (a, b) ((o.at R.0 S.0 hR hS).1 l)))))
       (role-within roles l)
 
-  concept-whole : {C D : Concept} → ConceptFollows (concept_rules t) (role_rules roles) C D → Star (MarkedPair concept_width m) (number_of C) (number_of D)
+  concept-whole : {C D : Concept} → ConceptFollows (concept_rules t) (role_rules roles) C D
+      → Star (MarkedPair concept_width m) (number_of C) (number_of D)
   unfolding concept_rules number_of
   concept-whole same = here
   concept-whole (then l n) = warshall.then (concept-whole l) (concept-whole n)
@@ -134,11 +145,13 @@ module _ (t roles : List ℕ) (from : ℕ → ℕ → Bool) (o : IsRoleOrder rol
   pub concept-closed : (r : ℕ → ℕ → Bool) → Closes concept_width m r → IsConceptOrder t roles r
   concept-closed r c =
       record {
-        at = closed concept_of number_of number-concept concept_width (ConceptFollows (concept_rules t) (role_rules roles)) m r (λ C. same) (λ C D E. then) concept-sound (λ C D. concept-whole) c;
+        at = closed concept_of number_of number-concept concept_width (ConceptFollows (concept_rules t) (role_rules roles)) m r
+            (λ C. same) (λ C D E. then) concept-sound (λ C D. concept-whole) c;
       }
 
 -- THEOREM: closing the pairs that a table lists and marks of roles widen marks what follows from them, whatever the roles' order is
-module _ (rules : List ℕ) (roles m r : ℕ → ℕ → Bool) (e : Shows concept_width m (Either (Wide roles) (Listed rules))) (c : Closes concept_width m r) where
+module _ (rules : List ℕ) (roles m r : ℕ → ℕ → Bool) (e : Shows concept_width m (Either (Wide roles) (Listed rules)))
+    (c : Closes concept_width m r) where
   pub closed-over : IsClosedOver rules roles r
   closed-over = record {
     at =
@@ -148,4 +161,5 @@ module _ (rules : List ℕ) (roles m r : ℕ → ℕ → Bool) (e : Shows concep
     where
       whole : (a b : ℕ) → Star (IsPair rules roles) a b → Star (MarkedPair concept_width m) a b
       whole a b =
-          smallest (λ a. here) (λ a b p. edge (record { row = p.row; col = p.col; mark = (e.at a b p.row p.col).1 p.pair })) (λ a b c p q. warshall.then p q)
+          smallest (λ a. here) (λ a b p. edge (record { row = p.row; col = p.col; mark = (e.at a b p.row p.col).1 p.pair }))
+          (λ a b c p q. warshall.then p q)

@@ -4,6 +4,7 @@ pub mod Listing
 pub mod Table
 pub mod Close
 pub mod Follow
+pub mod SideLaws
 pub mod RowLaws
 -- What callers use: what the marks mean, and that they are one.
 pub mod Mean

@@ -16,7 +16,8 @@ module _ (h w width : ℕ) (E : ℕ → ℕ → ℕ → Type 0) (numbers : Bor (
   pub listing_start : (table : Bor (List ℕ)) → table ≡ numbers → Listing table 0 m
   listing_start table e = record { same = e; within = omega arith; adds = adds_none h w m E }
 
-  pub listing_more : {A : Type 0} (read : List ℕ → ℕ → A) (table after : Bor (List ℕ)) (k next : ℕ) (one : A) (s r : ℕ → ℕ → Bool) → Listing table k s
+  pub listing_more : {A : Type 0} (read : List ℕ → ℕ → A) (table after : Bor (List ℕ)) (k next : ℕ) (one : A) (s r : ℕ → ℕ → Bool)
+      → Listing table k s
       → IsNext width read table.now k one next → after ≡ table → Adds h w s (E k) r → Listing after next r
   listing_more read table after k next one s r l g e a =
       let i = rw l.same at g.inside in

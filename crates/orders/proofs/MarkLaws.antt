@@ -21,7 +21,8 @@ module _ (n : ℕ) (m : ℕ → ℕ → Bool) where
   adds_shows E F r s a =
       record {
         at = λ i j hi hj.
-            same_test (a.at i j hi hj) (⊎_elim (λ p. inl ((s.at i j hi hj).0 p)) (λ p. inr p)) (⊎_elim (λ p. inl ((s.at i j hi hj).1 p)) (λ p. inr p));
+            same_test (a.at i j hi hj) (⊎_elim (λ p. inl ((s.at i j hi hj).0 p)) (λ p. inr p))
+            (⊎_elim (λ p. inl ((s.at i j hi hj).1 p)) (λ p. inr p));
       }
 
 -- no mark
@@ -29,18 +30,26 @@ abbrev pub blank : ℕ → List (List Bool)
 blank n = replicate n (replicate n false)
 
 pub blank_shows : (n : ℕ) (E : ℕ → ℕ → Type 0) (r : List (List Bool)) → Adds n n (mark (blank n)) E (mark r) → Shows n (mark r) E
-blank_shows n E r a = record { at = λ i j hi hj. same_test (a.at i j hi hj) (⊎_elim (λ p. absurd (false≢true (sym (off i j hi hj) ∙ p))) (λ p. p)) (λ p. inr p) }
+blank_shows n E r a = record {
+  at = λ i j hi hj. same_test (a.at i j hi hj)
+      (⊎_elim (λ p. absurd (false≢true (sym (off i j hi hj) ∙ p))) (λ p. p)) (λ p. inr p);
+}
   where
     off : (i j : ℕ) → i < n → j < n → mark (blank n) i j ≡ false
     off i j hi hj = rw (get_or-replicate n i (replicate n false) [] hi) (get_or-replicate n j false false hj)
 
 -- an owned array of row arrays is square; a proof reads what it owns off `c.well_formed`
-pub square : (n : ℕ) (m : List (List Bool)) (us : List Val) → length m ≡ n → shadow (each (List Bool) (Array Boolean n).own_val m us) → Square n m
+pub square : (n : ℕ) (m : List (List Bool)) (us : List Val) → length m ≡ n → shadow (each (List Bool) (Array Boolean n).own_val m us)
+    → Square n m
 square n m us l p = record { rows = l; cols = λ i h. rows_long Boolean n m us p i (omega arith) }
 
 pub square_blank : (n : ℕ) → Square n (blank n)
 square_blank n =
-    record { rows = length-replicate n (replicate n false); cols = λ i h. rw (get_or-replicate n i (replicate n false) [] h) (length-replicate n false) }
+    record {
+      rows = length-replicate n (replicate n false);
+      cols = λ i h. rw (get_or-replicate n i (replicate n false) [] h)
+          (length-replicate n false);
+    }
 
 -- a row of n stored
 pub square_set : (n : ℕ) (m : List (List Bool)) (a : ℕ) (v : List Bool) → Square n m → a < n → length v ≡ n → Square n (set m a v)
@@ -68,8 +77,10 @@ module _ (n : ℕ) (m : List (List Bool)) (a b : ℕ) (s : Square n m) (ha : a <
       wide = omega (arith, s.cols a ha)
 
       by : (i j : ℕ) → Dec (i ≡ a) → Dec (j ≡ b) → IsTrue (mark (set m a row) i j) ↔ (IsTrue (mark m i j) ⊎ Pair a b i j)
-      by i j (yes e) (yes f) = rw (e, f, get_or-set_same m a row [] long, get_or-set_same (get_or m a []) b true false wide) (λ p. inr (refl, refl), λ p. refl)
-      by i j (yes e) (no g) = rw (e, get_or-set_same m a row [] long, get_or-set_other (get_or m a []) b j true false g) (λ p. inl p, ⊎_elim (λ p. p) (λ p. absurd (g p.1)))
+      by i j (yes e) (yes f) = rw (e, f, get_or-set_same m a row [] long, get_or-set_same (get_or m a []) b true false wide)
+          (λ p. inr (refl, refl), λ p. refl)
+      by i j (yes e) (no g) = rw (e, get_or-set_same m a row [] long, get_or-set_other (get_or m a []) b j true false g)
+          (λ p. inl p, ⊎_elim (λ p. p) (λ p. absurd (g p.1)))
       by i j (no g) d = rw (get_or-set_other m a i row [] g) (λ p. inl p, ⊎_elim (λ p. p) (λ p. absurd (g p.0)))
 
 pub ruleset marks = (store_square, store_adds)

@@ -26,7 +26,8 @@ module _ (c : Counts) (t : Tables) (fit : CountsFit c) (ok : NumbersDeclared (co
   pub all-role-rules : role_rules t.role-rules ≡ records rule_width role_pair t.role-rules
   unfolding role_rules
   all-role-rules =
-      rules-all signed (λ R. R.0) (2 * most_roles) t.role-rules (λ r m. let d = ok.role-rules r m in (role-below r.0 d.0, role-below r.1 d.1))
+      rules-all signed (λ R. R.0) (2 * most_roles) t.role-rules
+      (λ r m. let d = ok.role-rules r m in (role-below r.0 d.0, role-below r.1 d.1))
 
   pub all-concept-rules : concept_rules t.concept-rules ≡ records rule_width concept_pair t.concept-rules
   unfolding concept_rules
@@ -39,7 +40,8 @@ module _ (c : Counts) (t : Tables) (fit : CountsFit c) (ok : NumbersDeclared (co
       → IsTrue (m R.0 S.0) ↔ RoleLe (collection c t) R S
   role-marks-mean o R S hR hS = rw all-role-rules at (o.at R.0 S.0 (role-below R hR) (role-below S hS))
 
-  pub concept-marks-mean : {m : ℕ → ℕ → Bool} → IsConceptOrder t.concept-rules t.role-rules m → (C D : Concept) → ConceptDeclared c C → ConceptDeclared c D
+  pub concept-marks-mean : {m : ℕ → ℕ → Bool} → IsConceptOrder t.concept-rules t.role-rules m → (C D : Concept) → ConceptDeclared c C
+      → ConceptDeclared c D
       → IsTrue (m (number_of C) (number_of D)) ↔ ConceptLe (collection c t) C D
   concept-marks-mean o C D hC hD =
       rw (all-concept-rules, all-role-rules, concept-number c fit.names C hC, concept-number c fit.names D hD)

@@ -1,5 +1,6 @@
--- Rows of sets as relations: a member put into a row, a row joined with another, one step of closing, turning round and packing.
-use Rattle.std.specs.Prelude.{ℕ, ◌≡◌, ◌≢◌, refl, ◌+◌, ◌-◌, ◌≤◌, ◌<◌, ◌↔◌, ◌⊎◌, ◌||◌, ◌&&◌, IsTrue, List, [], Bool, true, false, length, get_or, set, replicate}
+-- Rows of sets as relations: a member put into a row, a row joined with another, one step of closing, transposing and packing.
+use Rattle.std.specs.Prelude.{ℕ, ◌≡◌, ◌≢◌, refl, ◌+◌, ◌-◌, ◌≤◌, ◌<◌, ◌↔◌, ◌⊎◌, ◌||◌, ◌&&◌, IsTrue, List, [], Bool, true, false, length}
+use Rattle.std.specs.Prelude.{get_or, set, replicate}
 use Rattle.std.proofs.Common.{sym, ◌∙◌, inl, inr, ⊎_elim, arith, rules, below_more, length-set, get_or-set_same, get_or-set_other}
 use Rattle.std.proofs.Math.Decide.{ℕ_discrete}
 use Rattle.std.proofs.lemmas.Nat.Bits.{bit_at-zero}
@@ -13,7 +14,7 @@ use Rattle.sets.specs.Bits.{has, Has, Inserts, InsertsIf, IsUnion, IsRaised, Tak
 use Rattle.sets.specs.Rows.{Adds, concept_marks, role_marks, no_concepts, no_roles}
 use Rattle.sets.specs.declared.concepts.ConceptSet.{ConceptSet}
 use Rattle.sets.specs.declared.roles.RoleSet.{RoleSet}
-use Rattle.orders.specs.Rows.{IsRoleOrder, IsTurned}
+use Rattle.orders.specs.Rows.{IsRoleOrder, IsTransposed}
 use Rattle.orders.specs.Marks.{Pair, Diagonal, Shows, Wide, Packs, PacksRows}
 use Rattle.sets.proofs.RowLaws.{same_test, has_fact}
 
@@ -27,7 +28,8 @@ none = no_concepts
 -- ---- what a change adds
 
 -- a member put into row a
-pub stored : (rows : List ConceptSet) (a b : ℕ) (x : ConceptSet) → a < length rows → b < concept_width → Inserts concept_width (get_or rows a none).0 b x.0
+pub stored : (rows : List ConceptSet) (a b : ℕ) (x : ConceptSet) → a < length rows → b < concept_width
+    → Inserts concept_width (get_or rows a none).0 b x.0
     → Adds concept_width concept_width (concept_marks rows) (Pair a b) (concept_marks (set rows a x))
 stored rows a b x h l s = record { at = λ i j hi hj. by i j (ℕ_discrete i a) }
   where
@@ -36,8 +38,11 @@ stored rows a b x h l s = record { at = λ i j hi hj. by i j (ℕ_discrete i a) 
         rw (e, get_or-set_same rows a x none h)
         (let u = s.member j in
         let v = has_fact (get_or rows a none).0 j in
-        let y = has_fact x.0 j in
-        (λ p. ⊎_elim (λ q. inl (v.1 q)) (λ q. inr (refl, q.0)) (u.0 (y.0 p)), λ p. y.1 (u.1 (⊎_elim (λ q. inl (v.0 q)) (λ q. inr (q.1, l)) p))))
+        let y = has_fact x.0 j in (
+          λ p. ⊎_elim (λ q. inl (v.1 q)) (λ q. inr (refl, q.0)) (u.0 (y.0 p)),
+          λ p. y.1
+              (u.1 (⊎_elim (λ q. inl (v.0 q)) (λ q. inr (q.1, l)) p)),
+        ))
     by i j (no ne) = rw (get_or-set_other rows a i x none ne) ((λ p. inl p, ⊎_elim (λ p. p) (λ q. absurd (ne q.0))))
 
 -- ---- a step of closing
@@ -47,8 +52,8 @@ pub record Row (m : List ConceptSet) (k i : ℕ) (x : ConceptSet) : Type 0 where
   pub at : (j : ℕ) → has x.0 j ≡ (concept_marks m i j || (concept_marks m i k && concept_marks m k j))
 
 -- the rows below i have gone through k, and those from i on are as they were
-abbrev pub Going : List ConceptSet → ℕ → List ConceptSet → ℕ → Type 0
-Going m k now i = Filling (Row m k) none concept_width m now i
+abbrev pub SteppingRows : List ConceptSet → ℕ → List ConceptSet → ℕ → Type 0
+SteppingRows m k now i = Filling (Row m k) none concept_width m now i
 
 or-false : (b : Bool) → (b || false) ≡ b
 or-false true = refl
@@ -63,20 +68,22 @@ united a b r j u = by (has r j) (has a j) (has b j) (has_fact r j) (has_fact a j
     by true false false f g h u = ⊎_elim (λ q. sym (g.1 q)) (λ q. sym (h.1 q)) (u.0 (f.0 refl))
     by false false false f g h u = refl
 
-module _ (m now : List ConceptSet) (k i : ℕ) (s : Going m k now i) (h : i < concept_width) where
+module _ (m now : List ConceptSet) (k i : ℕ) (s : SteppingRows m k now i) (h : i < concept_width) where
   -- where the row marks k, the row of k is put into it
-  pub joined : (x : ConceptSet) → has (get_or now i none).0 k ≡ true → IsUnion (get_or now i none).0 (get_or m k none).0 x.0 → Going m k (set now i x) (i + 1)
+  pub joined : (x : ConceptSet) → has (get_or now i none).0 k ≡ true → IsUnion (get_or now i none).0 (get_or m k none).0 x.0
+      → SteppingRows m k (set now i x) (i + 1)
   joined x t u =
       one_more (Row m k) none concept_width m now i x s h (λ q. record {
         at = λ j. united (get_or now i none).0 (get_or m k none).0 x.0 j u ∙ rw q (by (concept_marks m i k) j (let e = rw q at t in e));
       })
     where
-      by : (b : Bool) (j : ℕ) → b ≡ true → (concept_marks m i j || concept_marks m k j) ≡ (concept_marks m i j || (b && concept_marks m k j))
+      by : (b : Bool) (j : ℕ) → b ≡ true
+          → (concept_marks m i j || concept_marks m k j) ≡ (concept_marks m i j || (b && concept_marks m k j))
       by true j e = refl
       by false j e = cc
 
   -- and where it does not, it stays
-  pub left : has (get_or now i none).0 k ≡ false → Going m k now (i + 1)
+  pub left : has (get_or now i none).0 k ≡ false → SteppingRows m k now (i + 1)
   left t =
       record {
         within = omega arith;
@@ -90,24 +97,28 @@ module _ (m now : List ConceptSet) (k i : ℕ) (s : Going m k now i) (h : i < co
       by true j e = cc
       by false j e = sym (or-false (concept_marks m i j))
 
-pub gone : (m now : List ConceptSet) (k i : ℕ) → Going m k now i → concept_width ≤ i → Stepped concept_width (concept_marks m) k (concept_marks now)
+pub gone : (m now : List ConceptSet) (k i : ℕ) → SteppingRows m k now i → concept_width ≤ i
+    → Stepped concept_width (concept_marks m) k (concept_marks now)
 gone m now k i s h = λ a b ha hb. (all_done (Row m k) none concept_width m now i s h a ha).at b
 
 -- ---- closing
 
 pub closing_start : (m₀ m : ℕ → ℕ → Bool) → Adds concept_width concept_width m₀ Diagonal m → Done concept_width m₀ m 0
 closing_start m₀ m a =
-    none_done concept_width m₀ m (λ i j hi hj. (a.at i j hi hj).0) (λ i j hi hj p. (a.at i j hi hj).1 (inl p)) (λ i hi. (a.at i i hi hi).1 (inr refl))
+    none_done concept_width m₀ m (λ i j hi hj. (a.at i j hi hj).0) (λ i j hi hj p. (a.at i j hi hj).1 (inl p))
+    (λ i hi. (a.at i i hi hi).1 (inr refl))
 
-pub closing_more : (m₀ m r : ℕ → ℕ → Bool) (k : ℕ) → Done concept_width m₀ m k → k < concept_width → Stepped concept_width m k r → Done concept_width m₀ r (k + 1)
+pub closing_more : (m₀ m r : ℕ → ℕ → Bool) (k : ℕ) → Done concept_width m₀ m k → k < concept_width → Stepped concept_width m k r
+    → Done concept_width m₀ r (k + 1)
 closing_more m₀ m r k d h s = step-done concept_width m₀ m r k h d s
 
-pub closing_end : (m₀ m : ℕ → ℕ → Bool) (k : ℕ) → Done concept_width m₀ m k → concept_width ≤ k → k ≤ concept_width → Closes concept_width m₀ m
+pub closing_end : (m₀ m : ℕ → ℕ → Bool) (k : ℕ) → Done concept_width m₀ m k → concept_width ≤ k → k ≤ concept_width
+    → Closes concept_width m₀ m
 closing_end m₀ m k d l h = closes concept_width m₀ m k l h d
 
--- ---- turning round
+-- ---- transposing
 
--- the rows below i are turned round
+-- the rows below i are transposed
 pub record Below (rows out : List ConceptSet) (i : ℕ) : Type 0 where
   pub long : length out ≡ concept_width
   pub at : (j k : ℕ) → j < concept_width → k < concept_width → IsTrue (concept_marks out j k) ↔ ((k < i) × (concept_marks rows k j ≡ true))
@@ -116,7 +127,8 @@ pub record Below (rows out : List ConceptSet) (i : ℕ) : Type 0 where
 pub record Partly (rows out : List ConceptSet) (i n : ℕ) : Type 0 where
   pub long : length out ≡ concept_width
   pub at : (j k : ℕ) → j < concept_width → k < concept_width
-      → IsTrue (concept_marks out j k) ↔ (((k < i) × (concept_marks rows k j ≡ true)) ⊎ ((k ≡ i) × (concept_marks rows i j ≡ true) × (Has n j → ⊥)))
+      → IsTrue (concept_marks out j k) ↔
+      (((k < i) × (concept_marks rows k j ≡ true)) ⊎ ((k ≡ i) × (concept_marks rows i j ≡ true) × (Has n j → ⊥)))
   pub left : (j : ℕ) → Has n j → concept_marks rows i j ≡ true
 
 module _ (rows out : List ConceptSet) (i : ℕ) where
@@ -130,7 +142,8 @@ module _ (rows out : List ConceptSet) (i : ℕ) where
         left = λ j p. (has_fact (get_or rows i none).0 j).1 (rw e at p);
       }
 
-  pub partly_more : (n r d : ℕ) (x : ConceptSet) → Partly rows out i n → TakesFirst concept_width n d r → i < concept_width → Inserts concept_width (get_or out d none).0 i x.0 → Partly rows (set out d x) i r
+  pub partly_more : (n r d : ℕ) (x : ConceptSet) → Partly rows out i n → TakesFirst concept_width n d r → i < concept_width
+      → Inserts concept_width (get_or out d none).0 i x.0 → Partly rows (set out d x) i r
   partly_more n r d x b t hi s =
       let l = t.within in
       let g = b.long in
@@ -175,7 +188,8 @@ below_start rows =
           (let z = bit_at-zero k in (λ p. let q = (has_fact 0 k).0 p in absurd (omega arith), λ p. let l = p.0 in absurd (omega arith)));
     }
 
-pub below_end : (rows out : List ConceptSet) (i : ℕ) → Below rows out i → concept_width ≤ i → IsTurned concept_width (concept_marks rows) (concept_marks out)
+pub below_end : (rows out : List ConceptSet) (i : ℕ) → Below rows out i → concept_width ≤ i
+    → IsTransposed concept_width (concept_marks rows) (concept_marks out)
 below_end rows out i b h = record { at = λ j k hj hk. same (concept_marks out j k) (concept_marks rows k j) (b.at j k hj hk) (omega arith) }
   where
     same : (x y : Bool) {k : ℕ} → IsTrue x ↔ ((k < i) × (y ≡ true)) → k < i → x ≡ y
@@ -209,7 +223,8 @@ module _ (roles : List RoleSet) where
       row : ℕ
       row = (get_or roles (i - base) (no_roles)).0
 
-      by : (a j : ℕ) → a < concept_width → j < concept_width → Dec (a ≡ i) → IsTrue (concept_marks (set out i x) a j) ↔ ((a < i + 1) × Wide (role_marks roles) a j)
+      by : (a j : ℕ) → a < concept_width → j < concept_width → Dec (a ≡ i)
+          → IsTrue (concept_marks (set out i x) a j) ↔ ((a < i + 1) × Wide (role_marks roles) a j)
       by a j ha hj (yes e) =
           rw (e, get_or-set_same out i x none (let g = w.long in omega arith))
           (let m = r.member j in
@@ -220,7 +235,8 @@ module _ (roles : List RoleSet) where
           rw (get_or-set_other out i a x none ne)
           (same_test (w.at a j ha hj) (λ p. (let k = p.0 in omega arith, p.1)) (λ p. (let k = p.0 in omega arith, p.1)))
 
-  pub widened_end : (out : List ConceptSet) (i : ℕ) → Widened roles out i → concept_width ≤ i → Shows concept_width (concept_marks out) (Wide (role_marks roles))
+  pub widened_end : (out : List ConceptSet) (i : ℕ) → Widened roles out i → concept_width ≤ i
+      → Shows concept_width (concept_marks out) (Wide (role_marks roles))
   widened_end out i w h = record { at = λ a j ha hj. same_test (w.at a j ha hj) (λ p. p.1) (λ p. (omega arith, p)) }
 
 -- ---- packing
@@ -231,9 +247,13 @@ pub record Packing (row : List Bool) (n i : ℕ) : Type 0 where
 
 module _ (row : List Bool) where
   pub packing_start : Packing row 0 0
-  packing_start = record { at = λ j. let z = bit_at-zero j in (λ p. let q = (has_fact 0 j).0 p in absurd (omega arith), λ p. let l = p.0 in absurd (omega arith)) }
+  packing_start = record {
+    at = λ j. let z = bit_at-zero j in
+        (λ p. let q = (has_fact 0 j).0 p in absurd (omega arith), λ p. let l = p.0 in absurd (omega arith));
+  }
 
-  pub packing_more : (n i r : ℕ) (on : Bool) → Packing row n i → on ≡ get_or row i false → i < role_width → InsertsIf role_width n i on r → Packing row r (i + 1)
+  pub packing_more : (n i r : ℕ) (on : Bool) → Packing row n i → on ≡ get_or row i false → i < role_width → InsertsIf role_width n i on r
+      → Packing row r (i + 1)
   packing_more n i r on w t hi s =
       record {
         at = λ j.
@@ -268,7 +288,8 @@ module _ (m : List (List Bool)) where
   pub packed_start : PackedBelow m (replicate role_width (no_roles)) 0
   packed_start = record { long = length-replicate {A = RoleSet} role_width (no_roles); at = λ a j h. absurd (omega arith) }
 
-  pub packed_more : (out : List RoleSet) (i : ℕ) (x : RoleSet) → PackedBelow m out i → i < role_width → Packs (get_or m i []) x.0 → PackedBelow m (set out i x) (i + 1)
+  pub packed_more : (out : List RoleSet) (i : ℕ) (x : RoleSet) → PackedBelow m out i → i < role_width → Packs (get_or m i []) x.0
+      → PackedBelow m (set out i x) (i + 1)
   packed_more out i x w h p = record { long = length-set out i x ∙ w.long; at = λ a j ha hj. by a j ha hj (ℕ_discrete a i) }
     where
       by : (a j : ℕ) → a < i + 1 → j < role_width → Dec (a ≡ i) → role_marks (set out i x) a j ≡ mark m a j
@@ -278,5 +299,6 @@ module _ (m : List (List Bool)) where
   pub packed_end : (out : List RoleSet) (i : ℕ) → PackedBelow m out i → role_width ≤ i → PacksRows m out
   packed_end out i w h = record { at = λ a j ha hj. w.at a j (omega arith) hj }
 
-pub packed_order : (rules : List ℕ) (m : List (List Bool)) (out : List RoleSet) → IsRoleOrder rules (mark m) → PacksRows m out → IsRoleOrder rules (role_marks out)
+pub packed_order : (rules : List ℕ) (m : List (List Bool)) (out : List RoleSet) → IsRoleOrder rules (mark m) → PacksRows m out
+    → IsRoleOrder rules (role_marks out)
 packed_order rules m out o p = record { at = λ i j hi hj. rw (p.at i j hi hj) (o.at i j hi hj) }

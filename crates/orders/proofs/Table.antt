@@ -36,7 +36,8 @@ module _ {A : Type 0} (of : ℕ → A) (number : A → ℕ) (n : ℕ) where
   rules_of t = select (records rule_width pair_of t) fits_of
 
   -- where every rule has its row, none is passed over
-  pub rules-all : (t : List ℕ) → ((r : A × A) → r ∈ records rule_width pair_of t → (number r.0 < n) × (number r.1 < n)) → rules_of t ≡ records rule_width pair_of t
+  pub rules-all : (t : List ℕ) → ((r : A × A) → r ∈ records rule_width pair_of t → (number r.0 < n) × (number r.1 < n))
+      → rules_of t ≡ records rule_width pair_of t
   rules-all t h =
       select-all (records rule_width pair_of t) fits_of (λ r m.
       let w = h r m in

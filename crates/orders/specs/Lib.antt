@@ -3,3 +3,4 @@ pub mod Rows
 pub mod Meant
 -- What the private ones name.
 pub mod Marks
+pub mod Sides

@@ -31,12 +31,12 @@ abbrev pub turn : ℕ → ℕ
 turn i = (inverse (signed i)).0
 
 -- the pairs of a relation, and those whose inverses it holds
-abbrev pub Turned : (ℕ → ℕ → Type 0) → ℕ → ℕ → Type 0
-Turned E i j = E i j ⊎ E (turn i) (turn j)
+abbrev pub WithInverses : (ℕ → ℕ → Type 0) → ℕ → ℕ → Type 0
+WithInverses E i j = E i j ⊎ E (turn i) (turn j)
 
 -- the two numbers of rule k or of its inverse; those of any rule
 abbrev pub RoleHit : List ℕ → ℕ → ℕ → ℕ → Type 0
-RoleHit t k = Turned (Hit t k)
+RoleHit t k = WithInverses (Hit t k)
 
 abbrev pub RoleListed : List ℕ → ℕ → ℕ → Type 0
 RoleListed t = OneOf (RoleHit t) (length t / rule_width)

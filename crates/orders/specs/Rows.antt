@@ -36,5 +36,5 @@ pub record IsConceptOrder (rules roles : List ℕ) (m : ℕ → ℕ → Bool) : 
       ↔ ConceptFollows (concept_rules rules) (role_rules roles) (concept_of i) (concept_of j)
 
 -- r relates j to i where m relates i to j
-pub record IsTurned (n : ℕ) (m r : ℕ → ℕ → Bool) : Type 0 where
+pub record IsTransposed (n : ℕ) (m r : ℕ → ℕ → Bool) : Type 0 where
   pub at : (i j : ℕ) → i < n → j < n → r i j ≡ m j i

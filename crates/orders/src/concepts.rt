@@ -1,11 +1,11 @@
-// C ≤ D, as rows of sets of concepts, closed in place over the closed order of the roles.
+// C ≤ D: for each basic concept the set of those above it, closed in place over the closed order of the roles.
 
 ghost use Rattle.std.specs.Prelude.{ℕ, List, ◌<◌, ◌≡◌, slice_index_or};
 ghost use Rattle.kinds.specs.Kinds.{number_of};
 ghost use Rattle.laws.specs.Warshall.{Stepped, Closes};
 ghost use Rattle.sets.specs.Bits.{concept_width};
 ghost use Rattle.sets.specs.Rows.{Adds, concept_marks, role_marks, no_concepts};
-ghost use Rattle.orders.specs.Rows.{IsRoleOrder, IsConceptOrder, IsTurned};
+ghost use Rattle.orders.specs.Rows.{IsRoleOrder, IsConceptOrder, IsTransposed};
 ghost use Rattle.orders.specs.Marks.{Shows, Pair, Diagonal, Listed, Wide, IsClosedOver};
 
 use crate::roles::RoleOrder;
@@ -13,12 +13,12 @@ use kinds::{Concept, SignedRole};
 use sets::{ConceptSet, RoleSet};
 use tables::{ConceptPair, Table};
 
-// A set for each basic concept.
-type ConceptRows = [ConceptSet; Concept::NUMBERS];
+/// For each basic concept the set of those that it is related to.
+pub type ConceptRelation = [ConceptSet; Concept::NUMBERS];
 
-// One mark; a number that has no row is passed over.
+// One pair is put into the relation; a pair with a number out of range is passed over.
 #[tactic(auto, using(crate::proofs::RowLaws::stored))]
-fn mark_pair(rows: &mut ConceptRows, left: Concept, right: Concept)
+fn mark_pair(rows: &mut ConceptRelation, left: Concept, right: Concept)
     ensures { Adds concept_width concept_width (concept_marks rows.old)
         (Pair (number_of left) (number_of right)) (concept_marks rows.new) }
 {
@@ -28,9 +28,9 @@ fn mark_pair(rows: &mut ConceptRows, left: Concept, right: Concept)
     }
 }
 
-/// Every pair of a table; a number that has no row is passed over.
+/// Every pair of a table is put into the relation; a pair with a number out of range is passed over.
 #[tactic(auto)]
-pub fn mark_pairs(rows: &mut [ConceptSet; Concept::NUMBERS], pairs: Table<ConceptPair>)
+pub fn mark_pairs(rows: &mut ConceptRelation, pairs: Table<ConceptPair>)
     ensures { Adds concept_width concept_width (concept_marks rows.old)
         (Listed pairs.entry.numbers.now) (concept_marks rows.new) }
 {
@@ -39,9 +39,9 @@ pub fn mark_pairs(rows: &mut [ConceptSet; Concept::NUMBERS], pairs: Table<Concep
     }
 }
 
-// Every (i, i) is marked.
+// Every concept is related to itself.
 #[tactic(auto)]
-fn reflexive(rows: &mut ConceptRows)
+fn reflexive(rows: &mut ConceptRelation)
     ensures { Adds concept_width concept_width (concept_marks rows.old)
         Diagonal (concept_marks rows.new) }
 {
@@ -51,9 +51,9 @@ fn reflexive(rows: &mut ConceptRows)
     }
 }
 
-// What goes through the number k: the row of k is put into each row that marks k. A row that has only itself adds nothing.
+// Warshall's step at the pivot k: the row of k is put into each row that has k. A row that has only its own concept adds nothing.
 #[tactic(auto, using(crate::proofs::RowLaws::read_number))]
-fn through(rows: &mut ConceptRows, k: usize)
+fn pivot(rows: &mut ConceptRelation, k: usize)
     requires { k < concept_width }
     ensures { Stepped concept_width (concept_marks rows.old) k (concept_marks rows.new) }
 {
@@ -69,20 +69,20 @@ fn through(rows: &mut ConceptRows, k: usize)
     }
 }
 
-// The smallest reflexive and transitive relation that holds the marks.
+// The relation becomes the smallest reflexive and transitive one that holds it.
 #[tactic(auto, using(crate::proofs::RowLaws::closing_start, crate::proofs::RowLaws::closing_more, crate::proofs::RowLaws::closing_end))]
-fn close(rows: &mut ConceptRows)
+fn close(rows: &mut ConceptRelation)
     ensures { Closes concept_width (concept_marks rows.old) (concept_marks rows.new) }
 {
     reflexive(rows);
     for k in 0..Concept::NUMBERS {
-        through(rows, k);
+        pivot(rows, k);
     }
 }
 
 // ∃R ≤ ∃S where R ≤ S.
 #[tactic(auto, using(crate::proofs::RowLaws::widened_start, crate::proofs::RowLaws::widened_more, crate::proofs::RowLaws::widened_end))]
-fn widen(roles: &[RoleSet; SignedRole::NUMBERS]) -> ConceptRows
+fn widen(roles: &[RoleSet; SignedRole::NUMBERS]) -> ConceptRelation
     ensures { Shows concept_width (concept_marks result) (Wide (role_marks roles.now)) }
 {
     let names = Concept::BASE as usize;
@@ -93,68 +93,51 @@ fn widen(roles: &[RoleSet; SignedRole::NUMBERS]) -> ConceptRows
     out
 }
 
-// The relation turned round.
-#[tactic(auto, using(crate::proofs::RowLaws::read_number, crate::proofs::RowLaws::below_end, crate::proofs::RowLaws::partly_start, crate::proofs::RowLaws::partly_end))]
-fn turned(rows: &ConceptRows) -> ConceptRows
-    ensures { IsTurned concept_width (concept_marks rows.now) (concept_marks result) }
-{
-    let mut out = [ConceptSet::EMPTY; Concept::NUMBERS];
-    for (i, row) in rows.iter().enumerate() {
-        let below = Concept::read(i as u16);
-        for above in row.iter() {
-            out[above.number()].insert(below);
-        }
-    }
-    out
-}
-
-// The row of a concept; of a number that has no row none.
-fn row_of(rows: &ConceptRows, c: Concept) -> ConceptSet
-    ensures { result ≡ slice_index_or rows.now (number_of c) no_concepts }
-{
-    let k = c.number();
-    if k < Concept::NUMBERS {
-        return rows[k];
-    }
-    ConceptSet::EMPTY
-}
-
-/// C ≤ D: for each concept those above it, and those below it.
+/// C ≤ D: for each concept those above it.
 #[derive(Clone, Copy)]
 pub struct ConceptOrder {
-    pub above: [ConceptSet; Concept::NUMBERS],
-    pub below: [ConceptSet; Concept::NUMBERS],
+    pub above: ConceptRelation,
 }
 
 impl ConceptOrder {
-    /// From the rules of a table, and any order of the roles: what follows from both. Where the roles are in the order of some table, it is C ≤ D by both tables.
-    /// A rule with a number that no concept has is passed over.
+    /// From the concept rules of a table and any order of the roles: what follows from both. Where the roles are in the order of some table, it is C ≤ D by both tables.
+    /// A rule with a number out of range is passed over.
     pub fn new(rules: Table<ConceptPair>, roles: &RoleOrder) -> ConceptOrder
         ensures closed { IsClosedOver rules.entry.numbers.now (role_marks roles.now.above)
             (concept_marks result.above) }
         ensures order { (table : List ℕ) → IsRoleOrder table (role_marks roles.now.above)
             → IsConceptOrder rules.entry.numbers.now table (concept_marks result.above) }
-        ensures turned { IsTurned concept_width
-            (concept_marks result.above) (concept_marks result.below) }
     {
         let mut above = widen(&roles.above);
         mark_pairs(&mut above, rules);
         close(&mut above);
-        let below = turned(&above);
-        ConceptOrder { above, below }
+        ConceptOrder { above }
     }
 
-    /// The concepts D with C ≤ D; above a number that no concept has is none.
+    /// The concepts D with C ≤ D; the set is empty where the number of C is out of range.
     pub fn above(&self, c: Concept) -> ConceptSet
         ensures { result ≡ slice_index_or self.now.above (number_of c) no_concepts }
     {
-        row_of(&self.above, c)
+        let k = c.number();
+        if k < Concept::NUMBERS {
+            return self.above[k];
+        }
+        ConceptSet::EMPTY
     }
 
-    /// The concepts C with C ≤ D; below a number that no concept has is none.
-    pub fn below(&self, d: Concept) -> ConceptSet
-        ensures { result ≡ slice_index_or self.now.below (number_of d) no_concepts }
+    /// For each concept those below it. No contradiction needs them.
+    #[tactic(auto, using(crate::proofs::RowLaws::read_number, crate::proofs::RowLaws::below_end, crate::proofs::RowLaws::partly_start, crate::proofs::RowLaws::partly_end))]
+    pub fn transposed(&self) -> ConceptRelation
+        ensures { IsTransposed concept_width (concept_marks self.now.above)
+            (concept_marks result) }
     {
-        row_of(&self.below, d)
+        let mut out = [ConceptSet::EMPTY; Concept::NUMBERS];
+        for (i, row) in self.above.iter().enumerate() {
+            let below = Concept::read(i as u16);
+            for above in row.iter() {
+                out[above.number()].insert(below);
+            }
+        }
+        out
     }
 }

@@ -5,5 +5,5 @@ mod concepts;
 mod roles;
 pub mod theorems;
 
-pub use concepts::{ConceptOrder, mark_pairs};
+pub use concepts::{ConceptOrder, ConceptRelation, mark_pairs};
 pub use roles::RoleOrder;

@@ -10,7 +10,7 @@ ghost use Rattle.meaning.specs.Lent.{Tables, collection};
 ghost use Rattle.sets.specs.Bits.{concept_width, role_width};
 ghost use Rattle.sets.specs.Rows.{ConceptRows, RoleRows, concept_marks, role_marks, Adds};
 ghost use Rattle.sets.specs.declared.concepts.ConceptSet.{ConceptSet};
-ghost use Rattle.orders.specs.Rows.{IsRoleOrder, IsConceptOrder, IsTurned};
+ghost use Rattle.orders.specs.Rows.{IsRoleOrder, IsConceptOrder, IsTransposed};
 ghost use Rattle.orders.specs.Marks.{Listed, IsClosedOver, OrRow};
 ghost use Rattle.orders.specs.Meant.{RoleMarksMean, ConceptMarksMean};
 
@@ -23,8 +23,8 @@ pub fn unique()
     ensures one_closed_order { (rules : List ℕ) (roles : ℕ → ℕ → Bool)
         → AtMostOneOf (ConceptRows concept_width)
         (λ rows. IsClosedOver rules roles (concept_marks rows)) }
-    ensures one_turned { (m : ℕ → ℕ → Bool) → AtMostOneOf (ConceptRows concept_width)
-        (λ rows. IsTurned concept_width m (concept_marks rows)) }
+    ensures one_transposed { (m : ℕ → ℕ → Bool) → AtMostOneOf (ConceptRows concept_width)
+        (λ rows. IsTransposed concept_width m (concept_marks rows)) }
     ensures one_listing { (pairs : List ℕ) (m : ℕ → ℕ → Bool)
         → AtMostOneOf (ConceptRows concept_width)
         (λ rows. Adds concept_width concept_width m (Listed pairs) (concept_marks rows)) }

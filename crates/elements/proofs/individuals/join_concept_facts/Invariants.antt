@@ -8,4 +8,6 @@ use Rattle.sets.specs.Bits.{concept_width}
 use Rattle.elements.proofs.individuals.join_concept_facts.Given as goal
 
 abbrev pub invariant-loop-fact : goal.invariant-loop-fact
-invariant-loop-fact l = Listing most_individuals concept_width concept_fact_width (ConceptHit l.fn.facts.numbers.now (concept_marks l.order.above)) l.fn.facts.numbers (concept_marks l.initial.rows) l.fact-iterator.table.numbers l.fact-iterator.next (concept_marks l.rows)
+invariant-loop-fact l = Listing most_individuals concept_width concept_fact_width
+    (ConceptHit l.fn.facts.numbers.now (concept_marks l.order.above)) l.fn.facts.numbers
+    (concept_marks l.initial.rows) l.fact-iterator.table.numbers l.fact-iterator.next (concept_marks l.rows)

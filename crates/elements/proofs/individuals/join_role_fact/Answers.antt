@@ -12,6 +12,7 @@ unfolding number_of
 returns c =
     let low : c.args.fact.role.0 < most_roles = omega (arith, c.if-fact-ge-MOST.false) in
     let back : base + (2 * c.args.fact.role.0 + 1) ≡ base + 2 * c.args.fact.role.0 + 1 = omega arith in
-    role_fact_rows _ _ c.args.fact _ _ (record { role = low; first = omega (arith, c.if-a-ge-MOST.false); second = omega (arith, c.if-b-ge-MOST.false) })
+    role_fact_rows _ _ c.args.fact _ _
+    (record { role = low; first = omega (arith, c.if-a-ge-MOST.false); second = omega (arith, c.if-b-ge-MOST.false) })
     (rw (c.above.ensures, c.exists.ensures, c.forward.ensures.declared low) at c.join.ensures)
     (rw (c.above-2.ensures, c.exists-2.ensures, c.backward.ensures.declared low, back) at c.join-2.ensures)

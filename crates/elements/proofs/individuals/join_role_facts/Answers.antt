@@ -10,4 +10,5 @@ pub loop-fact-preserved : goal.loop-fact-preserved
 loop-fact-preserved c =
     let before = c.loop-fact.invariant in
     let next = c.in-Some.ensures.steps in
-    listing_more most_individuals concept_width role_fact_width _ _ _ read_role_fact _ _ _ _ _ _ _ before next.0 next.1 (rw (next.0.is, before.same) at c.join_role_fact.ensures)
+    listing_more most_individuals concept_width role_fact_width _ _ _ read_role_fact _ _ _ _ _ _ _ before next.0 next.1
+    (rw (next.0.is, before.same) at c.join_role_fact.ensures)

@@ -7,4 +7,5 @@ use Rattle.orders.proofs.Listing.{Listing}
 use Rattle.orders.proofs.concepts.mark_pairs.Given as goal
 
 abbrev pub invariant-loop-pair : goal.invariant-loop-pair
-invariant-loop-pair l = Listing concept_width concept_width rule_width (Hit l.fn.pairs.numbers.now) l.fn.pairs.numbers (concept_marks l.initial.rows) l.pair-iterator.table.numbers l.pair-iterator.next (concept_marks l.rows)
+invariant-loop-pair l = Listing concept_width concept_width rule_width (Hit l.fn.pairs.numbers.now) l.fn.pairs.numbers
+    (concept_marks l.initial.rows) l.pair-iterator.table.numbers l.pair-iterator.next (concept_marks l.rows)

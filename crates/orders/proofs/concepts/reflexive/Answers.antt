@@ -8,5 +8,6 @@ use Rattle.orders.proofs.concepts.reflexive.Goals as goal
 
 pub loop-i-preserved : goal.loop-i-preserved
 loop-i-preserved c =
-    adds_more concept_width concept_width (concept_marks c.args.rows.now) Own c.loop-i.i (concept_marks c.loop-i.rows) (concept_marks c.mark_pair.new.rows) c.loop-i.invariant
+    adds_more concept_width concept_width (concept_marks c.args.rows.now) Own c.loop-i.i (concept_marks c.loop-i.rows)
+    (concept_marks c.mark_pair.new.rows) c.loop-i.invariant
     (rw (read_number c.read-own.result c.loop-i.i c.read-own.ensures) at c.mark_pair.ensures)

@@ -7,4 +7,5 @@ pub loop-i-init : goal.loop-i-init
 loop-i-init c = widened_start c.args.roles.now
 
 pub loop-i-preserved : goal.loop-i-preserved
-loop-i-preserved c = widened_more c.args.roles.now c.loop-i.out c.loop-i.i c.exists.result c.loop-i.invariant (omega arith) c.loop-i-test.true c.exists.ensures
+loop-i-preserved c = widened_more c.args.roles.now c.loop-i.out c.loop-i.i c.exists.result c.loop-i.invariant
+    (omega arith) c.loop-i-test.true c.exists.ensures

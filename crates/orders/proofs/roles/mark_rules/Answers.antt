@@ -11,5 +11,6 @@ loop-rule-preserved c =
     let next = c.in-Some.ensures.steps in
     record {
       square = c.mark_rule.ensures.square;
-      marked = listing_more role_width role_width rule_width _ _ _ read_role_pair _ _ _ _ _ _ _ marked next.0 next.1 (rw (next.0.is, marked.same) at c.mark_rule.ensures.marks);
+      marked = listing_more role_width role_width rule_width _ _ _ read_role_pair _ _ _ _ _ _ _ marked next.0 next.1
+          (rw (next.0.is, marked.same) at c.mark_rule.ensures.marks);
     }

@@ -9,5 +9,6 @@ use Rattle.orders.proofs.roles.mark_rules.Given as goal
 abbrev pub invariant-loop-rule : goal.invariant-loop-rule
 invariant-loop-rule l = record {
   square : Square role_width l.m;
-  marked : Listing role_width role_width rule_width (RoleHit l.fn.rules.numbers.now) l.fn.rules.numbers (mark l.initial.m) l.rule-iterator.table.numbers l.rule-iterator.next (mark l.m);
+  marked : Listing role_width role_width rule_width (RoleHit l.fn.rules.numbers.now) l.fn.rules.numbers
+      (mark l.initial.m) l.rule-iterator.table.numbers l.rule-iterator.next (mark l.m);
 }

@@ -7,4 +7,4 @@ use Rattle.sets.specs.Bits.{role_width}
 use Rattle.orders.proofs.roles.reflexive.Given as goal
 
 abbrev pub invariant-loop-i : goal.invariant-loop-i
-invariant-loop-i l = record { square : Square role_width l.out; marked : Adds role_width role_width (mark l.initial.out) (OneOf Own l.i) (mark l.out) }
+invariant-loop-i l = record { square : Square role_width l.m; marked : Adds role_width role_width (mark l.fn.m) (OneOf Own l.i) (mark l.m) }

@@ -1,5 +1,6 @@
 -- Each contract leaves one value.
-use Rattle.orders.proofs.Once.{role-order-once, concept-order-once, closed-order-once, turned-once, pairs-once, closes-once, or_row-once}
+use Rattle.orders.proofs.Once.{role-order-once, concept-order-once, closed-order-once, transposed-once, pairs-once, closes-once}
+use Rattle.orders.proofs.Once.{or_row-once}
 use Rattle.orders.specs.Marks.{Listed}
 use Rattle.orders.proofs.theorems.unique.Goals as goal
 
@@ -12,8 +13,8 @@ returns-clause-one_concept_order c rules roles m n p q = concept-order-once m n 
 pub returns-clause-one_closed_order : goal.returns-clause-one_closed_order
 returns-clause-one_closed_order c rules roles m n p q = closed-order-once m n p.1 q.1 p.0 q.0
 
-pub returns-clause-one_turned : goal.returns-clause-one_turned
-returns-clause-one_turned c t m n p q = turned-once t m n p.1 q.1 p.0 q.0
+pub returns-clause-one_transposed : goal.returns-clause-one_transposed
+returns-clause-one_transposed c t m n p q = transposed-once t m n p.1 q.1 p.0 q.0
 
 pub returns-clause-one_listing : goal.returns-clause-one_listing
 returns-clause-one_listing c pairs old m n p q = pairs-once old (Listed pairs) m n p.1 q.1 p.0 q.0

@@ -11,7 +11,8 @@ returns-clause-closed c =
     let from = role_marks c.args.roles.now.above in
     let rules = c.args.rules.numbers.now in
     closed-over rules from (concept_marks c.mark_pairs.new.rows) (concept_marks c.close.new.rows)
-    (adds_shows concept_width (concept_marks c.widen-above.result) (Wide from) (Listed rules) (concept_marks c.mark_pairs.new.rows) c.widen-above.ensures c.mark_pairs.ensures)
+    (adds_shows concept_width (concept_marks c.widen-above.result) (Wide from) (Listed rules)
+    (concept_marks c.mark_pairs.new.rows) c.widen-above.ensures c.mark_pairs.ensures)
     c.close.ensures
 
 pub returns-clause-order : goal.returns-clause-order
@@ -19,5 +20,6 @@ returns-clause-order c = λ table o.
     let from = role_marks c.args.roles.now.above in
     let rules = c.args.rules.numbers.now in
     concept-closed rules table from o (concept_marks c.mark_pairs.new.rows)
-    (adds_shows concept_width (concept_marks c.widen-above.result) (Wide from) (Listed rules) (concept_marks c.mark_pairs.new.rows) c.widen-above.ensures c.mark_pairs.ensures)
+    (adds_shows concept_width (concept_marks c.widen-above.result) (Wide from) (Listed rules)
+    (concept_marks c.mark_pairs.new.rows) c.widen-above.ensures c.mark_pairs.ensures)
     (concept_marks c.close.new.rows) c.close.ensures

@@ -1,7 +1,0 @@
--- `gathered`: the set has what the rows below a have.
-use Rattle.sets.specs.Rows.{concept_marks}
-use Rattle.elements.specs.Steps.{Gathers}
-use Rattle.elements.proofs.living.gathered.Given as goal
-
-abbrev pub invariant-loop-row : goal.invariant-loop-row
-invariant-loop-row l = Gathers l.row-index (concept_marks l.rows) l.all.0
