@@ -1,9 +1,8 @@
--- Loops that look for one, the exclusions as sets, the hops of an individual, and the searches together.
+-- Loops that look for one, the exclusions as sets, and the edges of an individual.
 pub mod SeekLaws
-pub mod ApartLaws
-pub mod BarLaws
+pub mod ConceptLaws
+pub mod RoleLaws
 pub mod TriedLaws
-pub mod PartLaws
--- What callers use: what the answer means, and that it is one.
+-- What callers use: what the answers mean, and that each is one.
 pub mod Mean
 pub mod Once

@@ -1,6 +1,7 @@
--- What the answer means to a caller: of a collection whose numbers are declared, the marks clash exactly when its canonical model has a contradiction.
-use Rattle.std.specs.Prelude.{ℕ, ◌+◌, ◌*◌, ◌<◌, ◌≡◌, refl, ◌↔◌, IsTrue, List}
-use Rattle.std.proofs.Common.{arith}
+-- What the answer means to a caller: of a collection whose numbers are declared, the marks clash exactly when its canonical model has a
+-- contradiction.
+use Rattle.std.specs.Prelude.{ℕ, ◌+◌, ◌<◌, ◌≡◌, refl, ◌⊎◌, ◌↔◌, IsTrue, List}
+use Rattle.std.proofs.Common.{ap, arith, inl, inr, ⊎_elim}
 use Rattle.kinds.specs.declared.Individual.{Individual}
 use Rattle.kinds.specs.declared.SignedRole.{SignedRole}
 use Rattle.kinds.specs.declared.Concept.{Concept}
@@ -11,21 +12,26 @@ use Rattle.laws.specs.Member.{◌∈◌}
 use Rattle.meaning.specs.Collection.{NumbersDeclared}
 use Rattle.meaning.specs.Lent.{Tables, collection, records, rule_width}
 use Rattle.meaning.specs.Orders.{RoleFollows, RoleLe, ConceptLe, turned}
-use Rattle.meaning.specs.Model.{IndividualHas, FactEdge, Contradiction}
+use Rattle.meaning.specs.Model.{IndividualHas, FactEdge as ModelEdge, Contradiction}
 use Rattle.meaning.specs.Clash.{Alive, Clash, individual-clash, unnamed-clash, fact-clash, down-clash, up-clash}
 use Rattle.meaning.proofs.Clash.{typed-declared}
 use Rattle.meaning.proofs.ClashShown.{contradiction↔clash}
-use Rattle.sets.specs.Bits.{concept_width, role_width}
+use Rattle.sets.specs.Bits.{concept_width, role_width, has}
+use Rattle.sets.proofs.RowLaws.{has_fact}
+use Rattle.orders.specs.Marks.{Listed}
 use Rattle.orders.proofs.Table.{pair_of, rules_of, rules-all, rule-in, rule-out}
 use Rattle.orders.proofs.Mean.{role-below, concept-below, all-role-rules, all-concept-rules}
 use Rattle.elements.proofs.Mean.{shown-declared, concepts-mean}
-use Rattle.elements.proofs.LivingMean.{living-mean, lives-below}
-use Rattle.hops.specs.Chains.{role_of}
-use Rattle.hops.specs.Meant.{AreFew}
-use Rattle.hops.proofs.Edges.{a-hop, hop-declared, hop-edge, edge-hop}
-use Rattle.clash.specs.declared.Exclusions.{Exclusions}
-use Rattle.clash.specs.Clashes.{Marks, Breaks, Marked, FactRole, Clashes, named, unnamed, joined, down, up}
-use Rattle.clash.specs.Meant.{IsOf}
+use Rattle.elements.proofs.GeneratingMean.{generating-mean, generating-below}
+use Rattle.edges.specs.declared.FactEdge.{FactEdge}
+use Rattle.edges.specs.Edges.{IsFactEdge}
+use Rattle.edges.specs.Meant.{AreFew}
+use Rattle.edges.proofs.EdgeLaws.{edge-role, edge-from}
+use Rattle.edges.proofs.Mean.{edge-means, model-edge}
+use Rattle.clash.specs.Clashes.{BothSides, Marked, ConceptsClash, ChildClashes, PairHas, RolesClash}
+use Rattle.clash.specs.Conflicts.{IsConcerned}
+use Rattle.clash.proofs.SeekLaws.{sides_same}
+use Rattle.clash.specs.Meant.{Computed, Clashes, IsOf}
 
 -- P holds of both sides of an exclusion
 record Both {A : Type 0} (l : List (A × A)) (P : A → Type 0) : Type 0 where
@@ -42,7 +48,7 @@ module _ {A : Type 0} (of : ℕ → A) (number : A → ℕ) (n : ℕ) (back : (i
   all : rules_of of number n table ≡ records rule_width (pair_of of number n) table
   all = rules-all of number n table (λ r m. let d = known r m in (below r.0 d.0, below r.1 d.1))
 
-  sides-out : Breaks n table M → Both (records rule_width (pair_of of number n) table) P
+  sides-out : BothSides n table M → Both (records rule_width (pair_of of number n) table) P
   sides-out x =
       let m = rw all at (rule-in of number n back table x.left_row x.right_row x.listed) in
       let d = known (of x.left, of x.right) m in
@@ -54,7 +60,7 @@ module _ {A : Type 0} (of : ℕ → A) (number : A → ℕ) (n : ℕ) (back : (i
         has_right = (same (of x.right) d.1).0 (rw (back x.right) x.has_right);
       }
 
-  sides-in : Both (records rule_width (pair_of of number n) table) P → Breaks n table M
+  sides-in : Both (records rule_width (pair_of of number n) table) P → BothSides n table M
   sides-in b =
       let d = known (b.left, b.right) b.listed in
       let w = rule-out of number n back table (rw all b.listed) in
@@ -74,10 +80,12 @@ unfolding inverse
 inverse-concept R = role-concept (flip R)
 
 -- S follows from the inverse of R, said the other way round
-turned-back : {rules : List (SignedRole × SignedRole)} (R S : SignedRole) → RoleFollows rules (inverse R) S → RoleFollows rules R (inverse S)
+turned-back : {rules : List (SignedRole × SignedRole)} (R S : SignedRole) → RoleFollows rules (inverse R) S
+    → RoleFollows rules R (inverse S)
 turned-back R S l = rw (inverse-inverse R) at (turned l)
 
-module _ (c : Counts) (t : Tables) (fit : CountsFit c) (ok : NumbersDeclared (collection c t)) (few : AreFew t.role-facts) (x : Exclusions) (m : Marks) (o : IsOf t x m) where
+module _ (c : Counts) (t : Tables) (fit : CountsFit c) (ok : NumbersDeclared (collection c t)) (few : AreFew t.role-facts)
+    (m : Computed) (o : IsOf t m) where
   -- the row of a role, and that of the concept of an unnamed element, whether the role is declared or not
   role-le : (Q : ℕ) (S : SignedRole) → Q < role_width → SignedDeclared c S → IsTrue (m.roles Q S.0) ↔ RoleLe (collection c t) (signed Q) S
   role-le Q S hQ hS = rw (all-role-rules c t fit ok) at (o.roles.at Q S.0 hQ (role-below c t fit ok S hS))
@@ -88,126 +96,174 @@ module _ (c : Counts) (t : Tables) (fit : CountsFit c) (ok : NumbersDeclared (co
       rw (all-concept-rules c t fit ok, all-role-rules c t fit ok, concept-number c fit.names C hC, inverse-concept R)
       at (o.concepts.at (base + flip R) (number_of C) (omega arith) (concept-below c t fit ok C hC))
 
-  -- a living role is one by which an unnamed element ends
-  alive : (R : ℕ) → R < role_width → IsTrue (m.living R) → Alive (collection c t) (signed R)
-  alive R h p = (living-mean c t fit ok m.concepts m.individuals o.concepts o.individuals (signed R)).0 ((o.living.at R h).0 p)
+  -- a generating role is one by which an unnamed element ends
+  alive : (R : ℕ) → R < role_width → IsTrue (has m.generating R) → Alive (collection c t) (signed R)
+  alive R h p = (generating-mean c t fit ok m.concepts m.individuals o.concepts o.individuals (signed R)).0 ((o.generating.at R h).0 p)
 
-  lives : (R : SignedRole) → Alive (collection c t) R → (R.0 < role_width) × IsTrue (m.living R.0)
+  lives : (R : SignedRole) → Alive (collection c t) R → (R.0 < role_width) × IsTrue (has m.generating R.0)
   lives R a =
-      let l = (living-mean c t fit ok m.concepts m.individuals o.concepts o.individuals R).1 a in
-      let h = lives-below l in
-      (h, (o.living.at R.0 h).1 l)
+      let l = (generating-mean c t fit ok m.concepts m.individuals o.concepts o.individuals R).1 a in
+      let h = generating-below l in
+      (h, (o.generating.at R.0 h).1 l)
 
-  -- the roles that hops give a pair are those of its edges
-  fact→edge : (a b : ℕ) (S : SignedRole) → SignedDeclared c S → FactRole t.role-facts m.roles a b S.0 → FactEdge (collection c t) (individual a) S (individual b)
+  -- the roles that facts give a pair, by edges of whatever role, are those of its edges in the model
+  record AnyPairHas (a b S : ℕ) : Type 0 where
+    edge : FactEdge
+    is : IsFactEdge t.role-facts a edge
+    to : edge.to.0 ≡ b
+    follows : IsTrue (m.roles edge.role.0 S)
+
+  fact→edge : (a b : ℕ) (S : SignedRole) → SignedDeclared c S → AnyPairHas a b S.0
+      → ModelEdge (collection c t) (individual a) S (individual b)
   fact→edge a b S h f =
-      let d = f.leads in
-      let hop = a-hop c t ok f.hop (let i = d.inside in omega arith) in
-      let e = hop-edge c t ok hop ((role-le (role_of t.role-facts f.hop) S d.role h).0 f.follows) in
-      rw (d.from, f.to) at e
+      let e : f.edge.to ≡ individual b = ap individual f.to in
+      rw e at (edge-means c t (individual a) f.edge f.is S ((role-le f.edge.role.0 S (edge-role t.role-facts a f.edge f.is) h).0 f.follows))
 
-  edge→fact : (a b : Individual) (S : SignedRole) → SignedDeclared c S → FactEdge (collection c t) a S b → FactRole t.role-facts m.roles a.0 b.0 S.0
+  edge→fact : (a b : Individual) (S : SignedRole) → SignedDeclared c S → ModelEdge (collection c t) a S b → AnyPairHas a.0 b.0 S.0
   edge→fact a b S h e =
-      let w = edge-hop c t ok e in
-      let k = w.0 in
+      let w = model-edge c t fit ok few a b S e in
       let p = w.1 in
-      let d = hop-declared c t ok (a-hop c t ok k p.hop) in
-      let role : role_of t.role-facts k < 2 * most_roles = omega (arith, d.role, fit.roles) in
       record {
-        hop = k;
-        leads = record {
-          inside = let i = p.hop in omega arith;
-          from = p.source;
-          start = let i = p.source in omega (arith, d.source, fit.individuals);
-          role = role;
-          end = omega (arith, d.target, fit.individuals);
-        };
-        to = p.target;
-        follows = (role-le (role_of t.role-facts k) S role h).1 p.role;
+        edge = w.0;
+        is = p.is;
+        to = ap (λ (i : Individual). i.0) p.to;
+        follows = (role-le w.0.role.0 S (edge-role t.role-facts a.0 w.0 p.is) h).1 p.below;
+      }
+
+  -- of both sides of an exclusion, each edge is by a role that the exclusion concerns
+  all→among : (a b i j : ℕ) → i < role_width → j < role_width → Listed t.role-exclusions i j ⊎ Listed t.role-exclusions j i
+      → AnyPairHas a b i
+      → PairHas t.role-facts m.among m.roles a b i
+  all→among a b i j hi hj l f =
+      let w : IsConcerned t.role-exclusions m.roles f.edge.role.0 = record {
+        within = edge-role t.role-facts a f.edge f.is;
+        from = j;
+        row = hj;
+        excluded = record { by = i; row = hi; above = f.follows; sides = l };
+      } in
+      record {
+        edge = f.edge;
+        has = record { is = f.is; member = o.among f.edge.role.0 (rw o.role_exclusions w) };
+        to = f.to;
+        follows = f.follows;
       }
 
   concept-sides : (M : ℕ → Type 0) (P : Concept → Type 0) → ((C : Concept) → ConceptDeclared c C → M (number_of C) ↔ P C)
-      → Breaks concept_width t.concept-exclusions M ↔ Both (collection c t).concept-exclusions P
+      → BothSides concept_width t.concept-exclusions M ↔ Both (collection c t).concept-exclusions P
   concept-sides M P same =
       let below = concept-below c t fit ok in (
-        sides-out concept_of number_of concept_width number-concept t.concept-exclusions (ConceptDeclared c) ok.concept-exclusions below M P same,
-        sides-in concept_of number_of concept_width number-concept t.concept-exclusions (ConceptDeclared c) ok.concept-exclusions below M P same,
+        sides-out concept_of number_of concept_width number-concept t.concept-exclusions
+            (ConceptDeclared c) ok.concept-exclusions below M P same,
+        sides-in concept_of number_of concept_width number-concept t.concept-exclusions
+            (ConceptDeclared c) ok.concept-exclusions below M P same,
       )
 
   role-sides : (M : ℕ → Type 0) (P : SignedRole → Type 0) → ((S : SignedRole) → SignedDeclared c S → M S.0 ↔ P S)
-      → Breaks role_width t.role-exclusions M ↔ Both (collection c t).role-exclusions P
+      → BothSides role_width t.role-exclusions M ↔ Both (collection c t).role-exclusions P
   role-sides M P same =
       let below = role-below c t fit ok in (
         sides-out signed (λ R. R.0) role_width (λ i. refl) t.role-exclusions (SignedDeclared c) ok.role-exclusions below M P same,
         sides-in signed (λ R. R.0) role_width (λ i. refl) t.role-exclusions (SignedDeclared c) ok.role-exclusions below M P same,
       )
 
-  -- what each kind of row breaks
-  named-breaks : (a : ℕ) → a < most_individuals → Breaks concept_width t.concept-exclusions (Marked (m.individuals a))
+  -- the exclusions of which each kind of row has both sides
+  named-breaks : (a : ℕ) → a < most_individuals → BothSides concept_width t.concept-exclusions (Marked (m.individuals a))
       ↔ Both (collection c t).concept-exclusions (IndividualHas (collection c t) (individual a))
   named-breaks a h =
       concept-sides (Marked (m.individuals a)) (IndividualHas (collection c t) (individual a)) (λ C hC. (
         λ p.
             let d = shown-declared c t fit ok ((o.individuals.at a (number_of C) h (concept-below c t fit ok C hC)).0 p) in
             (concepts-mean c t fit ok m.concepts o.concepts C hC o.individuals (individual a) d).0 p,
-        λ w. (concepts-mean c t fit ok m.concepts o.concepts C hC o.individuals (individual a) (typed-declared (collection c t) ok w.1)).1 w,
+        λ w. (concepts-mean c t fit ok m.concepts o.concepts C hC o.individuals (individual a)
+            (typed-declared (collection c t) ok w.1)).1 w,
       ))
 
-  unnamed-breaks : (R : ℕ) → R < role_width → Breaks concept_width t.concept-exclusions (Marked (m.concepts (base + flip R)))
+  unnamed-breaks : (R : ℕ) → R < role_width → BothSides concept_width t.concept-exclusions (Marked (m.concepts (base + flip R)))
       ↔ Both (collection c t).concept-exclusions (ConceptLe (collection c t) (Exists (inverse (signed R))))
   unnamed-breaks R h =
-      concept-sides (Marked (m.concepts (base + flip R))) (ConceptLe (collection c t) (Exists (inverse (signed R)))) (λ C hC. unnamed-has R C h hC)
+      concept-sides (Marked (m.concepts (base + flip R))) (ConceptLe (collection c t) (Exists (inverse (signed R))))
+      (λ C hC. unnamed-has R C h hC)
 
-  joined-breaks : (a b : ℕ) → Breaks role_width t.role-exclusions (FactRole t.role-facts m.roles a b)
-      ↔ Both (collection c t).role-exclusions (λ S. FactEdge (collection c t) (individual a) S (individual b))
-  joined-breaks a b =
-      role-sides (FactRole t.role-facts m.roles a b) (λ S. FactEdge (collection c t) (individual a) S (individual b)) (λ S hS. (
+  pair-sides : (a b : ℕ) → BothSides role_width t.role-exclusions (AnyPairHas a b)
+      ↔ Both (collection c t).role-exclusions (λ S. ModelEdge (collection c t) (individual a) S (individual b))
+  pair-sides a b =
+      role-sides (AnyPairHas a b) (λ S. ModelEdge (collection c t) (individual a) S (individual b)) (λ S hS. (
         fact→edge a b S hS,
         edge→fact (individual a) (individual b) S hS,
       ))
 
-  role-breaks : (Q : ℕ) → Q < role_width → Breaks role_width t.role-exclusions (Marked (m.roles Q))
+  role-breaks : (Q : ℕ) → Q < role_width → BothSides role_width t.role-exclusions (Marked (m.roles Q))
       ↔ Both (collection c t).role-exclusions (RoleLe (collection c t) (signed Q))
   role-breaks Q h = role-sides (Marked (m.roles Q)) (RoleLe (collection c t) (signed Q)) (λ S hS. role-le Q S h hS)
 
-  clashes→clash : Clashes x m → Clash (collection c t)
+  concepts→clash : ConceptsClash m.concept_exclusions m.individuals m.concepts m.generating → Clash (collection c t)
+  concepts→clash (inl s) =
+      let w = (named-breaks s.one s.within).0 (rw o.concept_exclusions at s.has.sides) in
+      individual-clash (individual s.one) w.left w.right w.listed w.has_left w.has_right
+  concepts→clash (inr s) =
+      let w = (unnamed-breaks s.one s.within).0 (rw o.concept_exclusions at s.has.sides) in
+      unnamed-clash (signed s.one) w.left w.right w.listed
+      (alive s.one s.within ((has_fact m.generating s.one).1 s.member)) w.has_left w.has_right
+
+  child→clash : (Q : ℕ) → Q < role_width → IsTrue (has m.generating Q) → ChildClashes m.role_exclusions m.roles Q → Clash (collection c t)
   unfolding inverse
-  clashes→clash (named a h b) =
-      let w = (named-breaks a h).0 (rw o.concept_exclusions at b) in
-      individual-clash (individual a) w.left w.right w.listed w.has_left w.has_right
-  clashes→clash (unnamed R h l b) =
-      let w = (unnamed-breaks R h).0 (rw o.concept_exclusions at b) in
-      unnamed-clash (signed R) w.left w.right w.listed (alive R h l) w.has_left w.has_right
-  clashes→clash (joined a b y) =
-      let w = (joined-breaks a b).0 (rw (o.role_exclusions, o.facts) at y) in
-      fact-clash (individual a) (individual b) w.left w.right w.listed w.has_left w.has_right
-  clashes→clash (down Q h l b) =
-      let w = (role-breaks Q h).0 (rw o.role_exclusions at b) in
+  child→clash Q h l (inl b) =
+      let w = (role-breaks Q h).0 (rw o.role_exclusions at b.sides) in
       down-clash (signed Q) w.left w.right w.listed (alive Q h l) w.has_left w.has_right
-  clashes→clash (up Q h l b) =
-      let w = (role-breaks (flip Q) (flip-below Q most_roles h)).0 (rw o.role_exclusions at b) in
+  child→clash Q h l (inr b) =
+      let w = (role-breaks (flip Q) (flip-below Q most_roles h)).0 (rw o.role_exclusions at b.sides) in
       up-clash (signed Q) (inverse w.left) (inverse w.right) (rw (inverse-inverse w.left, inverse-inverse w.right) w.listed) (alive Q h l)
       (turned-back (signed Q) w.left w.has_left) (turned-back (signed Q) w.right w.has_right)
 
-  clash→clashes : Clash (collection c t) → Clashes x m
+  roles→clash : RolesClash m.role_exclusions m.roles m.generating m.facts m.among → Clash (collection c t)
+  roles→clash (inl s) = child→clash s.one s.within ((has_fact m.generating s.one).1 s.member) s.has
+  roles→clash (inr s) =
+      let y = rw (o.role_exclusions, o.facts) at s.has.sides in
+      let w = (pair-sides s.one s.has.to).0
+      (sides_same _ _ _ (AnyPairHas s.one s.has.to)
+      (λ i j hi hj l f. record { edge = f.edge; is = f.has.is; to = f.to; follows = f.follows }) y) in
+      fact-clash (individual s.one) (individual s.has.to) w.left w.right w.listed w.has_left w.has_right
+
+  by-child : (Q : ℕ) → Q < role_width → IsTrue (has m.generating Q) → ChildClashes m.role_exclusions m.roles Q → Clashes m
+  by-child Q h l x = inr (inl (record { one = Q; within = h; member = (has_fact m.generating Q).0 l; has = x }))
+
+  clash→clashes : Clash (collection c t) → Clashes m
   unfolding inverse
   clash→clashes (individual-clash a C D e h k) =
       let l : a.0 < most_individuals = omega (arith, typed-declared (collection c t) ok h.1, fit.individuals) in
-      named a.0 l (rw o.concept_exclusions ((named-breaks a.0 l).1 (record { left = C; right = D; listed = e; has_left = h; has_right = k })))
+      let w = (named-breaks a.0 l).1 (record { left = C; right = D; listed = e; has_left = h; has_right = k }) in
+      inl (inl (record { one = a.0; within = l; has = record { sides = rw o.concept_exclusions w } }))
   clash→clashes (unnamed-clash R C D e a h k) =
       let l = lives R a in
-      unnamed R.0 l.0 l.1 (rw o.concept_exclusions ((unnamed-breaks R.0 l.0).1 (record { left = C; right = D; listed = e; has_left = h; has_right = k })))
+      let w = (unnamed-breaks R.0 l.0).1 (record { left = C; right = D; listed = e; has_left = h; has_right = k }) in
+      inl (inr (record {
+        one = R.0;
+        within = l.0;
+        member = (has_fact m.generating R.0).0 l.1;
+        has = record { sides = rw o.concept_exclusions w };
+      }))
   clash→clashes (fact-clash a b R S e f g) =
-      joined a.0 b.0 (rw (o.role_exclusions, o.facts) ((joined-breaks a.0 b.0).1 (record { left = R; right = S; listed = e; has_left = f; has_right = g })))
+      let w = (pair-sides a.0 b.0).1 (record { left = R; right = S; listed = e; has_left = f; has_right = g }) in
+      let l = edge-from t.role-facts a.0 w.has_left.edge w.has_left.is in
+      inr (inr (record {
+        one = a.0;
+        within = l;
+        has = record { to = b.0; sides = rw (o.role_exclusions, o.facts) (sides_same _ _ _ _ (all→among a.0 b.0) w) };
+      }))
   clash→clashes (down-clash Q R S e a h k) =
       let l = lives Q a in
-      down Q.0 l.0 l.1 (rw o.role_exclusions ((role-breaks Q.0 l.0).1 (record { left = R; right = S; listed = e; has_left = h; has_right = k })))
+      let w = (role-breaks Q.0 l.0).1 (record { left = R; right = S; listed = e; has_left = h; has_right = k }) in
+      by-child Q.0 l.0 l.1 (inl (record { sides = rw o.role_exclusions w }))
   clash→clashes (up-clash Q R S e a h k) =
       let l = lives Q a in
-      up Q.0 l.0 l.1
-      (rw o.role_exclusions
-      ((role-breaks (flip Q.0) (flip-below Q.0 most_roles l.0)).1 (record { left = inverse R; right = inverse S; listed = e; has_left = turned h; has_right = turned k })))
+      let w = (role-breaks (flip Q.0) (flip-below Q.0 most_roles l.0)).1
+      (record { left = inverse R; right = inverse S; listed = e; has_left = turned h; has_right = turned k }) in
+      by-child Q.0 l.0 l.1 (inr (record { sides = rw o.role_exclusions w }))
 
-  -- THEOREM: the marks clash exactly when an element or an ordered pair of elements of the canonical model, to any depth, has both sides of an exclusion
-  pub clash-mean : Clashes x m ↔ Contradiction (collection c t)
-  clash-mean = let w = contradiction↔clash (collection c t) ok in (λ p. w.1 (clashes→clash p), λ p. clash→clashes (w.0 p))
+  -- THEOREM: a test says yes exactly when an element or an ordered pair of elements of the canonical model, to any depth, has both
+  -- sides of an
+  -- exclusion
+  pub clash-mean : Clashes m ↔ Contradiction (collection c t)
+  clash-mean =
+      let w = contradiction↔clash (collection c t) ok in
+      (λ p. w.1 (⊎_elim (λ q. concepts→clash q) (λ q. roles→clash q) p), λ p. clash→clashes (w.0 p))

@@ -1,23 +1,26 @@
--- When the model breaks an exclusion, as the marks tell it: an individual, an unnamed element
--- or an ordered pair has both its sides.
-use Rattle.std.specs.Prelude.{ℕ, ◌+◌, ◌<◌, ◌≡◌, IsTrue, Bool, List}
+-- When the model breaks an exclusion, as computed relations tell it: an individual, an unnamed
+-- element or an ordered pair has both its sides.
+use Rattle.std.specs.Prelude.{ℕ, ◌+◌, ◌<◌, ◌≡◌, ◌⊎◌, IsTrue, Bool, List}
 use Rattle.kinds.specs.Kinds.{most_individuals, base, flip}
-use Rattle.sets.specs.Bits.{concept_width, role_width}
+use Rattle.sets.specs.Bits.{concept_width, role_width, Has}
 use Rattle.orders.specs.Marks.{Listed}
-use Rattle.hops.specs.Chains.{target, role_of, IsHopFrom}
-use Rattle.clash.specs.declared.Exclusions.{Exclusions}
+use Rattle.edges.specs.declared.FactEdge.{FactEdge}
+use Rattle.edges.specs.Edges.{HasEdge}
 
--- what is looked at: which roles and which concepts follow from each, which concepts the
--- individuals have, which roles live, and the role facts
-pub record Marks : Type 0 where
-  pub roles : ℕ → ℕ → Bool
-  pub concepts : ℕ → ℕ → Bool
-  pub individuals : ℕ → ℕ → Bool
-  pub living : ℕ → Bool
-  pub facts : List ℕ
+-- some number below w has P; some member of the set n has
+pub record SomeBelow (w : ℕ) (P : ℕ → Type 0) : Type 0 where
+  pub one : ℕ
+  pub within : one < w
+  pub has : P one
 
--- P holds of both sides of a pair in the table, each of which has one of n rows
-pub record Breaks (n : ℕ) (table : List ℕ) (P : ℕ → Type 0) : Type 0 where
+pub record SomeIn (w : ℕ) (P : ℕ → Type 0) (n : ℕ) : Type 0 where
+  pub one : ℕ
+  pub within : one < w
+  pub member : Has n one
+  pub has : P one
+
+-- some exclusion of the table, both its numbers below n, has P on both sides
+pub record BothSides (n : ℕ) (table : List ℕ) (P : ℕ → Type 0) : Type 0 where
   pub left : ℕ
   pub right : ℕ
   pub left_row : left < n
@@ -30,30 +33,49 @@ pub record Breaks (n : ℕ) (table : List ℕ) (P : ℕ → Type 0) : Type 0 whe
 abbrev pub Marked : (ℕ → Bool) → ℕ → Type 0
 Marked row k = IsTrue (row k)
 
--- the facts give the ordered pair (a, b) the signed role S: it follows from the role of a hop
--- from a to b
-pub record FactRole (facts : List ℕ) (roles : ℕ → ℕ → Bool) (a b S : ℕ) : Type 0 where
-  pub hop : ℕ
-  pub leads : IsHopFrom facts a hop
-  pub to : target facts hop ≡ b
-  pub follows : IsTrue (roles (role_of facts hop) S)
+-- some exclusion of the table is marked on both sides
+pub record HaveBothSides (n : ℕ) (table : List ℕ) (row : ℕ → Bool) : Type 0 where
+  pub sides : BothSides n table (Marked row)
 
--- both sides of an exclusion of concepts are among those with P, or of an exclusion of roles
-abbrev pub BreaksConcepts : Exclusions → (ℕ → Type 0) → Type 0
-BreaksConcepts x P = Breaks concept_width x.concepts.numbers.now P
+-- ---- concepts: who has what, what follows from what, and which roles are generating
 
-abbrev pub BreaksRoles : Exclusions → (ℕ → Type 0) → Type 0
-BreaksRoles x P = Breaks role_width x.roles.numbers.now P
+-- the individual a has both sides of an exclusion
+abbrev pub IndividualClashes : List ℕ → (ℕ → ℕ → Bool) → ℕ → Type 0
+IndividualClashes table individuals a = HaveBothSides concept_width table (individuals a)
 
--- what breaks an exclusion of concepts: an individual, or an unnamed element, which ends by a
--- living role R and has what follows from ∃ of R's inverse. What breaks an exclusion of roles:
--- a pair of individuals, or an element and its child by a living role Q, on the way down or up
-pub data Clashes (x : Exclusions) (m : Marks) : Type 0 where
-  named : (a : ℕ) → a < most_individuals → BreaksConcepts x (Marked (m.individuals a)) → Clashes x m
-  unnamed : (R : ℕ) → R < role_width → IsTrue (m.living R)
-      → BreaksConcepts x (Marked (m.concepts (base + flip R))) → Clashes x m
-  joined : (a b : ℕ) → BreaksRoles x (FactRole m.facts m.roles a b) → Clashes x m
-  down : (Q : ℕ) → Q < role_width → IsTrue (m.living Q)
-      → BreaksRoles x (Marked (m.roles Q)) → Clashes x m
-  up : (Q : ℕ) → Q < role_width → IsTrue (m.living Q)
-      → BreaksRoles x (Marked (m.roles (flip Q))) → Clashes x m
+-- an unnamed element that ends by R does: it has what follows from ∃ of R's inverse
+abbrev pub UnnamedClashes : List ℕ → (ℕ → ℕ → Bool) → ℕ → Type 0
+UnnamedClashes table order R = HaveBothSides concept_width table (order (base + flip R))
+
+-- some individual does, or some unnamed element: one ends by each generating role
+abbrev pub ConceptsClash : List ℕ → (ℕ → ℕ → Bool) → (ℕ → ℕ → Bool) → ℕ → Type 0
+ConceptsClash table individuals order generating =
+    SomeBelow most_individuals (IndividualClashes table individuals)
+    ⊎ SomeIn role_width (UnnamedClashes table order) generating
+
+-- ---- roles: what follows from what, which are generating, and the edges that facts make by the
+-- roles of a set
+
+-- an element and its child by Q have both sides of an exclusion, on the way down or up
+abbrev pub ChildClashes : List ℕ → (ℕ → ℕ → Bool) → ℕ → Type 0
+ChildClashes table roles Q =
+    HaveBothSides role_width table (roles Q) ⊎ HaveBothSides role_width table (roles (flip Q))
+
+-- the edges give the ordered pair (a, b) the signed role S: it follows from that of one of them
+pub record PairHas (facts : List ℕ) (among : ℕ) (roles : ℕ → ℕ → Bool) (a b S : ℕ) : Type 0 where
+  pub edge : FactEdge
+  pub has : HasEdge facts among a edge
+  pub to : edge.to.0 ≡ b
+  pub follows : IsTrue (roles edge.role.0 S)
+
+-- some pair of individuals that starts with a has both sides
+pub record PairClashes (table facts : List ℕ) (among : ℕ) (roles : ℕ → ℕ → Bool) (a : ℕ) : Type 0
+  where
+    pub to : ℕ
+    pub sides : BothSides role_width table (PairHas facts among roles a to)
+
+-- some element and its child by a generating role do, or some pair of individuals
+abbrev pub RolesClash : List ℕ → (ℕ → ℕ → Bool) → ℕ → List ℕ → ℕ → Type 0
+RolesClash table roles generating facts among =
+    SomeIn role_width (ChildClashes table roles) generating
+    ⊎ SomeBelow most_individuals (PairClashes table facts among roles)

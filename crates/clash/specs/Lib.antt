@@ -1,6 +1,4 @@
--- What the public contract names.
+-- What the public contracts name.
 pub mod Clashes
-pub mod Marks
+pub mod Conflicts
 pub mod Meant
--- What the private ones name.
-pub mod Parts

@@ -1,21 +1,25 @@
-// The contradiction test: whether an individual, an unnamed element or an ordered pair of elements has both sides of an exclusion.
+// The contradiction test: whether an individual or an unnamed element has both sides of an exclusion of concepts, and whether an ordered pair
+// of elements has both sides of an exclusion of roles.
 #![tactic(auto)]
 
-ghost use Rattle.std.specs.Prelude.{◌≡◌, ◌↔◌, IsTrue};
-ghost use Rattle.clash.specs.Clashes.{Clashes};
-ghost use Rattle.clash.specs.Marks.{marks};
+ghost use Rattle.std.specs.Prelude.{◌≡◌, ◌⊎◌, ◌↔◌, IsTrue};
+ghost use Rattle.sets.specs.Rows.{concept_marks, role_marks};
+ghost use Rattle.clash.specs.Clashes.{ConceptsClash, RolesClash};
+ghost use Rattle.clash.specs.Conflicts.{AreConcerned};
 
 mod concepts;
 mod roles;
 pub mod theorems;
 
-use concepts::Apart;
+use concepts::ConceptConflicts;
+use edges::FactEdges;
 use elements::Elements;
-use hops::Hops;
 use orders::{ConceptOrder, RoleOrder};
+use roles::RoleConflicts;
+use sets::RoleSet;
 use tables::{ConceptPair, RolePair, Table};
 
-/// The two tables of exclusions; a pair with a number that has no row excludes nothing.
+/// The two tables of exclusions; a pair with a number out of range excludes nothing.
 #[derive(Clone, Copy)]
 pub struct Exclusions<'a> {
     pub concepts: Table<'a, ConceptPair>,
@@ -30,24 +34,36 @@ impl<'a> Exclusions<'a> {
         Exclusions { concepts, roles }
     }
 
-    /// Whether the model breaks one: at an individual, at an unnamed element, at an element and its child, or at two individuals.
-    pub fn clash(
+    /// Whether some individual, or some unnamed element, has both sides of an exclusion of concepts.
+    pub fn contradicts_concepts(&self, order: &ConceptOrder, elements: &Elements) -> bool
+        ensures { IsTrue result ↔ ConceptsClash self.now.concepts.numbers.now
+            (concept_marks elements.now.individuals) (concept_marks order.now.above)
+            elements.now.generating.0 }
+    {
+        ConceptConflicts::new(self.concepts).contradict(order, elements)
+    }
+
+    /// The roles that an exclusion concerns: to tell of pairs of individuals whether they have both sides of one, edges by these are enough.
+    pub fn concerned(&self, roles: &RoleOrder) -> RoleSet
+        ensures { AreConcerned self.now.roles.numbers.now (role_marks roles.now.above) result.0 }
+    {
+        roles::concerned(self.roles, roles)
+    }
+
+    /// Whether some element and its child, or two individuals, have both sides of an exclusion of roles. With no exclusion nothing is worked out.
+    pub fn contradicts_roles(
         &self,
         roles: &RoleOrder,
-        concepts: &ConceptOrder,
-        elements: &Elements,
-        hops: &Hops,
+        generating: RoleSet,
+        edges: &FactEdges,
     ) -> bool
-        ensures { IsTrue result
-            ↔ Clashes self.now (marks roles.now concepts.now elements.now hops.now) }
+        ensures { IsTrue result ↔ RolesClash self.now.roles.numbers.now
+            (role_marks roles.now.above) generating.0
+            edges.now.facts.numbers.now edges.now.roles.0 }
     {
-        let apart = Apart::new(self.concepts);
-        if apart.break_at_individuals(&elements.individuals) {
-            return true;
+        if self.roles.is_empty() {
+            return false;
         }
-        if apart.break_at_unnamed(concepts, elements.living) {
-            return true;
-        }
-        roles::clash(self.roles, roles, elements.living, hops)
+        RoleConflicts::new(self.roles, roles).contradict(generating, edges)
     }
 }

@@ -1,27 +1,32 @@
-// Exclusions of roles: for each role the set of those that are excluded from what follows from it.
+// Exclusions of roles: for each role those that are excluded from a role that follows from it.
 
-ghost use Rattle.std.specs.Prelude.{◌≡◌, ◌<◌, ◌↔◌, IsTrue};
+ghost use Rattle.std.specs.Prelude.{◌≡◌, ◌<◌, ◌⊎◌, ◌↔◌, IsTrue};
 ghost use Rattle.kinds.specs.Kinds.{most_individuals};
 ghost use Rattle.sets.specs.Bits.{role_width, has};
 ghost use Rattle.sets.specs.Rows.{Adds, role_marks};
-ghost use Rattle.clash.specs.Parts.{BothWays, SidesListed, Bars, Joins, Raises, IsBroken, IsMet, InSet, Below, AtLink, ByHop, FromIndividual, RolesClash};
+ghost use Rattle.clash.specs.Clashes.{HaveBothSides, SomeBelow, SomeIn, ChildClashes, PairClashes, RolesClash};
+ghost use Rattle.clash.specs.Conflicts.{BothWays, SidesListed, Joins, Raises, IsUnionBelow, Excludes, AreConcerned, AreMet, ByEdge};
 
-use hops::{Hop, Hops};
+use edges::{FactEdge, FactEdges};
 use kinds::{Individual, SignedRole};
 use orders::RoleOrder;
 use sets::RoleSet;
 use tables::{RolePair, Table};
 
-// Of a table of exclusions, for each role what is excluded from a role that follows from it.
+// For each signed role the set of those that it is related to.
+type RoleRelation = [RoleSet; SignedRole::NUMBERS];
+
+// The exclusions of a table, over the order of the roles: for each role those that are excluded from a role that follows from it.
 #[derive(Clone, Copy)]
-pub struct Barred<'a> {
-    pub of: Table<'a, RolePair>,
-    pub rows: [RoleSet; SignedRole::NUMBERS],
+pub struct RoleConflicts<'a> {
+    pub exclusions: Table<'a, RolePair>,
+    pub roles: &'a RoleOrder,
+    pub excluded: RoleRelation,
 }
 
-// One exclusion, both ways; one with a number that has no row is passed over.
-#[tactic(auto, using(crate::proofs::BarLaws::stored_both, crate::proofs::BarLaws::stored_none))]
-fn mark_exclusion(rows: &mut [RoleSet; SignedRole::NUMBERS], pair: RolePair)
+// One exclusion, both ways; one with a number out of range is passed over.
+#[tactic(auto, using(crate::proofs::RoleLaws::stored_both, crate::proofs::RoleLaws::stored_none))]
+fn mark_exclusion(rows: &mut RoleRelation, pair: RolePair)
     ensures { Adds role_width role_width (role_marks rows.old) (BothWays pair)
         (role_marks rows.new) }
 {
@@ -36,7 +41,7 @@ fn mark_exclusion(rows: &mut [RoleSet; SignedRole::NUMBERS], pair: RolePair)
 
 // Every exclusion.
 #[tactic(auto, using(orders::proofs::Listing::listing_start, orders::proofs::Listing::listing_end))]
-fn mark_exclusions(rows: &mut [RoleSet; SignedRole::NUMBERS], exclusions: Table<RolePair>)
+fn mark_exclusions(rows: &mut RoleRelation, exclusions: Table<RolePair>)
     ensures { Adds role_width role_width (role_marks rows.old)
         (SidesListed exclusions.entry.numbers.now) (role_marks rows.new) }
 {
@@ -45,9 +50,9 @@ fn mark_exclusions(rows: &mut [RoleSet; SignedRole::NUMBERS], exclusions: Table<
     }
 }
 
-// What the rows of the members have.
-#[tactic(auto, using(crate::proofs::BarLaws::joining_start, crate::proofs::BarLaws::joining_more, crate::proofs::BarLaws::joining_end))]
-fn joined(rows: &[RoleSet; SignedRole::NUMBERS], members: RoleSet) -> RoleSet
+// The union of the rows of the members.
+#[tactic(auto, using(crate::proofs::RoleLaws::joining_start, crate::proofs::RoleLaws::joining_more, crate::proofs::RoleLaws::joining_end))]
+fn joined(rows: &RoleRelation, members: RoleSet) -> RoleSet
     ensures { Joins (role_marks rows.now) members.0 result.0 }
 {
     let mut out = RoleSet::EMPTY;
@@ -57,12 +62,9 @@ fn joined(rows: &[RoleSet; SignedRole::NUMBERS], members: RoleSet) -> RoleSet
     out
 }
 
-// For each role what the rows of those above it have.
-#[tactic(auto, using(crate::proofs::BarLaws::raised_start, crate::proofs::BarLaws::raised_end))]
-fn raised(
-    rows: &[RoleSet; SignedRole::NUMBERS],
-    roles: &RoleOrder,
-) -> [RoleSet; SignedRole::NUMBERS]
+// For each role the union of the rows of those that follow from it.
+#[tactic(auto, using(crate::proofs::RoleLaws::raised_start, crate::proofs::RoleLaws::raised_end))]
+fn raised(rows: &RoleRelation, roles: &RoleOrder) -> RoleRelation
     ensures { Raises (role_marks rows.now) (role_marks roles.now.above) (role_marks result) }
 {
     let mut out = [RoleSet::EMPTY; SignedRole::NUMBERS];
@@ -72,135 +74,185 @@ fn raised(
     out
 }
 
-// Some role is in both sets.
+// The union of all rows.
+#[tactic(auto, using(crate::proofs::RoleLaws::union_none, crate::proofs::RoleLaws::union_more))]
+fn union_of(rows: &RoleRelation) -> RoleSet
+    ensures { IsUnionBelow (role_marks rows.now) role_width result.0 }
+{
+    let mut out = RoleSet::EMPTY;
+    for row in rows.iter() {
+        out = out.union(*row);
+    }
+    out
+}
+
+// The roles from which something follows that is a side of an exclusion.
+#[tactic(auto, using(crate::proofs::RoleLaws::concerned_none, crate::proofs::RoleLaws::concerned_more))]
+pub(crate) fn concerned(exclusions: Table<RolePair>, roles: &RoleOrder) -> RoleSet
+    ensures { AreConcerned exclusions.entry.numbers.now (role_marks roles.now.above) result.0 }
+{
+    let mut rows = [RoleSet::EMPTY; SignedRole::NUMBERS];
+    mark_exclusions(&mut rows, exclusions);
+    let sides = union_of(&rows);
+    let mut concerned = RoleSet::EMPTY;
+    for r in 0..SignedRole::NUMBERS {
+        concerned.insert_if(SignedRole(r as u16), meet(roles.above[r], sides));
+    }
+    concerned
+}
+
+// For each role those that are excluded from a role that follows from it.
+#[tactic(auto, using(crate::proofs::RoleLaws::excludes))]
+fn excluded_from(exclusions: Table<RolePair>, roles: &RoleOrder) -> RoleRelation
+    ensures { Excludes exclusions.entry.numbers.now (role_marks roles.now.above)
+        (role_marks result) }
+{
+    let mut sides = [RoleSet::EMPTY; SignedRole::NUMBERS];
+    mark_exclusions(&mut sides, exclusions);
+    raised(&sides, roles)
+}
+
+// Whether some role is in both sets.
 fn meet(x: RoleSet, y: RoleSet) -> bool
-    ensures { IsTrue result ↔ IsMet (has x.0) (has y.0) }
+    ensures { IsTrue result ↔ AreMet (has x.0) (has y.0) }
 {
     x.intersects(y)
 }
 
-impl<'a> Barred<'a> {
-    #[tactic(auto, using(crate::proofs::BarLaws::bars))]
-    pub(crate) fn new(exclusions: Table<'a, RolePair>, roles: &RoleOrder) -> Barred<'a>
-        ensures of { result.of ≡ exclusions.entry }
-        ensures bars { Bars exclusions.entry.numbers.now (role_marks roles.now.above)
-            (role_marks result.rows) }
+impl<'a> RoleConflicts<'a> {
+    pub(crate) fn new(exclusions: Table<'a, RolePair>, roles: &'a RoleOrder) -> RoleConflicts<'a>
+        ensures exclusions { result.exclusions ≡ exclusions.entry }
+        ensures roles { result.roles ≡ roles.entry }
+        ensures excluded { Excludes exclusions.entry.numbers.now (role_marks roles.now.above)
+            (role_marks result.excluded) }
     {
-        let mut rows = [RoleSet::EMPTY; SignedRole::NUMBERS];
-        mark_exclusions(&mut rows, exclusions);
-        let above = raised(&rows, roles);
-        Barred {
-            of: exclusions,
-            rows: above,
+        let excluded = excluded_from(exclusions, roles);
+        RoleConflicts {
+            exclusions,
+            roles,
+            excluded,
         }
     }
 
-    // What follows from the role has both sides of an exclusion.
-    fn break_in(&self, roles: &RoleOrder, role: SignedRole) -> bool
+    // Whether what follows from the role has both sides of an exclusion.
+    fn break_in(&self, role: SignedRole) -> bool
         requires row { role.0 < role_width }
-        requires bars { Bars self.now.of.numbers.now (role_marks roles.now.above)
-            (role_marks self.now.rows) }
-        ensures { IsTrue result ↔ IsBroken role_width self.now.of.numbers.now
-            (role_marks roles.now.above role.0) }
+        requires conflicts { Excludes self.now.exclusions.numbers.now
+            (role_marks self.now.roles.now.above) (role_marks self.now.excluded) }
+        ensures { IsTrue result ↔ HaveBothSides role_width self.now.exclusions.numbers.now
+            (role_marks self.now.roles.now.above role.0) }
     {
         let r = role.0 as usize;
-        meet(self.rows[r], roles.above[r])
+        meet(self.excluded[r], self.roles.above[r])
     }
 
-    // An element and its child by the role have, on the way down or on the way up.
+    // Whether an element and its child by the role have, on the way down or on the way up.
     #[tactic(auto, unfolding(kinds::specs::Kinds::inverse))]
-    fn break_at_link(&self, roles: &RoleOrder, role: SignedRole) -> bool
+    fn break_at_child(&self, role: SignedRole) -> bool
         requires row { role.0 < role_width }
-        requires bars { Bars self.now.of.numbers.now (role_marks roles.now.above)
-            (role_marks self.now.rows) }
-        ensures { IsTrue result ↔ AtLink self.now.of.numbers.now (role_marks roles.now.above)
-            role.0 }
+        requires conflicts { Excludes self.now.exclusions.numbers.now
+            (role_marks self.now.roles.now.above) (role_marks self.now.excluded) }
+        ensures { IsTrue result ↔ ChildClashes self.now.exclusions.numbers.now
+            (role_marks self.now.roles.now.above) role.0 }
     {
-        self.break_in(roles, role) || self.break_in(roles, role.inverse())
+        self.break_in(role) || self.break_in(role.inverse())
     }
 
-    // Some element and its child have.
+    // Whether some element and its child by a role of the set have.
     #[tactic(auto, using(crate::proofs::SeekLaws::seek_start, crate::proofs::SeekLaws::seek_more, crate::proofs::SeekLaws::seek_here, crate::proofs::SeekLaws::seek_end))]
-    fn break_at_living(&self, roles: &RoleOrder, living: RoleSet) -> bool
-        requires { Bars self.now.of.numbers.now (role_marks roles.now.above)
-            (role_marks self.now.rows) }
-        ensures { IsTrue result ↔ InSet role_width
-            (AtLink self.now.of.numbers.now (role_marks roles.now.above)) living.0 }
+    fn break_at_children(&self, generating: RoleSet) -> bool
+        requires { Excludes self.now.exclusions.numbers.now
+            (role_marks self.now.roles.now.above) (role_marks self.now.excluded) }
+        ensures { IsTrue result ↔ SomeIn role_width
+            (ChildClashes self.now.exclusions.numbers.now (role_marks self.now.roles.now.above))
+            generating.0 }
     {
-        for role in living.iter() {
-            if self.break_at_link(roles, role) {
+        for role in generating.iter() {
+            if self.break_at_child(role) {
                 return true;
             }
         }
         false
     }
 
-    // The roles that one hop more gives its pair: some role of the pair is barred for that of the hop.
-    fn join_hop(
-        &self,
-        met: &mut [RoleSet; Individual::NUMBERS],
-        roles: &RoleOrder,
-        hop: Hop,
-    ) -> bool
-        requires role { hop.role.0 < role_width }
-        requires end { hop.to.0 < most_individuals }
+    // Whether a role that follows from some edge of the individual is excluded from what follows from some edge of it. Where none is, no pair
+    // that starts with it has both sides of an exclusion, and pairs need not be told apart.
+    fn may_break(&self, edges: &FactEdges, a: Individual) -> bool
+        requires { Excludes self.now.exclusions.numbers.now
+            (role_marks self.now.roles.now.above) (role_marks self.now.excluded) }
+        ensures { PairClashes self.now.exclusions.numbers.now edges.now.facts.numbers.now
+            edges.now.roles.0 (role_marks self.now.roles.now.above) a.0 → IsTrue result }
+    {
+        let mut follow = RoleSet::EMPTY;
+        let mut excluded = RoleSet::EMPTY;
+        for edge in edges.of(a) {
+            let r = edge.role.0 as usize;
+            follow = follow.union(self.roles.above[r]);
+            excluded = excluded.union(self.excluded[r]);
+        }
+        meet(excluded, follow)
+    }
+
+    // What follows from the role of one edge more is put into the set of its pair. Whether some role of that set is excluded from it.
+    fn join_edge(&self, met: &mut [RoleSet; Individual::NUMBERS], edge: FactEdge) -> bool
+        requires role { edge.role.0 < role_width }
+        requires to { edge.to.0 < most_individuals }
         ensures adds { Adds most_individuals role_width (role_marks met.old)
-            (ByHop (role_marks roles.now.above) hop) (role_marks met.new) }
-        ensures meets { IsTrue result ↔ IsMet (role_marks self.now.rows hop.role.0)
-            (role_marks met.new hop.to.0) }
+            (ByEdge (role_marks self.now.roles.now.above) edge) (role_marks met.new) }
+        ensures meets { IsTrue result ↔ AreMet (role_marks self.now.excluded edge.role.0)
+            (role_marks met.new edge.to.0) }
     {
-        let r = hop.role.0 as usize;
-        let b = hop.to.0 as usize;
-        met[b] = met[b].union(roles.above[r]);
-        meet(self.rows[r], met[b])
+        let r = edge.role.0 as usize;
+        let b = edge.to.0 as usize;
+        met[b] = met[b].union(self.roles.above[r]);
+        meet(self.excluded[r], met[b])
     }
 
-    // The hops from a to some individual give the pair both sides of an exclusion.
-    fn break_from(&self, roles: &RoleOrder, hops: &Hops, a: Individual) -> bool
-        requires { Bars self.now.of.numbers.now (role_marks roles.now.above)
-            (role_marks self.now.rows) }
-        ensures { IsTrue result ↔ FromIndividual self.now.of.numbers.now
-            hops.now.facts.numbers.now (role_marks roles.now.above) a.0 }
+    // Whether the edges from the individual to some other give the pair both sides of an exclusion.
+    fn break_from(&self, edges: &FactEdges, a: Individual) -> bool
+        requires { Excludes self.now.exclusions.numbers.now
+            (role_marks self.now.roles.now.above) (role_marks self.now.excluded) }
+        ensures { IsTrue result ↔ PairClashes self.now.exclusions.numbers.now
+            edges.now.facts.numbers.now edges.now.roles.0
+            (role_marks self.now.roles.now.above) a.0 }
     {
+        if !self.may_break(edges, a) {
+            return false;
+        }
         let mut met = [RoleSet::EMPTY; Individual::NUMBERS];
-        for hop in hops.of(a) {
-            if self.join_hop(&mut met, roles, hop) {
+        for edge in edges.of(a) {
+            if self.join_edge(&mut met, edge) {
                 return true;
             }
         }
         false
     }
 
-    // Some ordered pair of individuals has.
+    // Whether some ordered pair of individuals has.
     #[tactic(auto, using(crate::proofs::SeekLaws::past_none, crate::proofs::SeekLaws::past_more, crate::proofs::SeekLaws::past_here))]
-    fn break_at_hops(&self, roles: &RoleOrder, hops: &Hops) -> bool
-        requires { Bars self.now.of.numbers.now (role_marks roles.now.above)
-            (role_marks self.now.rows) }
-        ensures { IsTrue result ↔ Below most_individuals (FromIndividual
-            self.now.of.numbers.now hops.now.facts.numbers.now (role_marks roles.now.above)) }
+    fn break_at_pairs(&self, edges: &FactEdges) -> bool
+        requires { Excludes self.now.exclusions.numbers.now
+            (role_marks self.now.roles.now.above) (role_marks self.now.excluded) }
+        ensures { IsTrue result ↔ SomeBelow most_individuals
+            (PairClashes self.now.exclusions.numbers.now edges.now.facts.numbers.now
+            edges.now.roles.0 (role_marks self.now.roles.now.above)) }
     {
         for a in 0..Individual::NUMBERS {
-            if self.break_from(roles, hops, Individual(a as u16)) {
+            if self.break_from(edges, Individual(a as u16)) {
                 return true;
             }
         }
         false
     }
-}
 
-// An element and its child, or two individuals, have both sides of an exclusion. With no exclusion nothing is computed.
-pub(crate) fn clash(
-    exclusions: Table<RolePair>,
-    roles: &RoleOrder,
-    living: RoleSet,
-    hops: &Hops,
-) -> bool
-    ensures { IsTrue result ↔ RolesClash exclusions.entry.numbers.now
-        hops.now.facts.numbers.now (role_marks roles.now.above) living.0 }
-{
-    if exclusions.is_empty() {
-        return false;
+    // Whether some element and its child, or two individuals, have both sides of an exclusion.
+    pub(crate) fn contradict(&self, generating: RoleSet, edges: &FactEdges) -> bool
+        requires { Excludes self.now.exclusions.numbers.now
+            (role_marks self.now.roles.now.above) (role_marks self.now.excluded) }
+        ensures { IsTrue result ↔ RolesClash self.now.exclusions.numbers.now
+            (role_marks self.now.roles.now.above) generating.0
+            edges.now.facts.numbers.now edges.now.roles.0 }
+    {
+        self.break_at_children(generating) || self.break_at_pairs(edges)
     }
-    let barred = Barred::new(exclusions, roles);
-    barred.break_at_living(roles, living) || barred.break_at_hops(roles, hops)
 }

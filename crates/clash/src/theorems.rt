@@ -1,18 +1,19 @@
-// The theorems of this room: one answer, and it says whether the model breaks an exclusion.
-ghost use Rattle.std.specs.Prelude.{◌↔◌, Bool, IsTrue};
+// The theorems of this room: one answer each, and they say whether the canonical model has a contradiction.
+ghost use Rattle.std.specs.Prelude.{◌↔◌, Bool, ℕ, List, IsTrue};
 ghost use Rattle.kinds.specs.declared.Counts.{Counts};
 ghost use Rattle.laws.specs.Once.{AtMostOne};
 ghost use Rattle.meaning.specs.Collection.{WellFormed};
 ghost use Rattle.meaning.specs.Lent.{Tables, collection};
-ghost use Rattle.hops.specs.Meant.{AreFew};
-ghost use Rattle.clash.specs.declared.Exclusions.{Exclusions};
-ghost use Rattle.clash.specs.Clashes.{Marks, Clashes};
-ghost use Rattle.clash.specs.Meant.{ClashMeans};
+ghost use Rattle.edges.specs.Meant.{AreFew};
+ghost use Rattle.clash.specs.Meant.{Computed, Clashes, ClashMeans};
+ghost use Rattle.clash.specs.Conflicts.{AreConcerned};
 
-/// Only one value satisfies the contract.
+/// Only one value satisfies each contract.
 pub fn unique()
-    ensures one_answer { (x : Exclusions) (m : Marks) → AtMostOne (λ (answer : Bool).
-        IsTrue answer ↔ Clashes x m) }
+    ensures one_answer { (x : Computed) → AtMostOne (λ (answer : Bool).
+        IsTrue answer ↔ Clashes x) }
+    ensures one_set { (table : List ℕ) (roles : ℕ → ℕ → Bool) → AtMostOne
+        (AreConcerned table roles) }
 {}
 
 /// Of a collection whose numbers are declared, and whose role facts are not too many.

@@ -1,5 +1,5 @@
 -- `some_meets`: no member that is past has a row that meets the set.
-use Rattle.clash.specs.Parts.{MeetsRow}
+use Rattle.clash.specs.Conflicts.{MeetsRow}
 use Rattle.clash.proofs.SeekLaws.{Seeking}
 use Rattle.clash.proofs.concepts.some_meets.Given as goal
 

@@ -1,6 +1,6 @@
 -- `joined`: the set has what the rows of the members that are past have.
 use Rattle.sets.specs.Rows.{role_marks}
-use Rattle.clash.proofs.BarLaws.{Joining}
+use Rattle.clash.proofs.RoleLaws.{Joining}
 use Rattle.clash.proofs.roles.joined.Given as goal
 
 abbrev pub invariant-loop-role : goal.invariant-loop-role

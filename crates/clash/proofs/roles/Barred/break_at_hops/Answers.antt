@@ -1,6 +1,0 @@
--- `break_at_hops`: past the last individual there is none.
-use Rattle.clash.proofs.SeekLaws.{past_end}
-use Rattle.clash.proofs.roles.Barred.break_at_hops.Goals as goal
-
-pub returns : goal.returns
-returns c = past_end _ _ _ c.loop-a.invariant c.loop-a-test.false

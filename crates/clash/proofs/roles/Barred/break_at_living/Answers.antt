@@ -1,6 +1,0 @@
--- `break_at_living`: an element and its child by a role decide its turn.
-use Rattle.clash.proofs.SeekLaws.{never, seek_more}
-use Rattle.clash.proofs.roles.Barred.break_at_living.Goals as goal
-
-pub loop-role-preserved : goal.loop-role-preserved
-loop-role-preserved c = seek_more _ _ _ _ _ _ c.loop-role.invariant c.in-Some.ensures.steps (never c.break_at_link.ensures c.if-break_at_link.false)
