@@ -17,7 +17,12 @@ module _ (rows : Rows) where
     pub of : B < most_concepts
 
   pub low_of : (s t B : ℕ) → Markable K s t B → Low s t B
-  low_of s t B m = record { from = (member_out most_states rows.states.0 s m.from).0; to = (member_out most_states rows.states.0 t m.to).0; of = (member_out most_concepts rows.concepts.0 B m.of).0 }
+  low_of s t B m = record {
+    from = (member_out most_states rows.states.0 s m.from).0;
+    to =
+        (member_out most_states rows.states.0 t m.to).0;
+    of = (member_out most_concepts rows.concepts.0 B m.of).0;
+  }
 
   pub may_of : (s t B : ℕ) → Markable K s t B → May rows s t B
   may_of s t B m =

@@ -1,7 +1,7 @@
 pub mod Members
 pub mod Able
 pub mod StepLaws
-pub mod WayLaws
+pub mod TransitionLaws
 pub mod MadeLaws
 pub mod Same
 pub mod MadeMean

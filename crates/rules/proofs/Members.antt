@@ -1,24 +1,24 @@
 -- The members of a set, as a list.
 use Rattle.std.specs.Prelude.{◌≡◌, refl, Bool, true, false, ◌∷◌, ℕ, zero, suc, ◌+◌, ◌<◌, ◌≤◌, filter, cond}
 use Rattle.std.specs.List.{range_with_len}
-use Rattle.std.specs.Int.{bit_at}
-use Rattle.std.proofs.Common.{sym, ⊎_elim, arith, rules}
+use Rattle.std.proofs.Common.{sym, inl, inr, ⊎_elim, arith}
 use Rattle.std.proofs.Math.Decide.{ℕ_discrete}
+use Rattle.std.proofs.lemmas.Bool.{cases_Bool}
 use mathlib.Core.List.Memᴰ
 use mathlib.Core.List.{Memᴰ}
 use Rattle.laws.specs.Member.{◌∈◌}
 use Rattle.sets.specs.Bits.{has, Has, members}
+use Rattle.sets.proofs.RowLaws.{has_fact}
 
 pub in_from : (p : ℕ → Bool) (m a k : ℕ) → a ≤ k → k < a + m → p k ≡ true → k ∈ filter p (range_with_len a m)
 in_from p zero a k l h e = absurd (omega arith)
-in_from p (suc m) a k l h e = side (ℕ_discrete a k) (p a) refl
-    (λ ne. in_from p m (a + 1) k (omega arith) (omega arith) e)
-  where
-    side : Dec (a ≡ k) → (b : Bool) → p a ≡ b → ((a ≡ k → ⊥) → k ∈ filter p (range_with_len (a + 1) m))
-        → k ∈ cond (p a) (a ∷ filter p (range_with_len (a + 1) m)) (filter p (range_with_len (a + 1) m))
-    side (yes q) b f rest = let g : p a ≡ true = rw q e in rw g (Memᴰ.head (sym q))
-    side (no ne) true f rest = rw f (Memᴰ.tail (rest ne))
-    side (no ne) false f rest = rw f (rest ne)
+in_from p (suc m) a k l h e =
+    elim (ℕ_discrete a k) [
+      | yes q ↦ let g : p a ≡ true = rw q e in rw g (Memᴰ.head (sym q))
+      | no ne ↦
+          let rest = in_from p m (a + 1) k (omega arith) (omega arith) e in
+          elim (cases_Bool (p a)) [ inl f ↦ rw f (Memᴰ.tail rest) | inr f ↦ rw f rest ]
+    ]
 
 pub out_from : (p : ℕ → Bool) (m a k : ℕ) → k ∈ filter p (range_with_len a m) → (a ≤ k) × (k < a + m) × (p k ≡ true)
 out_from p zero a k h = absurd (Memᴰ.not-nil h)
@@ -31,14 +31,10 @@ out_from p (suc m) a k h = side (p a) refl
     side true f rest = ⊎_elim (λ q. (omega arith, omega arith, rw q f)) rest (Memᴰ.cases_cons (rw f at h))
 
 pub has_is : (n k : ℕ) → has n k ≡ true → Has n k
-has_is n k e = side (ℕ_discrete (bit_at n k) 1)
-  where
-    side : Dec (bit_at n k ≡ 1) → Has n k
-    side (yes q) = q
-    side (no q) = absurd (search (rules, e, q))
+has_is n k = (has_fact n k).0
 
 pub has_of : (n k : ℕ) → Has n k → has n k ≡ true
-has_of n k h = rw h refl
+has_of n k = (has_fact n k).1
 
 pub member_in : (w n k : ℕ) → k < w → Has n k → k ∈ members w n
 unfolding members

@@ -1,6 +1,6 @@
 -- Rows that say what a collection says have its marks, round by round.
-use Rattle.std.specs.Prelude.{◌≡◌, ◌↔◌, ℕ, zero, suc, ◌+◌}
-use Rattle.std.proofs.Common.{ap}
+use Rattle.std.specs.Prelude.{◌≡◌, refl, ◌↔◌, ℕ, zero, suc, ◌+◌}
+use Rattle.std.proofs.Common.{ap, ◌∙◌, arith}
 use Rattle.kinds.specs.declared.State.{State}
 use Rattle.kinds.specs.declared.SignedRole.{SignedRole}
 use Rattle.kinds.specs.declared.Concept.TheVariants.{Exists}
@@ -15,13 +15,14 @@ use Rattle.rules.specs.Rows.{kind_of}
 use Rattle.rules.specs.RowsOf.{RowsOf}
 use Rattle.rules.proofs.Able.{low_of}
 
--- the child of a signed role, by its number
-child_number : SignedRole → ℕ
-child_number R = base + flip R.0
-
-child_is : (R : SignedRole) → concept_of (child_number R) ≡ Exists (inverse R)
-unfolding inverse child_number
+-- the concept by which the child of a signed role is known
+child_is : (R : SignedRole) → concept_of (base + flip R.0) ≡ Exists (inverse R)
+unfolding inverse
 child_is R = role-concept (flip R.0)
+
+back : (R : SignedRole) → signed (flip R.0) ≡ inverse R
+unfolding inverse
+back R = refl
 
 module _ (𝓒 : Collection) (rows : Rows) (r : RowsOf 𝓒 rows) where
   abbrev K : Kind
@@ -43,11 +44,13 @@ module _ (𝓒 : Collection) (rows : Rows) (r : RowsOf 𝓒 rows) where
   round_to n each s t B m (joined {u = u} x y) = joined (each s u B x) (each u t B y)
   round_to n each s t B m (hung {R = link} {u = x} {v = y} c d k u) =
       let l = low_of rows s t B m in
-      let i = low_of rows x y link.to (mark-markable K n x y link.to k) in
-      let w = (r.edges_to link.to link.by i.of).0 c.listed in
+      let i = low_of rows x y (base + link.to) (mark-markable K n x y (base + link.to) k) in
+      let w = (r.edges_to link.to link.by (omega (arith, i.of))).0 c.listed in
+      let e : concept_of (base + link.to) ≡ Exists (inverse (signed link.by)) = role-concept link.to ∙ ap Exists w.1 in
       let g = r.edges link.by w.0 in
-      let a = each x y link.to k in
-      hung {R = signed link.by} {u = state x} {v = state y} ((g.parents B l.of).0 c.has) ((g.down s x l.from i.from).0 d) (rw w.1 at a) ((g.up y t i.to l.to).0 u)
+      let a = each x y (base + link.to) k in
+      hung {R = signed link.by} {u = state x} {v = state y} ((g.parents B l.of).0 c.has) ((g.down s x l.from i.from).0 d) (rw e at a)
+      ((g.up y t i.to l.to).0 u)
 
   round_from : (n : ℕ) → ((s t B : ℕ) → Mark L n (state s) (state t) (concept_of B) → Mark K n s t B) → (s t B : ℕ) → Markable K s t B
       → Round L (Mark L n) (state s) (state t) (concept_of B) → Round K (Mark K n) s t B
@@ -59,9 +62,10 @@ module _ (𝓒 : Collection) (rows : Rows) (r : RowsOf 𝓒 rows) where
       let h = r.low R (mark-markable L n x y (Exists (inverse R)) k).of in
       let g = r.edges R.0 h in
       let e = child_is R in
-      let a = each x.0 y.0 (child_number R) (rw (← e) at k) in
-      let i = low_of rows x.0 y.0 (child_number R) (mark-markable K n x.0 y.0 (child_number R) a) in
-      hung {R = record { to = child_number R; by = R.0 }} {u = x.0} {v = y.0} (record { listed = (r.edges_to (child_number R) R.0 i.of).1 (h, e); has = (g.parents B l.of).1 c })
+      let a = each x.0 y.0 (base + flip R.0) (rw (← e) at k) in
+      let i = low_of rows x.0 y.0 (base + flip R.0) (mark-markable K n x.0 y.0 (base + flip R.0) a) in
+      hung {R = record { to = flip R.0; by = R.0 }} {u = x.0} {v = y.0}
+      (record { listed = (r.edges_to (flip R.0) R.0 (omega (arith, h))).1 (h, back R); has = (g.parents B l.of).1 c })
       ((g.down s x.0 l.from i.from).1 d) a ((g.up y.0 t i.to l.to).1 u)
 
   pub mark_to : (n : ℕ) (s t B : ℕ) → Mark K n s t B → Mark L n (state s) (state t) (concept_of B)

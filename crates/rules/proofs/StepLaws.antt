@@ -29,11 +29,12 @@ module _ (f : ℕ → Step) where
     among_more (inr j) = rw (j, is) (numbered-in f (k + 1) k (omega arith))
 
     pub more_among : {e : Step} → Among (numbered f (k + 1)) e → Among (numbered f k) e ⊎ Just one e
-    more_among {e} m = let v = numbered-out f (k + 1) m in side v.0 v.1 v.2 (ℕ_discrete v.0 k)
-      where
-        side : (j : ℕ) → j < k + 1 → e ≡ f j → Dec (j ≡ k) → Among (numbered f k) e ⊎ Just one e
-        side j l p (yes q) = let g : e ≡ f k = rw q at p in inr (g ∙ sym is)
-        side j l p (no q) = inl (rw p (numbered-in f k j (omega arith)))
+    more_among {e} m =
+        let v = numbered-out f (k + 1) m in
+        elim (ℕ_discrete v.0 k) [
+          | yes q ↦ let g : e ≡ f k = rw q at v.2 in inr (g ∙ sym is)
+          | no q ↦ let l = v.1 in inl (rw v.2 (numbered-in f k v.0 (omega arith)))
+        ]
 
 -- a loop over the records of a table: P holds of the steps before the next one
 pub record Reading (P : (Step → Type 0) → Type 0) (numbers table : Bor (List ℕ)) (next : ℕ) : Type 0 where
@@ -45,15 +46,19 @@ module _ {P : (Step → Type 0) → Type 0} {numbers table : Bor (List ℕ)} whe
   pub reading_start : table ≡ numbers → P (Among (numbered (step_at numbers.now) 0)) → Reading P numbers table 0
   reading_start e p = record { same = e; within = omega arith; done = p }
 
-  pub reading_end : {next : ℕ} → Reading P numbers table next → length table.now / step_width ≤ next → P (Among (records step_width step_at numbers.now))
+  pub reading_end : {next : ℕ} → Reading P numbers table next → length table.now / step_width ≤ next
+      → P (Among (records step_width step_at numbers.now))
   unfolding records
   reading_end {next} r h =
       let l = rw r.same at h in
       let e : next ≡ length numbers.now / step_width = omega (arith, l, r.within) in
       rw e at r.done
 
-  pub reading_more : {Q : (Step → Type 0) → Type 0} {after : Bor (List ℕ)} {k next : ℕ} {one : Record} → Reading P numbers table k → IsNext step_width read_step table.now k one next
-      → after ≡ table → (step_of one ≡ step_at numbers.now k → P (Among (numbered (step_at numbers.now) k)) → Q (Among (numbered (step_at numbers.now) (k + 1))))
+  pub reading_more : {Q : (Step → Type 0) → Type 0} {after : Bor (List ℕ)} {k next : ℕ} {one : Record} → Reading P numbers table k
+      → IsNext step_width read_step table.now k one next
+      → after ≡ table
+      → (step_of one ≡ step_at numbers.now k → P (Among (numbered (step_at numbers.now) k))
+      → Q (Among (numbered (step_at numbers.now) (k + 1))))
       → Reading Q numbers after next
   reading_more {k = k} {one = one} r i e turn =
       let is = rw r.same at i.is in

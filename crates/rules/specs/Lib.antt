@@ -1,6 +1,6 @@
 pub mod Rows
 pub mod Steps
-pub mod Ways
+pub mod Transitions
 pub mod Made
 pub mod RowsOf
 pub mod Meant

@@ -11,7 +11,7 @@ use Rattle.rules.specs.declared.rows.Edge.{Edge}
 use Rattle.sets.specs.Rows.{no_concepts}
 use Rattle.rules.specs.Rows.{most_concepts, most_edges, pair, At, Lists, no_edge}
 use Rattle.rules.specs.Steps.{Among}
-use Rattle.rules.specs.Ways.{relation}
+use Rattle.sets.specs.Relations.{relation_at}
 
 -- the declared states below n, the valid concepts below n
 pub record IsStates (c : Counts) (n set : ℕ) : Type 0 where
@@ -37,23 +37,23 @@ pub record AreTests (steps : List Step) (below tests : List ConceptSet) : Type 0
   pub at : (q B : ℕ) → At tests q B ↔ Passes (Among steps) below q B
 
 -- the edge to a child that is known by "has a neighbour by R" is that of the inverse of R
-pub record IsEdgesTo (child set : ℕ) : Type 0 where
-  pub member : (e : ℕ) → Has set e ↔ ((e < most_edges) × (child ≡ base + flip e))
+pub record IsEdgesTo (R set : ℕ) : Type 0 where
+  pub member : (e : ℕ) → Has set e ↔ ((e < most_edges) × (R ≡ flip e))
 
 pub record AreEdgesTo (edges_to : List RoleSet) : Type 0 where
-  pub at : (child e : ℕ) → child < most_concepts → Lists edges_to child e
-      ↔ ((e < most_edges) × (child ≡ base + flip e))
+  pub at : (R e : ℕ) → R < most_edges → Lists edges_to R e ↔ ((e < most_edges) × (R ≡ flip e))
 
--- what is below "has a neighbour by R" has a child by R; up leads what leads along the inverse of R
-pub record IsEdge (below : List ConceptSet) (ways : List (List StateSet)) (R : ℕ)
+-- a concept below "has a neighbour by R" has a child by R; down lead the transitions of R, up those
+-- of its inverse
+pub record IsEdge (below : List ConceptSet) (transitions : List (List StateSet)) (R : ℕ)
     (e : Edge) : Type 0 where
   pub parents : e.parents ≡ slice_index_or below (base + R) no_concepts
-  pub down : e.down ≡ relation ways R
-  pub up : e.up ≡ relation ways (flip R)
+  pub down : e.down ≡ relation_at transitions R
+  pub up : e.up ≡ relation_at transitions (flip R)
 
-pub record AreEdges (below : List ConceptSet) (ways : List (List StateSet))
+pub record AreEdges (below : List ConceptSet) (transitions : List (List StateSet))
     (edges : List Edge) : Type 0 where
-  pub at : (R : ℕ) → R < most_edges → IsEdge below ways R (slice_index_or edges R no_edge)
+  pub at : (R : ℕ) → R < most_edges → IsEdge below transitions R (slice_index_or edges R no_edge)
 
 -- ---- what the loops do
 

@@ -1,12 +1,12 @@
 -- What rows of sets say: the rules' kind that they come to. Concepts, states, edges are numbers here.
-use Rattle.std.specs.Prelude.{◌≡◌, ◌↔◌, ◌⊎◌, List, [], ℕ, ◌+◌, ◌*◌, ◌<◌, length, slice_index_or}
-use Rattle.kinds.specs.Kinds.{most_states}
+use Rattle.std.specs.Prelude.{◌≡◌, ◌↔◌, ◌⊎◌, List, [], ℕ, ◌+◌, ◌<◌, length, slice_index_or}
+use Rattle.kinds.specs.Kinds.{most_states, base}
 use Rattle.theory.specs.Kind.{Kind}
 use Rattle.sets.specs.Bits.{concept_width, role_width, Has, members}
-use Rattle.sets.specs.Rows.{no_concepts, no_roles, no_states}
+use Rattle.sets.specs.Rows.{no_concepts, no_roles}
+pub use Rattle.sets.specs.Relations.{pair, At, Relates}
 use Rattle.sets.specs.declared.concepts.ConceptSet.{ConceptSet}
 use Rattle.sets.specs.declared.roles.RoleSet.{RoleSet}
-use Rattle.sets.specs.declared.states.StateSet.{StateSet}
 use Rattle.rules.specs.declared.rows.Edge.{Edge}
 use Rattle.rules.specs.declared.rows.Rows.{Rows}
 
@@ -17,19 +17,9 @@ most_concepts = concept_width
 abbrev pub most_edges : ℕ
 most_edges = role_width
 
--- where the row of a pair of states stands
-abbrev pub pair : ℕ → ℕ → ℕ
-pair s t = most_states * s + t
-
--- the concept k is in row q; the edge e is in row c; a relation of states leads from s to t
-abbrev pub At : List ConceptSet → ℕ → ℕ → Type 0
-At rows q k = Has (slice_index_or rows q no_concepts).0 k
-
+-- the edge e is in row c
 abbrev pub Lists : List RoleSet → ℕ → ℕ → Type 0
 Lists rows c e = Has (slice_index_or rows c no_roles).0 e
-
-abbrev pub Relates : List StateSet → ℕ → ℕ → Type 0
-Relates relation s t = Has (slice_index_or relation s no_states).0 t
 
 abbrev pub no_edge : Edge
 no_edge = record { parents = no_concepts; down = []; up = [] }
@@ -37,7 +27,7 @@ no_edge = record { parents = no_concepts; down = []; up = [] }
 abbrev pub edge : Rows → ℕ → Edge
 edge rows e = slice_index_or rows.edges e no_edge
 
--- an edge by its number, to a child that is known by a concept
+-- an edge by its number, to a child that is known by "has a neighbour by" a signed role
 pub record Link : Type 0 where
   pub to : ℕ
   pub by : ℕ
@@ -54,7 +44,7 @@ kind_of rows = record {
   Edge = Link;
   concepts = members most_concepts rows.concepts.0;
   states = members most_states rows.states.0;
-  end = λ link. link.to;
+  end = λ link. base + link.to;
   child = Child rows;
   test = λ B s t. At rows.tests (pair s t) B;
   down = λ link. Relates (edge rows link.by).down;

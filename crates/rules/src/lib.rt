@@ -1,10 +1,10 @@
-// All that a round knows of rules and question, as rows of sets, and how a collection makes them.
+// Tables of sets that say what a round reads of rules and question, and how a collection makes them.
 #![tactic(auto)]
 
 mod made;
 mod rows;
 pub mod theorems;
-mod ways;
+mod transitions;
 
-pub use rows::{Edge, Relation, Rows};
-pub use ways::Ways;
+pub use rows::{Edge, Rows};
+pub use transitions::{NO_TRANSITIONS, fill_transitions};

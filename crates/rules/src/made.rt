@@ -7,14 +7,10 @@ ghost use Rattle.rules.specs.Steps.{step_of, steps_of, Just, Among};
 ghost use Rattle.rules.specs.Made.{InsertsIf, IsStates, IsConcepts, Passes, IsEdgesTo, AreEdgesTo, IsEdge, AreEdges};
 
 use crate::rows::{Edge, Rows};
-use crate::ways::Ways;
 use kinds::{Concept, Counts, SignedRole, State};
-use orders::ConceptOrder;
-use sets::{ConceptSet, RoleSet, StateSet};
+use orders::ConceptRelation;
+use sets::{ConceptSet, RoleSet, Sheet, StateSet, Transitions};
 use tables::{Letter, Step, Table};
-
-// A set for each pair of states.
-type PairRows = [ConceptSet; State::PAIRS];
 
 // A state put to a set, where it is declared.
 fn with_state(set: StateSet, s: usize, counts: Counts) -> StateSet
@@ -64,9 +60,9 @@ fn concepts(counts: Counts) -> ConceptSet
     set
 }
 
-// A test step passes at each concept below its name.
-fn put_test(tests: &mut PairRows, order: &ConceptOrder, one: Step)
-    ensures { Gets (Passes (Just (step_of one)) order.now.below) tests.old tests.new }
+// A test step leads on at each concept below its name.
+fn put_test(tests: &mut Sheet, below: &ConceptRelation, one: Step)
+    ensures { Gets (Passes (Just (step_of one)) below.now) tests.old tests.new }
 {
     let s = one.from.0 as usize;
     let t = one.to.0 as usize;
@@ -77,59 +73,57 @@ fn put_test(tests: &mut PairRows, order: &ConceptOrder, one: Step)
         && (by.0 as usize) < Concept::NUMBERS
     {
         let q = State::NUMBERS * s + t;
-        tests[q] = tests[q].union(order.below[by.0 as usize]);
+        tests[q] = tests[q].union(below[by.0 as usize]);
     }
 }
 
-// Every step of a table.
-fn put_tests(tests: &mut PairRows, order: &ConceptOrder, steps: Table<Step>)
-    ensures { Gets (Passes (Among (steps_of steps.entry.numbers.now)) order.now.below) tests.old
+// Every test step of a table is put in.
+fn put_tests(tests: &mut Sheet, below: &ConceptRelation, steps: Table<Step>)
+    ensures { Gets (Passes (Among (steps_of steps.entry.numbers.now)) below.now) tests.old
         tests.new }
 {
     for step in steps.iter() {
-        put_test(tests, order, step);
+        put_test(tests, below, step);
     }
 }
 
-// A child known by "has a neighbour by R" is one by the inverse of R. By a name no child is known.
-fn edges_to(k: usize) -> RoleSet
-    requires { k < most_concepts }
-    ensures { IsEdgesTo k result.0 }
+// The edge to a child whose first concept is "has a neighbour by R": that of the inverse of R.
+fn edges_to(role: SignedRole) -> RoleSet
+    requires { role.0 < most_edges }
+    ensures { IsEdgesTo role.0 result.0 }
 {
-    match Concept::read(k as u16) {
-        Concept::Exists(by) => {
-            let back = by.inverse();
-            RoleSet::only(back)
-        }
-        Concept::Name(_) => RoleSet::EMPTY,
-    }
+    RoleSet::only(role.inverse())
 }
 
-fn put_edges_to(edges: &mut [RoleSet; Concept::NUMBERS])
+fn put_edges_to(edges: &mut [RoleSet; SignedRole::NUMBERS])
     ensures { AreEdgesTo edges.new }
 {
-    for (k, to) in edges.iter_mut().enumerate() {
-        *to = edges_to(k);
+    for (r, to) in edges.iter_mut().enumerate() {
+        *to = edges_to(SignedRole(r as u16));
     }
 }
 
-// Down the edge of a signed role goes what leads along it, back up what leads along its inverse.
-fn put_edge(edge: &mut Edge, order: &ConceptOrder, ways: &Ways, role: SignedRole)
+// The edge of a signed role: down it lead the transitions of the role, and back up those of its inverse.
+fn put_edge(edge: &mut Edge, below: &ConceptRelation, transitions: &Transitions, role: SignedRole)
     requires { role.0 < most_edges }
-    ensures { IsEdge order.now.below ways.now.by role.0 edge.new }
+    ensures { IsEdge below.now transitions.now role.0 edge.new }
 {
     let back = role.inverse();
     let up = back.0 as usize;
-    edge.parents = order.below[Concept::BASE as usize + role.0 as usize];
-    edge.down = ways.by[role.0 as usize];
-    edge.up = ways.by[up];
+    edge.parents = below[Concept::BASE as usize + role.0 as usize];
+    edge.down = transitions[role.0 as usize];
+    edge.up = transitions[up];
 }
 
-fn put_edges(edges: &mut [Edge; SignedRole::NUMBERS], order: &ConceptOrder, ways: &Ways)
-    ensures { AreEdges order.now.below ways.now.by edges.new }
+fn put_edges(
+    edges: &mut [Edge; SignedRole::NUMBERS],
+    below: &ConceptRelation,
+    transitions: &Transitions,
+)
+    ensures { AreEdges below.now transitions.now edges.new }
 {
     for (r, edge) in edges.iter_mut().enumerate() {
-        put_edge(edge, order, ways, SignedRole(r as u16));
+        put_edge(edge, below, transitions, SignedRole(r as u16));
     }
 }
 
@@ -144,24 +138,30 @@ impl Rows {
         states: StateSet::EMPTY,
         concepts: ConceptSet::EMPTY,
         tests: [ConceptSet::EMPTY; State::PAIRS],
-        edges_to: [RoleSet::EMPTY; Concept::NUMBERS],
+        edges_to: [RoleSet::EMPTY; SignedRole::NUMBERS],
         edges: [Edge::NONE; SignedRole::NUMBERS],
     };
 
     /// The rows of a collection: what it declares, what is below each concept, where each signed
     /// role leads, and its steps. What stood here before is gone.
-    pub fn fill(&mut self, counts: Counts, order: &ConceptOrder, ways: &Ways, steps: Table<Step>)
+    pub fn fill(
+        &mut self,
+        counts: Counts,
+        below: &ConceptRelation,
+        transitions: &Transitions,
+        steps: Table<Step>,
+    )
         ensures states { IsStates counts most_states self.new.states.0 }
         ensures concepts { IsConcepts counts most_concepts self.new.concepts.0 }
-        ensures tests { AreTests (steps_of steps.entry.numbers.now) order.now.below self.new.tests }
+        ensures tests { AreTests (steps_of steps.entry.numbers.now) below.now self.new.tests }
         ensures edges_to { AreEdgesTo self.new.edges_to }
-        ensures edges { AreEdges order.now.below ways.now.by self.new.edges }
+        ensures edges { AreEdges below.now transitions.now self.new.edges }
     {
         self.states = states(counts);
         self.concepts = concepts(counts);
         self.tests = [ConceptSet::EMPTY; State::PAIRS];
-        put_tests(&mut self.tests, order, steps);
+        put_tests(&mut self.tests, below, steps);
         put_edges_to(&mut self.edges_to);
-        put_edges(&mut self.edges, order, ways);
+        put_edges(&mut self.edges, below, transitions);
     }
 }

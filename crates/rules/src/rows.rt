@@ -1,16 +1,13 @@
-// What a round knows of rules and question. Another rule book only makes other rows.
+// What a round reads of rules and question. Another rule language would only fill these tables differently.
 
 ghost use Rattle.std.specs.Prelude.{◌<◌};
 ghost use Rattle.kinds.specs.Kinds.{most_states};
 ghost use Rattle.rules.specs.Rows.{IsMarkable};
 
-use kinds::{Concept, SignedRole, State};
-use sets::{ConceptSet, RoleSet, StateSet};
+use kinds::{SignedRole, State};
+use sets::{ConceptSet, Relation, RoleSet, Sheet, StateSet};
 
-/// For each state those that it is led to.
-pub type Relation = [StateSet; State::NUMBERS];
-
-/// The ways from an element to a child of it, and back.
+/// The transitions from an element to a child of it, and back to the element.
 #[derive(Clone, Copy)]
 pub struct Edge {
     /// The concepts that have a child by the edge.
@@ -33,10 +30,10 @@ pub struct Rows {
     pub concepts: ConceptSet,
 
     /// For each pair of states, the concepts at which a test step leads from the one to the other.
-    pub tests: [ConceptSet; State::PAIRS],
+    pub tests: Sheet,
 
-    /// For each concept, the edges to a child that is known by it.
-    pub edges_to: [RoleSet; Concept::NUMBERS],
+    /// For each signed role R, the edges to a child that is known by "has a neighbour by R".
+    pub edges_to: [RoleSet; SignedRole::NUMBERS],
 
     /// The edges: one for each signed role.
     pub edges: [Edge; SignedRole::NUMBERS],

@@ -16,8 +16,9 @@ use Rattle.theory.proofs.SheetLaws.{mark-markable}
 use Rattle.sets.specs.Bits.{has, members}
 use Rattle.sets.specs.declared.concepts.ConceptSet.{ConceptSet}
 use Rattle.rules.specs.declared.rows.Rows.{Rows}
-use Rattle.rules.specs.Rows.{most_concepts, pair, At, kind_of}
-use Rattle.sheet.specs.Finds.{size, total_from, total}
+use Rattle.sets.specs.Relations.{pair, At}
+use Rattle.rules.specs.Rows.{most_concepts, kind_of}
+use Rattle.sheet.specs.Pairs.{size, total_from, total}
 use Rattle.theory.specs.Marks.{Added, Adds}
 use Rattle.sheet.specs.Sheets.{Holds, place}
 use Rattle.rules.proofs.Members.{in_from, out_from, has_is, has_of, member_in, member_out}

@@ -1,307 +1,508 @@
--- The laws of a round's loops: one turn more.
-use Rattle.std.specs.Prelude.{◌≡◌, refl, ◌↔◌, ◌⊎◌, Bool, IsTrue, List, ℕ, zero, suc, ◌+◌, ◌*◌, ◌/◌, ◌%◌, ◌<◌, ◌≤◌, length, get_or, set, replicate}
-use Rattle.std.proofs.Common.{ap, ◌∙◌, inl, inr, ⊎_elim, arith, length-set, get_or-set_same, get_or-set_other, add-one}
+-- The laws of a round's loops: one number more, and what the last one leaves.
+use Rattle.std.specs.Prelude.{◌≡◌, ◌≢◌, refl, ◌↔◌, ◌⊎◌, Bool, true, false, not, IsTrue, List, [], ℕ, zero, suc, ◌+◌, ◌*◌, ◌/◌, ◌%◌, ◌-◌}
+use Rattle.std.specs.Prelude.{◌<◌, ◌≤◌, length, get_or, set, replicate}
+use Rattle.std.proofs.Common.{sym, subst, ap, ◌∙◌, inl, inr, ⊎_elim, arith, length-set, get_or-set_same, get_or-set_other, add-one}
 use Rattle.std.proofs.Math.ListN.{get_or-eq_default}
-use Rattle.std.proofs.lemmas.Nat.Bits.{bit_at-zero}
-use Rattle.std.proofs.lemmas.List.{length-replicate}
-use Rattle.sets.proofs.Laws.{members_none}
 use Rattle.std.proofs.Math.Decide.{ℕ_discrete, dec_lt}
-use Rattle.kinds.specs.Kinds.{most_states}
-use Rattle.sets.specs.Bits.{Has, IsEmpty, IsUnion, IsIntersection, TakesFirst}
+use Rattle.std.proofs.lemmas.Bool.{false≢true}
+use Rattle.std.proofs.lemmas.List.{length-replicate}
+use Rattle.laws.specs.Fill.{stored, filled_with}
+use Rattle.laws.specs.Loops.{Witness, Extends, extends_below, add_none, add_first, add_same, add_more, add_all, witness_more, each_more}
+use Rattle.kinds.specs.Kinds.{most_states, base}
+use Rattle.sets.specs.Bits.{Has, IsSetOf, IsEmpty, IsUnion, IsMinus, IsIntersection, IsLowered, IsLower, Inserts, TakesFirst, state_width}
+use Rattle.sets.specs.Rows.{no_concepts, no_states}
+use Rattle.sets.specs.Relations.{Relates, pair, At, states_at, concepts_at, relation_at, IsImage}
 use Rattle.sets.specs.declared.concepts.ConceptSet.{ConceptSet}
 use Rattle.sets.specs.declared.states.StateSet.{StateSet}
+use Rattle.sets.proofs.Laws.{members_none, none_has}
+use Rattle.sets.proofs.Gathering.{no_row, Over, over_more, over_end}
 use Rattle.rules.specs.declared.rows.Edge.{Edge}
 use Rattle.rules.specs.declared.rows.Rows.{Rows}
-use Rattle.sets.specs.Rows.{no_roles}
-use Rattle.rules.specs.Rows.{most_concepts, pair, At, Relates, May, Gets}
-use Rattle.rules.proofs.MadeLaws.{gets_none, gets_same, gets_then}
-use Rattle.sheet.specs.Finds.{Turns, Each, EachBut, Partly, Turned, Put, Join, With, LineTo, LineOf, Lines, LineBelow, ColumnAt, Column, ImageTo, Image, Only, Blank, Cleared, Through, HungBy, HungTo, Hangs, NewRow, SettledLine, Settled, First, size, total_from, total}
+use Rattle.rules.specs.Rows.{most_concepts, most_edges, Gets, IsMarkable, edge}
+use Rattle.rules.specs.Transitions.{Gains, GainsEach, Pair}
+use Rattle.rules.proofs.MadeLaws.{gets_none, gets_same}
+use Rattle.sheet.specs.Pairs.{Paired, Blank, By, ByState, Put, PutTo, Drops, IsPair, AnyOf, AnyPair, size, total_from, total}
+use Rattle.sheet.specs.declared.marks.Marks.{Marks}
+use Rattle.sheet.specs.Finds.{Join, RightFrom, Forgets, PutLoop, PutLoops, RowLoop, AllLoops, AreLoops, Trip, TripsFrom, ThroughChild}
+use Rattle.sheet.specs.Finds.{ThroughEdges, ThroughChildren, HasFrom, HasAll, NewAt, PutNew, NewFrom, AreNew, Own}
 
-abbrev empty : ConceptSet
-empty = record { 0 = 0 }
+-- ---- rows that get marks
 
--- ---- Gets
+pub gets_more : (F : ℕ → ℕ → ℕ → Type 0) {D E : ℕ → Type 0} {i : ℕ} {l m n : List ConceptSet} → Extends D i E
+    → Gets (By D F) l m → Gets (F i) m n → Gets (By E F) l n
+gets_more F x a b = record { long = b.long ∙ a.long; at = λ q k. add_more x (a.at q k) (b.at q k) }
 
-pub gets_more : (F : ℕ → ℕ → ℕ → Type 0) {l m n : List ConceptSet} (i : ℕ) → Gets (Turns F i) l m → Gets (F i) m n → Gets (Turns F (i + 1)) l n
-gets_more F i a b = gets_same to from (gets_then a b)
+pub gets_all : (F : ℕ → ℕ → ℕ → Type 0) {D E : ℕ → Type 0} {l m : List ConceptSet} → ((i : ℕ) → D i ↔ E i) → Gets (By D F) l m
+    → Gets (By E F) l m
+gets_all F same a = record { long = a.long; at = λ q k. add_all same (a.at q k) }
+
+-- one state more, and one member of a set more; all members
+pub state_more : (F : ℕ → ℕ → ℕ → Type 0) (n : ℕ) {l m k : List ConceptSet} → Gets (By (λ i. i < n) F) l m → Gets (F n) m k
+    → Gets (By (λ i. i < n + 1) F) l k
+state_more F n a b = gets_more F (extends_below n) a b
+
+pub member_more : (F : ℕ → ℕ → ℕ → Type 0) {w set rest i next : ℕ} {l m n : List ConceptSet} → Over set rest (λ D. Gets (By D F) l m)
+    → TakesFirst w rest i next
+    → Gets (F i) m n → Over set next (λ D. Gets (By D F) l n)
+member_more F v t a = over_more v t (λ x b. gets_more F x b a)
+
+pub members_end : (F : ℕ → ℕ → ℕ → Type 0) {set rest : ℕ} {l m : List ConceptSet} → Over set rest (λ D. Gets (By D F) l m) → IsEmpty rest
+    → Gets (By (Has set) F) l m
+members_end F v none = over_end v none (λ same a. gets_all F same a)
+
+-- an empty row adds nothing
+pub put_none : (i row : ℕ) (l : List ConceptSet) → IsEmpty row → Gets (Put i row) l l
+put_none i row l none = gets_none _ l (λ q k p. none k p.has)
+
+pub put_one : (l : List ConceptSet) (i : ℕ) (v : ConceptSet) (row : ℕ) → i < length l → IsUnion (get_or l i no_concepts).0 row v.0
+    → Gets (Put i row) l (set l i v)
+put_one l i v row h u = record {
+  long = length-set l i v;
+  at = stored (λ q x. (k : ℕ) → Has x.0 k ↔ (At l q k ⊎ Put i row q k)) l i v no_concepts h
+      (λ k. (
+        λ x. ⊎_elim (λ y. inl y) (λ y. inr (record { there = refl; has = y })) ((u.member k).0 x),
+        ⊎_elim (λ y. (u.member k).1 (inl y)) (λ p. (u.member k).1 (inr p.has)),
+      )) (λ q ne k. (λ x. inl x, ⊎_elim (λ x. x) (λ p. absurd (ne p.there))));
+}
+
+-- ---- rows and their pairs
+
+module _ (rows : List ConceptSet) (pairs : List StateSet) (p : Paired rows pairs) (s t : ℕ) (hs : s < most_states) (ht : t < most_states)
+    (v : StateSet)
+    (long : s < length pairs) (i : Inserts state_width (states_at pairs s) t v.0) where
+  keeps : (a b : ℕ) → Relates pairs a b → Relates (set pairs s v) a b
+  keeps a b = stored (λ k x. Relates pairs k b → Has x.0 b) pairs s v no_states long (λ h. (i.member b).1 (inl h)) (λ k ne h. h) a
+
+  pub paired_put : (row : ℕ) (new : List ConceptSet) → Gets (Put (pair s t) row) rows new → Paired new (set pairs s v)
+  paired_put row new g = record {
+    has = λ a b k ha hb x. ⊎_elim (λ old. keeps a b (p.has a b k ha hb old)) (own a b k ha hb) ((g.at (pair a b) k).0 x);
+    low = λ a b. stored (λ k x. Has x.0 b → b < most_states) pairs s v no_states long
+        (λ h. ⊎_elim (λ o. p.low s b o) (λ e. let q = e.0 in omega arith) ((i.member b).0 h)) (λ k ne h. p.low k b h) a;
+  }
+    where
+      own : (a b k : ℕ) → a < most_states → b < most_states → Put (pair s t) row (pair a b) k → Relates (set pairs s v) a b
+      own a b k ha hb x =
+          let e = x.there in
+          let q : a ≡ s = omega arith in
+          let r : b ≡ t = omega arith in
+          stored (λ k x. k ≡ s → Has x.0 b) pairs s v no_states long (λ z. (i.member b).1 (inr (r, omega arith)))
+          (λ k ne z. absurd (ne z)) a q
+
+-- the same for each t of a set
+pub put_low : (row s t : ℕ) {l m : List ConceptSet} → t < most_states → Gets (Put (pair s t) row) l m → Gets (PutTo row s t) l m
+put_low row s t h a =
+    gets_same (λ q k p. record { low = h; there = p.there; has = p.has }) (λ q k p. record { there = p.there; has = p.has }) a
+
+pub paired_all : (rows : List ConceptSet) (pairs : List StateSet) (s to row : ℕ) (v : StateSet) (new : List ConceptSet)
+    → Paired rows pairs → s < most_states
+    → ((t : ℕ) → Has to t → t < most_states) → s < length pairs → IsUnion (states_at pairs s) to v.0
+    → Gets (By (Has to) (PutTo row s)) rows new
+    → Paired new (set pairs s v)
+paired_all rows pairs s to row v new p hs low long u g = record {
+  has = λ a b k ha hb x. ⊎_elim (λ old. keeps a b (p.has a b k ha hb old)) (own a b k ha hb) ((g.at (pair a b) k).0 x);
+  low = λ a b. stored (λ k x. Has x.0 b → b < most_states) pairs s v no_states long
+      (λ h. ⊎_elim (λ o. p.low s b o) (λ o. low b o) ((u.member b).0 h))
+      (λ k ne h. p.low k b h) a;
+}
   where
-    to : (q k : ℕ) → Turns F i q k ⊎ F i q k → Turns F (i + 1) q k
-    to q k (inl w) = (w.0, (let h = w.1 in omega arith), w.2)
-    to q k (inr h) = (i, omega arith, h)
+    keeps : (a b : ℕ) → Relates pairs a b → Relates (set pairs s v) a b
+    keeps a b = stored (λ k x. Relates pairs k b → Has x.0 b) pairs s v no_states long (λ h. (u.member b).1 (inl h)) (λ k ne h. h) a
 
-    from : (q k : ℕ) → Turns F (i + 1) q k → Turns F i q k ⊎ F i q k
-    from q k w = side (ℕ_discrete w.0 i)
-      where
-        side : Dec (w.0 ≡ i) → Turns F i q k ⊎ F i q k
-        side (yes e) = let h = w.2 in inr (rw e at h)
-        side (no ne) = inl (w.0, (let h = w.1 in omega arith), w.2)
+    own : (a b k : ℕ) → a < most_states → b < most_states → By (Has to) (PutTo row s) (pair a b) k → Relates (set pairs s v) a b
+    own a b k ha hb w =
+        let t = w.number in
+        let e = w.holds.there in
+        let ht = w.holds.low in
+        let q : a ≡ s = omega arith in
+        let r : b ≡ t = omega arith in
+        let h = w.of in
+        stored (λ k x. k ≡ s → Has x.0 b) pairs s v no_states long (λ z. (u.member b).1 (inr (rw r h))) (λ k ne z. absurd (ne z)) a q
 
--- ---- joins
+-- those of them that have a row
+pub low_all : (row s to low : ℕ) {l m : List ConceptSet} → IsLower most_states to low → Gets (By (Has low) (PutTo row s)) l m
+    → Gets (By (Has to) (PutTo row s)) l m
+low_all row s to low i g =
+    gets_same (λ q k w. record { number = w.number; of = ((i.member w.number).0 w.of).1; holds = w.holds })
+    (λ q k w. record { number = w.number; of = (i.member w.number).1 (w.holds.low, w.of); holds = w.holds }) g
 
-pub join_is : (sheet : List ConceptSet) (row i j on : ℕ) {l m : List ConceptSet} → IsIntersection row (get_or sheet j empty).0 on → Gets (Put i on) l m → Gets (Join sheet row i j) l m
-join_is sheet row i j on b a =
+pub nowhere : (n s t : ℕ) → Relates (replicate n no_states) s t → ⊥
+nowhere n s t x = none_has t (rw (filled_with no_states n s, states_at) at x)
+
+pub blank_paired : (rows : List ConceptSet) (n : ℕ) → Blank rows → Paired rows (replicate n no_states)
+blank_paired rows n b = record { has = λ s t k hs ht x. absurd (b.none (pair s t) k x); low = λ s t x. absurd (nowhere n s t x) }
+
+pub blank_rows : (n : ℕ) → n ≡ most_states * most_states → Blank (replicate n no_concepts)
+blank_rows n e = record {
+  long = length-replicate n no_concepts ∙ e;
+  none = λ q k x. none_has k
+      (rw (filled_with no_concepts n q, concepts_at) at x);
+}
+
+-- ---- rows that drop marks
+
+pub drops_more : (F : ℕ → ℕ → Type 0) {D E : ℕ → Type 0} {i : ℕ} {l m n : List ConceptSet} → Extends D i E
+    → Drops (AnyOf D F) l m → Drops (F i) m n → Drops (AnyOf E F) l n
+drops_more F x a b = record {
+  long = b.long ∙ a.long;
+  at = λ q k h. let y = b.at q k h in let z = a.at q k y.0 in (z.0, λ w. ⊎_elim z.1 y.1 ((witness_more x).0 w));
+}
+
+pub drops_all : (F : ℕ → ℕ → Type 0) {D E : ℕ → Type 0} {l m : List ConceptSet} → ((i : ℕ) → D i ↔ E i) → Drops (AnyOf D F) l m
+    → Drops (AnyOf E F) l m
+drops_all F same a = record {
+  long = a.long;
+  at = λ q k h. let z = a.at q k h in (z.0, λ w. z.1 (record { number = w.number; of = (same w.number).1 w.of; holds = w.holds }));
+}
+
+pub drops_one : (s t : ℕ) (l : List ConceptSet) → pair s t < length l → Drops (IsPair s t) l (set l (pair s t) no_concepts)
+drops_one s t l h = record {
+  long = length-set l (pair s t) no_concepts;
+  at = stored (λ q x. (k : ℕ) → Has x.0 k → At l q k × (q ≡ pair s t → ⊥)) l (pair s t) no_concepts no_concepts h
+      (λ k x. absurd (none_has k x)) (λ q ne k x. (x, ne));
+}
+
+pub all_dropped : (rows new : List ConceptSet) (pairs : List StateSet) → Paired rows pairs → length rows ≡ most_states * most_states
+    → Drops (AnyPair pairs) rows new → Blank new
+all_dropped rows new pairs p long d = record {
+  long = d.long ∙ long;
+  none = λ q k x. let y = d.at q k x in side q k y.0 y.1
+      (dec_lt q (most_states * most_states));
+}
+  where
+    side : (q k : ℕ) → At rows q k → (AnyPair pairs q → ⊥) → Dec (q < most_states * most_states) → ⊥
+    side q k x never (yes h) =
+        let s = q / most_states in
+        let t = q % most_states in
+        let e : q ≡ pair s t = omega arith in
+        never (record {
+          number = s;
+          of = omega arith;
+          holds = record {
+            number = t;
+            of = p.has s t k (omega arith) (omega arith)
+                (rw e at x);
+            holds = e;
+          };
+        })
+    side q k x never (no h) = none_has k (rw (get_or-eq_default rows no_concepts {n = q} (omega (arith, long)), concepts_at) at x)
+
+-- ---- where two marks meet
+
+pub join_is : (rows : List ConceptSet) (row i j on : ℕ) {l m : List ConceptSet} → IsIntersection row (get_or rows j no_concepts).0 on
+    → Gets (Put i on) l m → Gets (Join rows row i j) l m
+join_is rows row i j on b a =
     gets_same (λ q k p. let w = (b.member k).0 p.has in record { there = p.there; has = w.0; goes = w.1 })
     (λ q k p. record { there = p.there; has = (b.member k).1 (p.has, p.goes) }) a
 
--- ---- columns and ways
+pub right_none : (sheet : Marks) (row s u r : ℕ) (l : List ConceptSet) → r < most_states → s < most_states → (Relates sheet.pairs r s → ⊥)
+    → Gets (RightFrom sheet row s u r) l l
+right_none sheet row s u r l hr hs none = gets_none _ l (λ q k p. none (sheet.paired.has r s k hr hs p.goes))
 
-zero_none : (i : ℕ) → Has 0 i → ⊥
-zero_none i p = let z = bit_at-zero i in absurd (omega arith)
+-- a test that is false
+pub not_so : {P : Type 0} (b : Bool) → IsTrue b ↔ P → b ≡ false → P → ⊥
+not_so b o e p = false≢true (sym e ∙ o.1 p)
 
-pub column_more : (fresh : List ConceptSet) (child s u out : ℕ) (on : Bool) (r : ℕ) → ColumnAt fresh child s u out
-    → IsTrue on ↔ At fresh (pair s u) child → With out u on r → ColumnAt fresh child s (u + 1) r
-column_more fresh child s u out on r c o w = record {
-  to = λ v. (
-    λ h. ⊎_elim (λ p. let a = (c.to v).0 p in (let l = a.0 in omega arith, a.1)) (λ p. let e = p.0 in (omega arith, rw e (o.0 p.1))) ((w.member v).0 h),
-    λ p. side v p (ℕ_discrete v u),
-  );
+-- ---- down to a child, and back up
+
+-- relations of roles that get loops
+pub each_gets_more : (F : ℕ → ℕ → ℕ → ℕ → Type 0) {D E : ℕ → Type 0} {i : ℕ} {l m n : List (List StateSet)} → Extends D i E
+    → GainsEach (λ R a b. Witness D (λ j. F j R a b)) l m → GainsEach (F i) m n → GainsEach (λ R a b. Witness E (λ j. F j R a b)) l n
+each_gets_more F x g h = record { long = h.long ∙ g.long; at = λ R a b. add_more x (g.at R a b) (h.at R a b) }
+
+pub each_gets_all : (F : ℕ → ℕ → ℕ → ℕ → Type 0) {D E : ℕ → Type 0} {l m : List (List StateSet)} → ((i : ℕ) → D i ↔ E i)
+    → GainsEach (λ R a b. Witness D (λ j. F j R a b)) l m → GainsEach (λ R a b. Witness E (λ j. F j R a b)) l m
+each_gets_all F same g = record { long = g.long; at = λ R a b. add_all same (g.at R a b) }
+
+pub row_loops : (rows : List ConceptSet) (s t roles : ℕ) {l m : List (List StateSet)}
+    → IsLowered base (get_or rows (pair s t) no_concepts).0 roles
+    → GainsEach (PutLoops (Has roles) s t) l m → GainsEach (RowLoop rows s t) l m
+row_loops rows s t roles i g = record {
+  long = g.long;
+  at = λ R a b. add_same (λ w. to R a b w.number w.of w.holds)
+      (λ p. record { number = R; of = (i.member R).1 p.marked; holds = record { low = p.low; of = refl; from = p.from; to = p.to } })
+      (g.at R a b);
 }
   where
-    side : (v : ℕ) → (v < u + 1) × At fresh (pair s v) child → Dec (v ≡ u) → Has r v
-    side v p (yes e) = let m = p.1 in (w.member v).1 (inr (e, o.1 (rw e at m)))
-    side v p (no ne) = (w.member v).1 (inl ((c.to v).1 ((let l = p.0 in omega arith), p.1)))
+    to : (R a b j : ℕ) → Has roles j → PutLoop s t j R a b → RowLoop rows s t R a b
+    to R a b j h p = let e = p.of in record { low = rw e p.low; from = p.from; to = p.to; marked = rw e ((i.member j).0 h) }
 
-pub through_is : (column : List StateSet) (edge : Edge) (s half r : ℕ) → Image column (get_or edge.down s (record { 0 = 0 })).0 half
-    → Image edge.up half r → Through column edge s r
-through_is column edge s half r a b = record {
-  to = λ t. (
-    λ h. let w = (b.to t).0 h in let v = (a.to w.0).0 w.2 in record { x = v.0; y = w.0; x_low = v.1; y_low = w.1; down = v.2; along = v.3; up = w.3 },
-    λ w. (b.to t).1 (w.y, w.y_low, (a.to w.y).1 (w.x, w.x_low, w.down, w.along), w.up),
+-- relations of roles that are forgotten
+pub forgets_more : {D E : ℕ → Type 0} {i : ℕ} {l m n : List (List StateSet)} → Extends D i E → Forgets D l m → Forgets (λ R. R ≡ i) m n
+    → Forgets E l n
+forgets_more x a b = record {
+  long = b.long ∙ a.long;
+  at = λ R s t h. let y = b.at R s t h in let z = a.at R s t y.0 in (z.0, λ e. ⊎_elim z.1 y.1 (x.only R e));
+}
+
+pub forgets_all : {D E : ℕ → Type 0} {l m : List (List StateSet)} → ((i : ℕ) → D i ↔ E i) → Forgets D l m → Forgets E l m
+forgets_all same a = record { long = a.long; at = λ R s t h. let z = a.at R s t h in (z.0, λ e. z.1 ((same R).1 e)) }
+
+pub forgets_one : (n i : ℕ) (l : List (List StateSet)) → i < length l → Forgets (λ R. R ≡ i) l (set l i (replicate n no_states))
+forgets_one n i l h = record {
+  long = length-set l i (replicate n no_states);
+  at = stored (λ R r. (s t : ℕ) → Relates r s t → Relates (relation_at l R) s t × (R ≡ i → ⊥)) l i (replicate n no_states) [] h
+      (λ s t x. absurd (nowhere n s t x)) (λ R ne s t x. (x, ne));
+}
+
+pub gathered : (marks : Marks) (roles : ℕ) (old cleared new : List (List StateSet)) → Forgets (Has roles) old cleared
+    → GainsEach (AllLoops marks) cleared new → AreLoops marks roles new
+gathered marks roles old cleared new f g = record { at = λ R a b h. add_first (λ x. (f.at R a b x).1 h) (g.at R a b) }
+
+pub trips_are : (loops : List StateSet) (edge : Edge) (s half r : ℕ) → IsImage (Relates loops) (states_at edge.down s) half
+    → IsImage (Relates edge.up) half r
+    → IsSetOf (Trip loops edge s) r
+trips_are loops edge s half r a b = record {
+  member = λ t. (
+    λ h. let w = (b.member t).0 h in let v = (a.member w.number).0 w.of in
+        record { x = v.number; y = w.number; down = v.of; along = v.holds; up = w.holds },
+    λ w. (b.member t).1
+        (record { number = w.y; of = (a.member w.y).1 (record { number = w.x; of = w.down; holds = w.along }); holds = w.up }),
   );
 }
 
--- a walk over the members of a set
-pub part_more : (w set rest y next : ℕ) → Partly set rest → TakesFirst w rest y next → Partly set next
-part_more w set rest y next p t = record { member = λ i h. p.member i ((t.rest.member i).0 h).0 }
+pub leads_more : (relation : List StateSet) (n all x : ℕ) → ((s t : ℕ) → s < n → Relates relation s t → Has all t)
+    → IsUnion all (states_at relation n) x
+    → (s t : ℕ) → s < n + 1 → Relates relation s t → Has x t
+leads_more relation n all x before u s t h r = elim (ℕ_discrete s n) [
+  | yes e ↦ (u.member t).1 (inr (rw e at r))
+  | no ne ↦ (u.member t).1 (inl (before s t (omega arith) r))
+]
 
-turn_out : (w set rest y next : ℕ) (F : ℕ → Type 0) → Partly set rest → TakesFirst w rest y next → Turned set next F → Turned set rest F ⊎ F y
-turn_out w set rest y next F p t v = side (ℕ_discrete v.i y)
+-- past the last row a relation leads nowhere
+low_start : (relation : List StateSet) (n s t : ℕ) → length relation ≤ n → Relates relation s t → s < n
+low_start relation n s t h r = elim (dec_lt s n) [ yes l ↦ l | no g ↦ absurd (none_has t (rw (no_row relation s (omega arith)) at r)) ]
+
+pub leads_end : (relation : List StateSet) (n all : ℕ) (b : Bool) → length relation ≤ n
+    → ((s t : ℕ) → s < n → Relates relation s t → Has all t) → IsTrue b ↔ IsEmpty all
+    → (s t : ℕ) → Relates relation s t → IsTrue (not b)
+leads_end relation n all b h each o s t r = any b o
   where
-    side : Dec (v.i ≡ y) → Turned set rest F ⊎ F y
-    side (yes e) = let f = v.finds in inr (rw e at f)
-    side (no ne) = inl (record { i = v.i; in_set = v.in_set; come = λ h. v.come ((t.rest.member v.i).1 (h, ne)); finds = v.finds })
+    any : (b : Bool) → IsTrue b ↔ IsEmpty all → IsTrue (not b)
+    any true o = absurd (o.0 refl t (each s t (low_start relation n s t h r) r))
+    any false o = refl
 
-turn_in : (w set rest y next : ℕ) (F : ℕ → Type 0) → Partly set rest → TakesFirst w rest y next → Turned set rest F ⊎ F y → Turned set next F
-turn_in w set rest y next F p t (inl v) = record { i = v.i; in_set = v.in_set; come = λ h. v.come ((t.rest.member v.i).0 h).0; finds = v.finds }
-turn_in w set rest y next F p t (inr f) = record { i = y; in_set = p.member y t.member; come = λ h. ((t.rest.member y).0 h).1 refl; finds = f }
-
-pub part_start : (set : ℕ) → Partly set set
-part_start set = record { member = λ i h. h }
-
-pub image_more : (relation : List StateSet) (from y out x r : ℕ) (on : Bool) → ImageTo relation from y out → IsTrue on ↔ Has from y
-    → Only (get_or relation y (record { 0 = 0 })).0 on x → IsUnion out x r → ImageTo relation from (y + 1) r
-image_more relation from y out x r on i o w u = record { to = λ t. (λ h. ⊎_elim (old t) (new t) ((u.member t).0 h), λ v. back t v (ℕ_discrete v.0 y)) }
+-- an edge that leads nowhere, down or up
+pub edge_none : (loops : List StateSet) (edge : Edge) (l : List ConceptSet) (d u : Bool) → not d ≡ true ⊎ not u ≡ true
+    → ((s t : ℕ) → Relates edge.down s t → IsTrue d) → ((s t : ℕ) → Relates edge.up s t → IsTrue u)
+    → Gets (ByState (TripsFrom loops edge)) l l
+edge_none loops edge l d u none down up =
+    gets_none _ l
+    (λ q k w. let v = w.holds.of in ⊎_elim (λ e. never d e (down w.number v.x v.down))
+    (λ e. never u e (up v.y w.holds.number v.up)) none)
   where
-    old : (t : ℕ) → Has out t → (z : ℕ) × (z < y + 1) × Has from z × Relates relation z t
-    old t h = let v = (i.to t).0 h in let l = v.1 in (v.0, omega arith, v.2, v.3)
+    never : (b : Bool) → not b ≡ true → IsTrue b → ⊥
+    never true e t = false≢true e
+    never false e t = false≢true t
 
-    new : (t : ℕ) → Has x t → (z : ℕ) × (z < y + 1) × Has from z × Relates relation z t
-    new t h = let v = (w.member t).0 h in (y, omega arith, o.0 v.0, v.1)
+pub concepts_more : (rows : List ConceptSet) (s i all x : ℕ) {D E : ℕ → Type 0} → Extends D i E → HasFrom rows D s all
+    → IsUnion all (get_or rows (pair s i) no_concepts).0 x
+    → HasFrom rows E s x
+concepts_more rows s i all x e h u = record {
+  has = each_more e (λ t d k a. (u.member k).1 (inl (h.has t d k a)))
+      (λ k a. (u.member k).1 (inr a));
+}
 
-    back : (t : ℕ) → (v : (z : ℕ) × (z < y + 1) × Has from z × Relates relation z t) → Dec (v.0 ≡ y) → Has r t
-    back t v (yes e) = let a = v.2 in let b = v.3 in (u.member t).1 (inr ((w.member t).1 (o.1 (rw e at a), rw e at b)))
-    back t v (no ne) = let l = v.1 in (u.member t).1 (inl ((i.to t).1 (v.0, omega arith, v.2, v.3)))
+pub from_more : (marks : Marks) (i all one x : ℕ) {D E : ℕ → Type 0} → Extends D i E → HasAll marks D all
+    → HasFrom marks.rows (Has (states_at marks.pairs i)) i one
+    → IsUnion all one x → HasAll marks E x
+from_more marks i all one x e h f u = record {
+  has = each_more e (λ s d. record { has = λ t m k a. (u.member k).1 (inl ((h.has s d).has t m k a)) })
+      (record { has = λ t m k a. (u.member k).1 (inr (f.has t m k a)) });
+}
 
-pub each_start : (set : ℕ) (F : ℕ → ℕ → ℕ → Type 0) (l : List ConceptSet) → Gets (EachBut set set F) l l
-each_start set F l = gets_none _ l (λ q k v. v.come v.in_set)
-
-pub each_more : (w set rest y next : ℕ) (F : ℕ → ℕ → ℕ → Type 0) {l m n : List ConceptSet} → Partly set rest → TakesFirst w rest y next
-    → Gets (EachBut set rest F) l m → Gets (F y) m n → Gets (EachBut set next F) l n
-each_more w set rest y next F p t a b =
-    gets_same (λ q k v. turn_in w set rest y next (λ i. F i q k) p t v) (λ q k v. turn_out w set rest y next (λ i. F i q k) p t v) (gets_then a b)
-
-pub each_end : (set rest : ℕ) (F : ℕ → ℕ → ℕ → Type 0) {l m : List ConceptSet} → IsEmpty rest → Gets (EachBut set rest F) l m → Gets (Each set F) l m
-each_end set rest F e a = gets_same (λ q k v. (v.i, v.in_set, v.finds)) (λ q k v. record { i = v.0; in_set = v.1; come = e v.0; finds = v.2 }) a
-
--- ---- the edges to one child
-
-pub no_roles_to : (fresh : List ConceptSet) (rows : Rows) (child : ℕ) (l : List ConceptSet) → IsEmpty (get_or rows.edges_to child no_roles).0
-    → Gets (HungTo fresh rows child) l l
-no_roles_to fresh rows child l none = gets_none _ l (λ q k h. none h.e h.listed)
-
-pub hung_to : (fresh : List ConceptSet) (rows : Rows) (child : ℕ) (column : List StateSet) {l m : List ConceptSet} → child < most_concepts
-    → Column fresh child column → Gets (Each (get_or rows.edges_to child no_roles).0 (HungBy column rows)) l m → Gets (HungTo fresh rows child) l m
-hung_to fresh rows child column low c a = gets_same to from a
+-- the roles are those of all concepts of the delta, and each has its loops
+pub children_all : (delta : Marks) (rows : Rows) (all roles : ℕ) (loops : List (List StateSet)) {l m : List ConceptSet}
+    → HasAll delta (λ s. s < most_states) all
+    → IsLowered base all roles → AreLoops delta roles loops → Gets (By (Has roles) (ThroughEdges loops rows)) l m
+    → Gets (ThroughChildren delta.rows rows) l m
+children_all delta rows all roles loops has i are g = gets_same to from g
   where
-    to : (q k : ℕ) → Each (get_or rows.edges_to child no_roles).0 (HungBy column rows) q k → HungTo fresh rows child q k
-    to q k (e, listed, (s, hs, w)) =
-        let v = w.way in record {
-          e = e;
-          s = s;
-          t = w.t;
-          s_low = hs;
-          child_low = low;
-          listed = listed;
-          loop = record {
-            x = v.x;
-            y = v.y;
-            x_low = v.x_low;
-            y_low = v.y_low;
-            down = v.down;
-            along = (((c.at v.x v.x_low).to v.y).0 v.along).1;
-            up = v.up;
-          };
-          hung = w.hung;
+    trip : (R e q k : ℕ) → Has roles R → (w : ByState (TripsFrom (relation_at loops R) (edge rows e)) q k)
+        → ThroughChild delta.rows (edge rows e) R q k
+    trip R e q k h w =
+        let v = w.holds in
+        let t = v.of in
+        let m = (are.at R t.x t.y h).0 t.along in
+        let n = m.holds in
+        let p = n.holds.from in
+        let o = n.holds.to in
+        let y = delta.paired.low m.number n.number n.of in
+        let x = m.of in
+        let marked = n.holds.marked in
+        let e : pair t.x t.y ≡ pair m.number n.number = omega (arith, p, o) in
+        record {
+          s = w.number;
+          x = t.x;
+          y = t.y;
+          t = v.number;
+          s_low = w.of;
+          x_low = omega (arith, p, x);
+          y_low = omega (arith, o, y);
+          role_low = n.holds.low;
+          down = t.down;
+          along = subst (λ q. At delta.rows q (base + R)) (sym e) marked;
+          up = t.up;
+          parents = v.holds;
         }
 
-    from : (q k : ℕ) → HungTo fresh rows child q k → Each (get_or rows.edges_to child no_roles).0 (HungBy column rows) q k
-    from q k h =
-        let w = h.loop in (
-          h.e,
-          h.listed,
-          (
-            h.s,
-            h.s_low,
-            record {
-              t = h.t;
-              way = record {
-                x = w.x;
-                y = w.y;
-                x_low = w.x_low;
-                y_low = w.y_low;
-                down = w.down;
-                along = ((c.at w.x w.x_low).to w.y).1 (w.y_low, w.along);
-                up = w.up;
-              };
-              hung = h.hung;
-            },
-          ),
-        )
+    to : (q k : ℕ) → By (Has roles) (ThroughEdges loops rows) q k → ThroughChildren delta.rows rows q k
+    to q k w = let e = w.holds in (w.number, record { number = e.number; of = e.of; holds = trip w.number e.number q k w.of e.holds })
 
--- only a concept that has a line is gone by
-pub hangs_all : (fresh lines : List ConceptSet) (rows : Rows) (all : ℕ) {l m : List ConceptSet} → Lines fresh lines → LineBelow lines most_states all
-    → Gets (Each all (HungTo fresh rows)) l m → Gets (Hangs fresh rows) l m
-hangs_all fresh lines rows all f b a =
-    gets_same (λ q k w. (w.0, w.2))
-    (λ q k w. let h = w.1.loop in (w.0, b.has h.x w.0 h.x_low ((f.of h.x h.x_low).has h.y w.0 h.y_low h.along), w.1)) a
+    back : (R e q k : ℕ) → Has roles R → ThroughChild delta.rows (edge rows e) R q k
+        → ByState (TripsFrom (relation_at loops R) (edge rows e)) q k
+    back R e q k h w = record {
+      number = w.s;
+      of = w.s_low;
+      holds = record {
+        number = w.t;
+        of = record {
+          x = w.x;
+          y = w.y;
+          down = w.down;
+          along = (are.at R w.x w.y h).1 (record {
+            number = w.x;
+            of = w.x_low;
+            holds = record {
+              number = w.y;
+              of = delta.paired.has w.x w.y (base + R) w.x_low w.y_low w.along;
+              holds = record { low = w.role_low; from = refl; to = refl; marked = w.along };
+            };
+          });
+          up = w.up;
+        };
+        holds = w.parents;
+      };
+    }
+
+    from : (q k : ℕ) → ThroughChildren delta.rows rows q k → By (Has roles) (ThroughEdges loops rows) q k
+    from q k (R, w) =
+        let v = w.holds in
+        let h = (i.member R).1
+        ((has.has v.x v.x_low).has v.y (delta.paired.has v.x v.y (base + R) v.x_low v.y_low v.along) (base + R) v.along) in
+        record { number = R; of = h; holds = record { number = w.number; of = w.of; holds = back R w.number q k h v } }
 
 -- ---- what is new
 
-pub no_zero : IsEmpty 0
-no_zero = zero_none
-
-pub line_more : (rows : List ConceptSet) (s t : ℕ) (v : ConceptSet) (line r : ℕ) → LineTo rows s t line → pair s t < length rows → IsUnion line v.0 r
-    → LineTo (set rows (pair s t) v) s (t + 1) r
-line_more rows s t v line r d h u = record { has = λ a k l x. side a k l x (ℕ_discrete a t) }
-  where
-    side : (a k : ℕ) → a < t + 1 → At (set rows (pair s t) v) (pair s a) k → Dec (a ≡ t) → Has r k
-    side a k l x (yes e) = let y = rw e at x in (u.member k).1 (inr (rw (get_or-set_same rows (pair s t) v empty h) at y))
-    side a k l x (no ne) = (u.member k).1 (inl (d.has a k (omega arith) (rw (get_or-set_other rows (pair s t) (pair s a) v empty (λ q. ne (omega arith))) at x)))
-
-pub settle_more : (rows : Rows) (sheet : List ConceptSet) (s t : ℕ) (found₀ next₀ found next : List ConceptSet) (v w : ConceptSet)
-    → SettledLine rows sheet s t found₀ next₀ found next → s < most_states → t < most_states → pair s t < length found → pair s t < length next
-    → NewRow rows s t (get_or found (pair s t) empty).0 (get_or sheet (pair s t) empty).0 w.0 → IsEmpty v.0
-    → SettledLine rows sheet s (t + 1) found₀ next₀ (set found (pair s t) v) (set next (pair s t) w)
-settle_more rows sheet s t found₀ next₀ found next v w d hs ht hf hn n z = record {
-  found_long = length-set found (pair s t) v ∙ d.found_long;
-  next_long = length-set next (pair s t) w ∙ d.next_long;
-  at = λ u k l. at u k l (ℕ_discrete u t);
-  gone = λ u k l. gone u k l (ℕ_discrete u t);
-  next_rest = λ q k f. rw (get_or-set_other next (pair s t) q w empty (f t (omega arith))) (d.next_rest q k (λ u l. f u (omega arith)));
-  found_rest = λ q k f. rw (get_or-set_other found (pair s t) q v empty (f t (omega arith))) (d.found_rest q k (λ u l. f u (omega arith)));
-}
-  where
-    at : (u k : ℕ) → u < t + 1 → Dec (u ≡ t) → At (set next (pair s t) w) (pair s u) k ↔ (At found₀ (pair s u) k × (At sheet (pair s u) k → ⊥) × May rows s u k)
-    at u k l (yes e) =
-        let same = get_or-set_same next (pair s t) w empty hn in
-        let x = n.has k in
-        let o = d.found_rest (pair s t) k (λ z lz q. omega arith) in
-        rw (e, same) (λ b. let p = x.0 b in (o.0 p.0, p.1, p.2), λ p. x.1 (o.1 p.0, p.1, p.2))
-    at u k l (no ne) = rw (get_or-set_other next (pair s t) (pair s u) w empty (λ q. ne (omega arith))) (d.at u k (omega arith))
-
-    gone : (u k : ℕ) → u < t + 1 → Dec (u ≡ t) → At (set found (pair s t) v) (pair s u) k → ⊥
-    gone u k l (yes e) b = let y = rw e at b in z k (rw (get_or-set_same found (pair s t) v empty hf) at y)
-    gone u k l (no ne) b = d.gone u k (omega arith) (rw (get_or-set_other found (pair s t) (pair s u) v empty (λ q. ne (omega arith))) at b)
-
-pub settled_more : (rows : Rows) (sheet : List ConceptSet) (s : ℕ) (found₀ found next new left : List ConceptSet) → Settled rows sheet s found₀ found next
-    → s < most_states → SettledLine rows sheet s most_states found next left new → Settled rows sheet (s + 1) found₀ left new
-settled_more rows sheet s found₀ found next new left d hs l = record {
-  found_long = l.found_long ∙ d.found_long;
-  next_long = l.next_long ∙ d.next_long;
-  at = λ r t k h ht. at r t k h ht (ℕ_discrete r s);
-  gone = λ r t k h ht. gone r t k h ht (ℕ_discrete r s);
-  rest = λ r t k h ht.
-      let o = l.found_rest (pair r t) k (λ u hu q. omega arith) in
-      let a = d.rest r t k (omega arith) ht in
-      (λ b. a.0 (o.0 b), λ p. o.1 (a.1 p));
-}
-  where
-    at : (r t k : ℕ) → r < s + 1 → t < most_states → Dec (r ≡ s) → At new (pair r t) k ↔ (At found₀ (pair r t) k × (At sheet (pair r t) k → ⊥) × May rows r t k)
-    at r t k h ht (yes e) =
-        let a = l.at t k ht in
-        let o = d.rest s t k (omega arith) ht in
-        rw e (λ b. let p = a.0 b in (o.0 p.0, p.1, p.2), λ p. a.1 (o.1 p.0, p.1, p.2))
-    at r t k h ht (no ne) =
-        let o = l.next_rest (pair r t) k (λ u hu q. ne (omega arith)) in
-        let a = d.at r t k (omega arith) ht in
-        (λ b. a.0 (o.0 b), λ p. o.1 (a.1 p))
-
-    gone : (r t k : ℕ) → r < s + 1 → t < most_states → Dec (r ≡ s) → At left (pair r t) k → ⊥
-    gone r t k h ht (yes e) b = l.gone t k ht (rw e at b)
-    gone r t k h ht (no ne) b = d.gone r t k (omega arith) ht ((l.found_rest (pair r t) k (λ u hu q. ne (omega arith))).0 b)
-
-pub settled_blank : (rows : Rows) (sheet found₀ found next : List ConceptSet) → Settled rows sheet most_states found₀ found next → Blank found
-settled_blank rows sheet found₀ found next d = record { none = λ q k b. side q k b (dec_lt q (most_states * most_states)) }
-  where
-    side : (q k : ℕ) → At found q k → Dec (q < most_states * most_states) → ⊥
-    side q k b (yes h) = let e : q ≡ pair (q / most_states) (q % most_states) = omega arith in d.gone (q / most_states) (q % most_states) k (omega arith) (omega arith) (rw e at b)
-    side q k b (no h) = let e : get_or found q empty ≡ empty = get_or-eq_default found empty (omega (arith, d.found_long)) in zero_none k (rw e at b)
-
-pub lines_more : (rows : Rows) (sheet : List ConceptSet) (s : ℕ) (found next left new lines : List ConceptSet) (line : ConceptSet) → Lines next lines → s < length lines
-    → SettledLine rows sheet s most_states found next left new → LineOf new s line.0 → Lines new (set lines s line)
-lines_more rows sheet s found next left new lines line d hs l o = record { of = λ r h. side r h (ℕ_discrete r s) }
-  where
-    side : (r : ℕ) → r < most_states → Dec (r ≡ s) → LineOf new r (get_or (set lines s line) r empty).0
-    side r h (yes e) = let same = get_or-set_same lines s line empty hs in rw (e, same) o
-    side r h (no ne) = rw (get_or-set_other lines s r line empty ne) (record { has = λ t k ht b. (d.of r h).has t k ht ((l.next_rest (pair r t) k (λ u hu q. ne (omega arith))).0 b) })
-
--- a state of which nothing is found
-pub clear_none : (next : List ConceptSet) (s line : ℕ) → LineOf next s line → IsEmpty line → Cleared s most_states next next
-clear_none next s line l e = record { long = refl; none = λ t k h b. e k (l.has t k h b); rest = λ q k f. (λ b. b, λ b. b) }
-
-pub clear_more : (s t : ℕ) (old next : List ConceptSet) → Cleared s t old next → s < most_states → t < most_states → pair s t < length next
-    → Cleared s (t + 1) old (set next (pair s t) empty)
-clear_more s t old next d hs ht h = record {
-  long = length-set next (pair s t) empty ∙ d.long;
-  none = λ u k l b. side u k l b (ℕ_discrete u t);
-  rest = λ q k f. rw (get_or-set_other next (pair s t) q empty empty (f t (omega arith))) (d.rest q k (λ u l. f u (omega arith)));
-}
-  where
-    side : (u k : ℕ) → u < t + 1 → At (set next (pair s t) empty) (pair s u) k → Dec (u ≡ t) → ⊥
-    side u k l b (yes e) = let y = rw e at b in zero_none k (rw (get_or-set_same next (pair s t) empty empty h) at y)
-    side u k l b (no ne) = d.none u k (omega arith) (rw (get_or-set_other next (pair s t) (pair s u) empty empty (λ q. ne (omega arith))) at b)
-
-pub nothing_settled : (rows : Rows) (sheet : List ConceptSet) (s line : ℕ) (found next new : List ConceptSet) → LineOf found s line → IsEmpty line → Cleared s most_states next new
-    → SettledLine rows sheet s most_states found next found new
-nothing_settled rows sheet s line found next new l e d = record {
-  found_long = refl;
-  next_long = d.long;
-  at = λ t k h. (λ b. absurd (d.none t k h b), λ p. absurd (e k (l.has t k h p.0)));
-  gone = λ t k h b. e k (l.has t k h b);
-  next_rest = d.rest;
-  found_rest = λ q k f. (λ b. b, λ b. b);
+pub new_is : (rows : Rows) (sheet candidates : List ConceptSet) (s t absent may r : ℕ)
+    → IsMinus (get_or candidates (pair s t) no_concepts).0 (get_or sheet (pair s t) no_concepts).0 absent
+    → IsMarkable rows s t may → IsIntersection absent may r → IsSetOf (NewAt rows sheet candidates s t) r
+new_is rows sheet candidates s t absent may r a m i = record {
+  member = λ k. (
+    λ h. let w = (i.member k).0 h in let v = (a.member k).0 w.0 in record { candidate = v.0; absent = v.1; may = (m.member k).0 w.1 },
+    λ w. (i.member k).1 ((a.member k).1 (w.candidate, w.absent), (m.member k).1 w.may),
+  );
 }
 
-pub no_line : (s : ℕ) (next new : List ConceptSet) (line : ℕ) → Cleared s most_states next new → LineOf new s line
-no_line s next new line d = record { has = λ t k h b. absurd (d.none t k h b) }
+pub new_put : (rows : Rows) (sheet candidates : List ConceptSet) (s t row : ℕ) {l m : List ConceptSet}
+    → IsSetOf (NewAt rows sheet candidates s t) row
+    → Gets (Put (pair s t) row) l m → Gets (PutNew rows sheet candidates s t) l m
+new_put rows sheet candidates s t row n a =
+    gets_same (λ q k p. record { there = p.there; new = (n.member k).0 p.has })
+    (λ q k p. record { there = p.there; has = (n.member k).1 p.new }) a
 
-blank_at : (n q : ℕ) → get_or (replicate n empty) q empty ≡ empty
-blank_at zero q = refl
-blank_at (suc n) zero = refl
-blank_at (suc n) (suc q) = blank_at n q
+pub are_new : (rows : Rows) (sheet : List ConceptSet) (candidates : Marks) (blank new : List ConceptSet) → Blank blank
+    → Gets (ByState (NewFrom rows sheet candidates)) blank new → AreNew rows sheet candidates.rows new
+are_new rows sheet candidates blank new b g = record {
+  long = g.long ∙ b.long;
+  at = λ s t k hs ht. (
+    λ x. ⊎_elim (λ y. absurd (b.none (pair s t) k y)) (λ w. to s t k hs ht w.number w.of w.holds.number w.holds.of w.holds.holds)
+        ((g.at (pair s t) k).0 x),
+    λ n. (g.at (pair s t) k).1 (inr (record {
+      number = s;
+      of = hs;
+      holds = record { number = t; of = candidates.paired.has s t k hs ht n.candidate; holds = record { there = refl; new = n } };
+    })),
+  );
+}
+  where
+    to : (s t k : ℕ) → s < most_states → t < most_states → (a : ℕ) → a < most_states → (b : ℕ) → Relates candidates.pairs a b
+        → PutNew rows sheet candidates.rows a b (pair s t) k → NewAt rows sheet candidates.rows s t k
+    to s t k hs ht a ha b r w =
+        let e = w.there in
+        let hb = candidates.paired.low a b r in
+        let p : a ≡ s = omega arith in
+        let q : b ≡ t = omega arith in
+        let n = w.new in
+        rw (p, q) at n
 
-pub first_start : (rows : Rows) → First rows 0 (replicate (most_states * most_states) empty)
-first_start rows = record { long = length-replicate (most_states * most_states) empty; at = λ s t k hs ht. (λ b. absurd (zero_none k (rw (blank_at (most_states * most_states) (pair s t)) at b)), λ p. absurd (let h = p.0 in omega arith)) }
+-- ---- round 0
+
+pub own_is : (rows : Rows) (s row : ℕ) {l m : List ConceptSet} → IsMarkable rows s s row → Gets (Put (pair s s) row) l m
+    → Gets (Own rows s) l m
+own_is rows s row i a =
+    gets_same (λ q k p. record { there = p.there; may = (i.member k).0 p.has })
+    (λ q k p. record { there = p.there; has = (i.member k).1 p.may }) a
 
 -- ---- how many
 
-pub counted_none : (rows : List ConceptSet) (s : ℕ) → 0 ≡ total_from rows s 0
-unfolding total_from
-counted_none rows s = refl
+-- the members that are left are those of the set from n on
+pub record Counted (rows : List ConceptSet) (s set rest many : ℕ) : Type 0 where
+  pub n : ℕ
+  pub within : n ≤ most_states
+  pub left : (i : ℕ) → Has rest i ↔ (Has set i × n ≤ i)
+  pub is : many ≡ total_from rows s n
+  pub small : many ≤ most_concepts * n
 
-pub counted_more : (rows : List ConceptSet) (s t n m : ℕ) → n ≡ total_from rows s t → m ≡ size rows (pair s t) → n + m ≡ total_from rows s (t + 1)
+pub counted_start : (rows : List ConceptSet) (s set : ℕ) → Counted rows s set set 0
 unfolding total_from
-counted_more rows s t n m e f = rw (add-one t, e, f) refl
+counted_start rows s set = record {
+  n = 0;
+  within = omega arith;
+  left = λ i. (λ h. (h, omega arith), λ h. h.0);
+  is = refl;
+  small = omega arith;
+}
+
+-- rows with no concept count for nothing
+skip : (rows : List ConceptSet) (s n m : ℕ) → ((t : ℕ) → n ≤ t → t < n + m → size rows (pair s t) ≡ 0)
+    → total_from rows s (n + m) ≡ total_from rows s n
+unfolding total_from
+skip rows s n zero h = let e : n + 0 ≡ n = omega arith in rw e refl
+skip rows s n (suc m) h =
+    let e : n + suc m ≡ suc (n + m) = omega arith in
+    rw (e, h (n + m) (omega arith) (omega arith), skip rows s n m (λ t l g. h t l (omega arith))) (omega arith)
+
+no_size : (rows : List ConceptSet) (q : ℕ) → ((k : ℕ) → At rows q k → ⊥) → size rows q ≡ 0
+no_size rows q none = ap length (members_none most_concepts (get_or rows q no_concepts).0 none)
+
+module _ (marks : Marks) (s : ℕ) (hs : s < most_states) where
+  -- from n on up to m there are no pairs
+  none_between : (n m : ℕ) → n ≤ m → m ≤ most_states → ((t : ℕ) → n ≤ t → t < m → Relates marks.pairs s t → ⊥)
+      → total_from marks.rows s m ≡ total_from marks.rows s n
+  none_between n m l h none =
+      let e : m ≡ n + (m - n) = omega arith in
+      rw e (skip marks.rows s n (m - n) (λ t a b. no_size marks.rows (pair s t)
+      (λ k x. none t a (omega arith) (marks.paired.has s t k hs (omega arith) x))))
+
+  pub counted_more : (rest t next many one : ℕ) → Counted marks.rows s (states_at marks.pairs s) rest many
+      → TakesFirst state_width rest t next
+      → one ≡ size marks.rows (pair s t) → one ≤ most_concepts → Counted marks.rows s (states_at marks.pairs s) next (many + one)
+  unfolding total_from
+  counted_more rest t next many one c f e small =
+      let w = (c.left t).0 f.member in
+      let low = marks.paired.low s t w.0 in
+      record {
+        n = t + 1;
+        within = omega arith;
+        left = λ i. (
+          λ h. let v = (f.rest.member i).0 h in (((c.left i).0 v.0).0, above i v.0 v.1),
+          λ h. (f.rest.member i).1
+              ((c.left i).1 (h.0, (let a = w.1 in let b = h.1 in omega arith)), (λ q. let b = h.1 in absurd (omega arith))),
+        );
+        is = rw (add-one t, none_between c.n t w.1 (omega arith) (λ i a b r. f.least i b ((c.left i).1 (r, a))), ← c.is, ← e) refl;
+        small = (let a = w.1 in let b = c.small in omega arith);
+      }
+    where
+      above : (i : ℕ) → Has rest i → (i ≡ t → ⊥) → t + 1 ≤ i
+      above i h ne = side (dec_lt i t)
+        where
+          side : Dec (i < t) → t + 1 ≤ i
+          side (yes l) = absurd (f.least i l h)
+          side (no g) = omega arith
+
+  pub counted_end : (rest many : ℕ) → Counted marks.rows s (states_at marks.pairs s) rest many → IsEmpty rest
+      → many ≡ total_from marks.rows s most_states
+  counted_end rest many c none = c.is ∙ sym (none_between c.n most_states c.within (omega arith) (λ t a b r. none t ((c.left t).1 (r, a))))
 
 pub all_none : (rows : List ConceptSet) → 0 ≡ total rows 0
 unfolding total
@@ -311,29 +512,15 @@ pub all_more : (rows : List ConceptSet) (s n m : ℕ) → n ≡ total rows s →
 unfolding total
 all_more rows s n m e f = rw (add-one s, e, f) refl
 
-pub no_marks : (rows : List ConceptSet) (s line : ℕ) → LineOf rows s line → IsEmpty line → (t : ℕ) → t ≤ most_states → 0 ≡ total_from rows s t
+-- rows with no mark
+blank_from : (rows : List ConceptSet) → Blank rows → (s t : ℕ) → total_from rows s t ≡ 0
 unfolding total_from
-no_marks rows s line l e zero h = refl
-no_marks rows s line l e (suc t) h =
-    let z : size rows (pair s t) ≡ 0 = ap length (members_none most_concepts (get_or rows (pair s t) empty).0 (λ k b. e k (l.has t k (omega arith) b))) in
-    rw (z, ← no_marks rows s line l e t (omega arith)) refl
+blank_from rows b s zero = refl
+blank_from rows b s (suc t) = rw (no_size rows (pair s t) (b.none (pair s t)), blank_from rows b s t) refl
 
--- ---- rows with no mark
-
-pub blank_rows : (n : ℕ) → Blank (replicate n empty)
-blank_rows n = record { none = λ q k b. zero_none k (rw (blank_at n q) at b) }
-
-pub blank_lines : (n : ℕ) (lines : List ConceptSet) → Lines (replicate n empty) lines
-blank_lines n lines = record { of = λ s h. record { has = λ t k l b. absurd (zero_none k (rw (blank_at n (pair s t)) at b)) } }
-
-blank_from : (n s t : ℕ) → total_from (replicate n empty) s t ≡ 0
-unfolding total_from
-blank_from n s zero = refl
-blank_from n s (suc t) =
-    let z : size (replicate n empty) (pair s t) ≡ 0 = ap length (members_none most_concepts (get_or (replicate n empty) (pair s t) empty).0 (λ k b. zero_none k (rw (blank_at n (pair s t)) at b))) in
-    rw (z, blank_from n s t) refl
-
-pub blank_many : (n s : ℕ) → 0 ≡ total (replicate n empty) s
+pub blank_many : (rows : List ConceptSet) → Blank rows → (s : ℕ) → 0 ≡ total rows s
 unfolding total
-blank_many n zero = refl
-blank_many n (suc s) = rw (blank_from n s most_states, ← blank_many n s) refl
+blank_many rows b zero = refl
+blank_many rows b (suc s) = rw (blank_from rows b s most_states, ← blank_many rows b s) refl
+
+pub ruleset laws = (state_more, members_end, own_is)

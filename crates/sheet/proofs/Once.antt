@@ -46,8 +46,8 @@ module _ (rows : Rows) (n : ℕ) where
   -- THEOREM: after so many rounds there is one sheet, and one thing to come
   pub round_once : (v w : Closing) → HasRound rows n v → HasRound rows n w → SameRound v w
   round_once v w a b = record {
-    sheet = holds_once (Mark (kind_of rows) n) v.sheet w.sheet a.round.sheet b.round.sheet a.sheet b.sheet;
-    next = holds_once (Added (kind_of rows) n) v.next.marks.rows w.next.marks.rows a.round.next b.round.next a.next b.next;
+    sheet = holds_once (Mark (kind_of rows) n) v.sheet.rows w.sheet.rows a.round.sheet b.round.sheet a.sheet b.sheet;
+    delta = holds_once (Added (kind_of rows) n) v.delta.marks.rows w.delta.marks.rows a.round.delta b.round.delta a.delta b.delta;
   }
 
 -- THEOREM: every byte of an area is given by the marks

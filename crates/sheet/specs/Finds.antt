@@ -1,235 +1,196 @@
--- What each function of a round finds: the concept k in row q, the row of a pair of states.
-use Rattle.std.specs.Prelude.{◌≡◌, ◌↔◌, ◌⊎◌, Bool, IsTrue, List, ℕ, zero, suc, ◌+◌, ◌*◌, ◌<◌, ◌≤◌, length, slice_index_or}
-use Rattle.kinds.specs.Kinds.{most_states}
-use Rattle.sets.specs.Bits.{Has, members}
+-- What each function of a round adds, as rows q and their concepts k.
+use Rattle.std.specs.Prelude.{◌≡◌, ◌↔◌, ◌⊎◌, List, ℕ, ◌+◌, ◌*◌, ◌<◌, length, slice_index_or}
+use Rattle.kinds.specs.Kinds.{most_states, base}
+use Rattle.laws.specs.Loops.{Witness}
+use Rattle.sets.specs.Bits.{Has}
+use Rattle.sets.specs.Rows.{no_concepts}
+use Rattle.sets.specs.Relations.{Relates, pair, At, states_at, relation_at}
 use Rattle.sets.specs.declared.concepts.ConceptSet.{ConceptSet}
 use Rattle.sets.specs.declared.states.StateSet.{StateSet}
 use Rattle.rules.specs.declared.rows.Edge.{Edge}
 use Rattle.rules.specs.declared.rows.Rows.{Rows}
-use Rattle.sets.specs.Rows.{no_concepts, no_states}
-use Rattle.rules.specs.Rows.{most_concepts, pair, At, Lists, Relates, edge, May, Gets}
+use Rattle.rules.specs.Rows.{most_edges, Lists, edge, May, Gets}
+use Rattle.sheet.specs.declared.marks.Marks.{Marks}
+use Rattle.sheet.specs.Pairs.{By, ByState, ByPair, PutTo, RowAt, Blank}
 
--- what the first n turns find; what the turns of a set's members find
-abbrev pub Turns : (ℕ → ℕ → ℕ → Type 0) → ℕ → ℕ → ℕ → Type 0
-Turns F n q k = (i : ℕ) × (i < n) × F i q k
+-- ---- rows as they are
 
-abbrev pub Each : ℕ → (ℕ → ℕ → ℕ → Type 0) → ℕ → ℕ → Type 0
-Each set F q k = (i : ℕ) × Has set i × F i q k
+-- the rows of s, of pairs that may have a mark; of every state
+abbrev pub RowsFrom : Marks → ℕ → ℕ → ℕ → Type 0
+RowsFrom marks s = ByPair marks.pairs s (RowAt marks.rows s)
 
--- the same, of a set's members but those that are still to come
-pub record Partly (set rest : ℕ) : Type 0 where
-  pub member : (i : ℕ) → Has rest i → Has set i
+abbrev pub AllRows : Marks → ℕ → ℕ → Type 0
+AllRows marks = ByState (RowsFrom marks)
 
-pub record Turned (set rest : ℕ) (F : ℕ → Type 0) : Type 0 where
-  pub i : ℕ
-  pub in_set : Has set i
-  pub come : Has rest i → ⊥
-  pub finds : F i
+-- the same, of any rows
+abbrev pub EachRow : List ConceptSet → ℕ → ℕ → Type 0
+EachRow rows = ByState (λ s. ByState (RowAt rows s))
 
-abbrev pub EachBut : ℕ → ℕ → (ℕ → ℕ → ℕ → Type 0) → ℕ → ℕ → Type 0
-EachBut set rest F q k = Turned set rest (λ i. F i q k)
+-- ---- where two marks meet
 
--- a row, put into row i
-pub record Put (i row q k : ℕ) : Type 0 where
+-- what a row and row j have both, put into row i
+pub record Join (rows : List ConceptSet) (row i j q k : ℕ) : Type 0 where
   pub there : q ≡ i
   pub has : Has row k
+  pub goes : At rows j k
 
--- what a row and row j of the sheet have both, put into row i
-pub record Join (sheet : List ConceptSet) (row i j q k : ℕ) : Type 0 where
-  pub there : q ≡ i
-  pub has : Has row k
-  pub goes : At sheet j k
+-- a row of (s, u), by the marks of the sheet from u to t, and by those from r to s
+abbrev pub Left : Marks → ℕ → ℕ → ℕ → ℕ → ℕ → Type 0
+Left sheet row s u = ByPair sheet.pairs u (λ t. Join sheet.rows row (pair s t) (pair u t))
 
-abbrev pub Left : List ConceptSet → ℕ → ℕ → ℕ → ℕ → ℕ → ℕ → Type 0
-Left sheet row s u t = Join sheet row (pair s t) (pair u t)
+abbrev pub RightFrom : Marks → ℕ → ℕ → ℕ → ℕ → ℕ → ℕ → Type 0
+RightFrom sheet row s u r = Join sheet.rows row (pair r u) (pair r s)
 
-abbrev pub Right : List ConceptSet → ℕ → ℕ → ℕ → ℕ → ℕ → ℕ → Type 0
-Right sheet row s u r = Join sheet row (pair r u) (pair r s)
+abbrev pub Right : Marks → ℕ → ℕ → ℕ → ℕ → ℕ → Type 0
+Right sheet row s u = ByState (RightFrom sheet row s u)
 
-abbrev pub Sides : List ConceptSet → ℕ → ℕ → ℕ → ℕ → ℕ → Type 0
-Sides sheet row s u q k = Turns (Left sheet row s u) most_states q k
-    ⊎ Turns (Right sheet row s u) most_states q k
+abbrev pub JoinedPair : Marks → Marks → ℕ → ℕ → ℕ → ℕ → Type 0
+JoinedPair delta sheet s u q k =
+    Left sheet (slice_index_or delta.rows (pair s u) no_concepts).0 s u q k
+    ⊎ Right sheet (slice_index_or delta.rows (pair s u) no_concepts).0 s u q k
 
-abbrev pub Joined : List ConceptSet → List ConceptSet → ℕ → ℕ → ℕ → ℕ → Type 0
-Joined fresh sheet s u = Sides sheet (slice_index_or fresh (pair s u) no_concepts).0 s u
+abbrev pub JoinedFrom : Marks → Marks → ℕ → ℕ → ℕ → Type 0
+JoinedFrom delta sheet s = ByPair delta.pairs s (JoinedPair delta sheet s)
 
-abbrev pub JoinedFrom : List ConceptSet → List ConceptSet → ℕ → ℕ → ℕ → Type 0
-JoinedFrom fresh sheet s = Turns (Joined fresh sheet s) most_states
+abbrev pub Joins : Marks → Marks → ℕ → ℕ → Type 0
+Joins delta sheet = ByState (JoinedFrom delta sheet)
 
-abbrev pub Joins : List ConceptSet → List ConceptSet → ℕ → ℕ → Type 0
-Joins fresh sheet = Turns (JoinedFrom fresh sheet) most_states
+-- ---- down to a child, and back up
 
--- the set has the concepts of a state's rows below n; of all of them
-pub record LineTo (rows : List ConceptSet) (s n line : ℕ) : Type 0 where
-  pub has : (t k : ℕ) → t < n → At rows (pair s t) k → Has line k
+-- the set has the concepts of a state's rows; of all rows
+pub record HasFrom (rows : List ConceptSet) (D : ℕ → Type 0) (s all : ℕ) : Type 0 where
+  pub has : (t : ℕ) → D t → (k : ℕ) → At rows (pair s t) k → Has all k
 
-abbrev pub LineOf : List ConceptSet → ℕ → ℕ → Type 0
-LineOf rows s line = LineTo rows s most_states line
+pub record HasAll (marks : Marks) (D : ℕ → Type 0) (all : ℕ) : Type 0 where
+  pub has : (s : ℕ) → D s → HasFrom marks.rows (Has (states_at marks.pairs s)) s all
 
-pub record Lines (rows lines : List ConceptSet) : Type 0 where
-  pub of : (s : ℕ) → s < most_states → LineOf rows s (slice_index_or lines s no_concepts).0
+-- new leads nowhere but where old does by the relations without P
+pub record Forgets (P : ℕ → Type 0) (old new : List (List StateSet)) : Type 0 where
+  pub long : length new ≡ length old
+  pub at : (R s t : ℕ) → Relates (relation_at new R) s t
+      → Relates (relation_at old R) s t × (P R → ⊥)
 
--- the set has the concepts of the lines below n
-pub record LineBelow (lines : List ConceptSet) (n all : ℕ) : Type 0 where
-  pub has : (s k : ℕ) → s < n → At lines s k → Has all k
+-- from s to t by the role numbered i; by each role of D
+pub record PutLoop (s t i R a b : ℕ) : Type 0 where
+  pub low : i < most_edges
+  pub of : R ≡ i
+  pub from : a ≡ s
+  pub to : b ≡ t
 
--- m, with t where on is true
-pub record With (m t : ℕ) (on : Bool) (r : ℕ) : Type 0 where
-  pub member : (u : ℕ) → Has r u ↔ (Has m u ⊎ ((u ≡ t) × IsTrue on))
+abbrev pub PutLoops : (ℕ → Type 0) → ℕ → ℕ → ℕ → ℕ → ℕ → Type 0
+PutLoops D s t R a b = Witness D (λ i. PutLoop s t i R a b)
 
--- the states below n to which rows lead from s at a child
-pub record ColumnAt (fresh : List ConceptSet) (child s n r : ℕ) : Type 0 where
-  pub to : (u : ℕ) → Has r u ↔ ((u < n) × At fresh (pair s u) child)
+-- from s to t by each role R with a mark there at "has a neighbour by R"
+pub record RowLoop (rows : List ConceptSet) (s t R a b : ℕ) : Type 0 where
+  pub low : R < most_edges
+  pub from : a ≡ s
+  pub to : b ≡ t
+  pub marked : At rows (pair s t) (base + R)
 
-abbrev pub ColumnIs : List ConceptSet → ℕ → ℕ → StateSet → Type 0
-ColumnIs fresh child s set = ColumnAt fresh child s most_states set.0
+abbrev pub LoopsFrom : Marks → ℕ → ℕ → ℕ → ℕ → Type 0
+LoopsFrom marks s R a b =
+    Witness (Has (states_at marks.pairs s)) (λ t. RowLoop marks.rows s t R a b)
 
-abbrev pub LineIs : List ConceptSet → ℕ → ConceptSet → Type 0
-LineIs rows s set = LineOf rows s set.0
+abbrev pub AllLoops : Marks → ℕ → ℕ → ℕ → Type 0
+AllLoops marks R a b = Witness (λ s. s < most_states) (λ s. LoopsFrom marks s R a b)
 
-pub record Column (fresh : List ConceptSet) (child : ℕ) (r : List StateSet) : Type 0 where
-  pub at : (s : ℕ) → s < most_states
-      → ColumnAt fresh child s most_states (slice_index_or r s no_states).0
+-- for each role of a set the relation of all marks at "has a neighbour by" that role
+pub record AreLoops (marks : Marks) (roles : ℕ) (loops : List (List StateSet)) : Type 0 where
+  pub at : (R a b : ℕ) → Has roles R → Relates (relation_at loops R) a b ↔ AllLoops marks R a b
 
--- the states to which a relation leads from those of a set below n; from all of them
-pub record ImageTo (relation : List StateSet) (from n r : ℕ) : Type 0 where
-  pub to : (t : ℕ) → Has r t ↔ ((y : ℕ) × (y < n) × Has from y × Relates relation y t)
-
-abbrev pub Image : List StateSet → ℕ → ℕ → Type 0
-Image relation from r = ImageTo relation from most_states r
-
--- x where on is true, and else nothing
-pub record Only (x : ℕ) (on : Bool) (r : ℕ) : Type 0 where
-  pub member : (t : ℕ) → Has r t ↔ (IsTrue on × Has x t)
-
--- down from s to x, along the column to y, and back up to t
-pub record ColumnLoop (column : List StateSet) (edge : Edge) (s t : ℕ) : Type 0 where
+-- down an edge from s to x, along a relation to y, and back up to t
+pub record Trip (loops : List StateSet) (edge : Edge) (s t : ℕ) : Type 0 where
   pub x : ℕ
   pub y : ℕ
-  pub x_low : x < most_states
-  pub y_low : y < most_states
   pub down : Relates edge.down s x
-  pub along : Relates column x y
+  pub along : Relates loops x y
   pub up : Relates edge.up y t
 
-pub record Through (column : List StateSet) (edge : Edge) (s r : ℕ) : Type 0 where
-  pub to : (t : ℕ) → Has r t ↔ ColumnLoop column edge s t
+-- the parents of an edge, put into the row of s and t
+abbrev pub PutParents : Edge → ℕ → ℕ → ℕ → ℕ → Type 0
+PutParents edge = PutTo edge.parents.0
 
--- a row, put into that of (s, t)
-pub record Hung (row s t q k : ℕ) : Type 0 where
-  pub low : t < most_states
-  pub there : q ≡ pair s t
-  pub has : Has row k
+abbrev pub TripsFrom : List StateSet → Edge → ℕ → ℕ → ℕ → Type 0
+TripsFrom loops edge s = By (Trip loops edge s) (PutParents edge s)
 
-pub record HungFrom (column : List StateSet) (edge : Edge) (s q k : ℕ) : Type 0 where
-  pub t : ℕ
-  pub way : ColumnLoop column edge s t
-  pub hung : Hung edge.parents.0 s t q k
+-- the same by the edges to a child that is known by "has a neighbour by" a role
+abbrev pub ThroughEdges : List (List StateSet) → Rows → ℕ → ℕ → ℕ → Type 0
+ThroughEdges loops rows R =
+    By (Lists rows.edges_to R) (λ e. ByState (TripsFrom (relation_at loops R) (edge rows e)))
 
--- the same by the edge e
-abbrev pub HungBy : List StateSet → Rows → ℕ → ℕ → ℕ → Type 0
-HungBy column rows e = Turns (HungFrom column (edge rows e)) most_states
-
--- down an edge, along a fresh mark at the child, and back up
-pub record Loop (fresh : List ConceptSet) (edge : Edge) (child s t : ℕ) : Type 0 where
-  pub x : ℕ
-  pub y : ℕ
-  pub x_low : x < most_states
-  pub y_low : y < most_states
-  pub down : Relates edge.down s x
-  pub along : At fresh (pair x y) child
-  pub up : Relates edge.up y t
-
-pub record HungTo (fresh : List ConceptSet) (rows : Rows) (child q k : ℕ) : Type 0 where
-  pub e : ℕ
+-- down an edge from s to x, along a mark at the child to y, and back up to t
+pub record ThroughChild (delta : List ConceptSet) (edge : Edge) (R q k : ℕ) : Type 0 where
   pub s : ℕ
+  pub x : ℕ
+  pub y : ℕ
   pub t : ℕ
   pub s_low : s < most_states
-  pub child_low : child < most_concepts
-  pub listed : Lists rows.edges_to child e
-  pub loop : Loop fresh (edge rows e) child s t
-  pub hung : Hung (edge rows e).parents.0 s t q k
+  pub x_low : x < most_states
+  pub y_low : y < most_states
+  pub role_low : R < most_edges
+  pub down : Relates edge.down s x
+  pub along : At delta (pair x y) (base + R)
+  pub up : Relates edge.up y t
+  pub parents : PutParents edge s t q k
 
-abbrev pub Hangs : List ConceptSet → Rows → ℕ → ℕ → Type 0
-Hangs fresh rows q k = (child : ℕ) × HungTo fresh rows child q k
+abbrev pub ThroughChildren : List ConceptSet → Rows → ℕ → ℕ → Type 0
+ThroughChildren delta rows q k =
+    (R : ℕ) × By (Lists rows.edges_to R) (λ e. ThroughChild delta (edge rows e) R) q k
 
--- no row has a concept
-pub record Blank (rows : List ConceptSet) : Type 0 where
-  pub none : (q k : ℕ) → At rows q k → ⊥
+-- ---- what is new
 
--- what is found, does not stand, and may be marked
-pub record NewRow (rows : Rows) (s t found sheet r : ℕ) : Type 0 where
-  pub has : (k : ℕ) → Has r k ↔ (Has found k × (Has sheet k → ⊥) × May rows s t k)
+-- a candidate that is not in the sheet, and may be marked
+pub record NewAt (rows : Rows) (sheet candidates : List ConceptSet) (s t k : ℕ) : Type 0 where
+  pub candidate : At candidates (pair s t) k
+  pub absent : At sheet (pair s t) k → ⊥
+  pub may : May rows s t k
 
--- the rows of s below n have no concept, all others as they were
-pub record Cleared (s n : ℕ) (old new : List ConceptSet) : Type 0 where
-  pub long : length new ≡ length old
-  pub none : (t k : ℕ) → t < n → At new (pair s t) k → ⊥
-  pub rest : (q k : ℕ) → ((t : ℕ) → t < n → q ≡ pair s t → ⊥) → At new q k ↔ At old q k
+pub record PutNew (rows : Rows) (sheet candidates : List ConceptSet) (s t q k : ℕ) : Type 0 where
+  pub there : q ≡ pair s t
+  pub new : NewAt rows sheet candidates s t k
 
--- the rows of s below n are settled, all others as they were
-pub record SettledLine (rows : Rows) (sheet : List ConceptSet) (s n : ℕ)
-    (found₀ next₀ found next : List ConceptSet) : Type 0 where
-  pub found_long : length found ≡ length found₀
-  pub next_long : length next ≡ length next₀
-  pub at : (t k : ℕ) → t < n → At next (pair s t) k
-      ↔ (At found₀ (pair s t) k × (At sheet (pair s t) k → ⊥) × May rows s t k)
-  pub gone : (t k : ℕ) → t < n → At found (pair s t) k → ⊥
-  pub next_rest : (q k : ℕ) → ((t : ℕ) → t < n → q ≡ pair s t → ⊥) → At next q k ↔ At next₀ q k
-  pub found_rest : (q k : ℕ) → ((t : ℕ) → t < n → q ≡ pair s t → ⊥) → At found q k ↔ At found₀ q k
+abbrev pub NewFrom : Rows → List ConceptSet → Marks → ℕ → ℕ → ℕ → Type 0
+NewFrom rows sheet candidates s =
+    ByPair candidates.pairs s (PutNew rows sheet candidates.rows s)
 
--- the rows of the states below n are settled
-pub record Settled (rows : Rows) (sheet : List ConceptSet) (n : ℕ)
-    (found₀ found next : List ConceptSet) : Type 0 where
-  pub found_long : length found ≡ most_states * most_states
-  pub next_long : length next ≡ most_states * most_states
-  pub at : (s t k : ℕ) → s < n → t < most_states → At next (pair s t) k
-      ↔ (At found₀ (pair s t) k × (At sheet (pair s t) k → ⊥) × May rows s t k)
-  pub gone : (s t k : ℕ) → s < n → t < most_states → At found (pair s t) k → ⊥
-  pub rest : (s t k : ℕ) → n ≤ s → t < most_states → At found (pair s t) k ↔ At found₀ (pair s t) k
+-- rows that have exactly what is new
+pub record AreNew (rows : Rows) (sheet candidates new : List ConceptSet) : Type 0 where
+  pub long : length new ≡ most_states * most_states
+  pub at : (s t k : ℕ) → s < most_states → t < most_states → At new (pair s t) k
+      ↔ NewAt rows sheet candidates s t k
 
--- the rows of s
-abbrev pub RowOf : List ConceptSet → ℕ → ℕ → ℕ → ℕ → Type 0
-RowOf next s t = Put (pair s t) (slice_index_or next (pair s t) no_concepts).0
+-- ---- a round
 
-abbrev pub RowsOf : List ConceptSet → ℕ → ℕ → ℕ → Type 0
-RowsOf next s = Turns (RowOf next s) most_states
-
--- a whole turn, from sheet and next to more and new
-pub record IsTurn (rows : Rows) (sheet next more new : List ConceptSet) : Type 0 where
+-- one round, from a sheet and its delta to more and the next delta
+pub record IsTurn (rows : Rows) (sheet : List ConceptSet) (delta more : Marks)
+    (next : List ConceptSet) : Type 0 where
   pub blank : List ConceptSet
   pub one : List ConceptSet
   pub two : List ConceptSet
-  pub left : List ConceptSet
-  pub puts : Gets (Turns (RowsOf next) most_states) sheet more
+  pub puts : Gets (AllRows delta) sheet more.rows
   pub none : Blank blank
-  pub joins : Gets (Joins next more) blank one
-  pub hangs : Gets (Hangs next rows) one two
-  pub settled : Settled rows more most_states two left new
+  pub joins : Gets (Joins delta more) blank one
+  pub through : Gets (ThroughChildren delta.rows rows) one two
+  pub new : AreNew rows more.rows two next
 
--- round 0, of the states below n: a declared state to itself, at each valid concept
-pub record First (rows : Rows) (n : ℕ) (sheet : List ConceptSet) : Type 0 where
-  pub long : length sheet ≡ most_states * most_states
-  pub at : (s t k : ℕ) → s < most_states → t < most_states → At sheet (pair s t) k
-      ↔ ((s < n) × (s ≡ t) × May rows s t k)
+-- from a state to itself, each concept that may be marked there
+pub record Own (rows : Rows) (s q k : ℕ) : Type 0 where
+  pub there : q ≡ pair s s
+  pub may : May rows s s k
 
--- what a round adds to round 0: a test, or what uses a mark of it
-pub record FirstTurn (rows : Rows) (sheet new : List ConceptSet) : Type 0 where
+-- round 0, and what round 1 adds to it: tests, and what uses a mark of round 0
+pub record FirstTurn (rows : Rows) (sheet : Marks) (next : List ConceptSet) : Type 0 where
+  pub empty : List ConceptSet
+  pub first : Marks
+  pub blank : List ConceptSet
+  pub zero : List ConceptSet
   pub one : List ConceptSet
   pub two : List ConceptSet
-  pub left : List ConceptSet
-  pub joins : Gets (Joins sheet sheet) rows.tests one
-  pub hangs : Gets (Hangs sheet rows) one two
-  pub settled : Settled rows sheet most_states two left new
-
--- how many concepts rows have
-abbrev pub size : List ConceptSet → ℕ → ℕ
-size rows q = length (members most_concepts (slice_index_or rows q no_concepts).0)
-
-unfoldable pub total_from : List ConceptSet → ℕ → ℕ → ℕ
-total_from rows s zero = 0
-total_from rows s (suc t) = total_from rows s t + size rows (pair s t)
-
-unfoldable pub total : List ConceptSet → ℕ → ℕ
-total rows zero = 0
-total rows (suc s) = total rows s + total_from rows s most_states
+  pub bare : Blank empty
+  pub own : Gets (ByState (Own rows)) empty sheet.rows
+  pub same : first.rows ≡ sheet.rows
+  pub none : Blank blank
+  pub tests : Gets (EachRow rows.tests) blank zero
+  pub joins : Gets (Joins first sheet) zero one
+  pub through : Gets (ThroughChildren first.rows rows) one two
+  pub new : AreNew rows sheet.rows two next

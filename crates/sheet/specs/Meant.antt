@@ -27,13 +27,13 @@ IsSheet = ConceptRows (most_states * most_states)
 -- a closing after n rounds
 pub record HasRound (rows : Rows) (n : ℕ) (v : Closing) : Type 0 where
   pub round : IsRound rows n v
-  pub sheet : IsSheet v.sheet
-  pub next : IsSheet v.next.marks.rows
+  pub sheet : IsSheet v.sheet.rows
+  pub delta : IsSheet v.delta.marks.rows
 
--- the same sheet, and the same to come
+-- the same marks in the sheet, and in the delta
 pub record SameRound (v w : Closing) : Type 0 where
-  pub sheet : v.sheet ≡ w.sheet
-  pub next : v.next.marks.rows ≡ w.next.marks.rows
+  pub sheet : v.sheet.rows ≡ w.sheet.rows
+  pub delta : v.delta.marks.rows ≡ w.delta.marks.rows
 
 -- what rounds answer, and what they leave in both areas
 pub record Closes (rows : Rows) (allowance : ℕ) (r : Ran) (first second : List ℕ) : Type 0 where
@@ -46,7 +46,8 @@ pub record Closes (rows : Rows) (allowance : ℕ) (r : Ran) (first second : List
 module _ (𝓚 : Kind) where
   open 𝓚 use {Concept, State, Edge, end, child, down, up}
 
-  -- a join or a hang that uses a mark of g; the other mark of a join is of f
+  -- a mark by two marks that meet, or through a child, that uses a mark of g; where two marks meet
+  -- the other is of f
   pub data Uses (f g : State → State → Concept → Type 0) (s t : State) (B : Concept) : Type 0
     where
       first : {u : State} → g s u B → f u t B → Uses f g s t B

@@ -16,8 +16,8 @@ pub record Holds (f : ℕ → ℕ → ℕ → Type 0) (rows : List ConceptSet) :
 
 -- the sheet after n rounds, and what round n + 1 adds
 pub record IsRound (rows : Rows) (n : ℕ) (r : Closing) : Type 0 where
-  pub sheet : Holds (Mark (kind_of rows) n) r.sheet
-  pub next : Holds (Added (kind_of rows) n) r.next.marks.rows
+  pub sheet : Holds (Mark (kind_of rows) n) r.sheet.rows
+  pub delta : Holds (Added (kind_of rows) n) r.delta.marks.rows
 
 -- the number of a mark: concepts fastest, then the second state, then the first
 abbrev pub place : ℕ → ℕ → ℕ → ℕ

@@ -8,6 +8,7 @@ ghost use Rattle.sheet.specs.Ends.{Ended, rounds_made};
 ghost use Rattle.sheet.specs.Heard.{ToldOf, FailedGoing};
 
 use crate::closing::Closing;
+use crate::through::NO_LOOPS;
 use kinds::{RoundListener, Rounds};
 use rules::Rows;
 
@@ -36,7 +37,9 @@ impl Closing {
         ensures failed { IfErr result (λ e.
             FailedGoing L.hears L.fails rows.now allowance listener.old e listener.new) }
     {
-        self.start(rows);
+        // Room for the rounds, zeroed once.
+        let mut loops = NO_LOOPS;
+        self.start(&mut loops, rows);
         let mut n: Rounds = 0;
         loop {
             if self.is_closed() {
@@ -45,7 +48,7 @@ impl Closing {
             if n == allowance {
                 return Ok(Ran::Spent);
             }
-            let added = self.advance(rows);
+            let added = self.advance(&mut loops, rows);
             n += 1;
             listener.round_made(n, added)?;
         }

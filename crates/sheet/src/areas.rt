@@ -1,4 +1,4 @@
-// Where a mark stands in an area: a bit to a mark. Nothing else knows it.
+// The layout of an area, a bit to a mark: no other code knows it.
 
 ghost use Rattle.std.specs.Prelude.{ℕ, ◌≡◌};
 ghost use Rattle.theory.specs.Sheet.{Mark};
@@ -8,12 +8,11 @@ ghost use Rattle.sheet.specs.Sheets.{IsRound};
 ghost use Rattle.meaning.specs.Layout.{zeros};
 ghost use Rattle.sheet.specs.Areas.{LaysRows, LaysMarks};
 
-use crate::Sheet;
 use crate::closing::Closing;
 use kinds::{AREA, State};
-use sets::ConceptSet;
+use sets::{ConceptSet, Sheet};
 
-/// 1 at the place of each mark and 0 at every other: a row is its number's bytes, the least first.
+/// Writes 1 at the place of each mark and 0 at every other: a row is a number of 16 bytes, the least first.
 pub fn lay(sheet: &Sheet, area: &mut [u8; AREA])
     ensures { LaysRows sheet.now area.new }
 {
@@ -24,14 +23,14 @@ pub fn lay(sheet: &Sheet, area: &mut [u8; AREA])
 }
 
 impl Closing {
-    /// The first area is left the sheet, which is that of n rounds where n rounds were made; the second is cleared.
+    /// Writes the sheet to the first area, which is that of n rounds where n rounds were made, and zeros to the second.
     pub fn leave(&self, first: &mut [u8; AREA], second: &mut [u8; AREA])
-        ensures laid { LaysRows self.now.sheet first.new }
+        ensures laid { LaysRows self.now.sheet.rows first.new }
         ensures first { (rows : TheRows) (n : ℕ) → IsRound rows n self.now
             → LaysMarks (Mark (kind_of rows) n) first.new }
         ensures second { second.new ≡ zeros }
     {
-        lay(&self.sheet, first);
+        lay(&self.sheet.rows, first);
         second.fill(0);
     }
 }

@@ -1,31 +1,31 @@
-// The sheet while it is closed, round by round.
+// The sheet while it is closed, one round at a time.
 
 ghost use Rattle.std.specs.Prelude.{◌<◌};
 ghost use Rattle.kinds.specs.Kinds.{most_states};
-ghost use Rattle.rules.specs.Rows.{IsMarkable, Gets};
-ghost use Rattle.sheet.specs.Finds.{Blank, First, FirstTurn, IsTurn, Turns, RowOf, RowsOf, LineOf};
+ghost use Rattle.rules.specs.Rows.{Gets};
+ghost use Rattle.sheet.specs.Pairs.{Blank, ByState, RowAt};
+ghost use Rattle.sheet.specs.Finds.{RowsFrom, AllRows, EachRow, Own, IsTurn, FirstTurn};
 
-use crate::Sheet;
-use crate::fresh::Fresh;
-use crate::hanging::hangs;
-use crate::joining::{joins, put};
+use crate::delta::Delta;
+use crate::joining::joins;
+use crate::marks::Marks;
+use crate::through::{Loops, through_children};
 use kinds::{MarkCount, State};
 use rules::Rows;
-use sets::ConceptSet;
+use sets::Sheet;
 
 /// The sheet after some rounds, and what one more round adds to it.
 #[derive(Clone, Copy)]
 pub struct Closing {
-    /// For each pair of states the concepts at which it is marked.
-    pub sheet: Sheet,
+    pub sheet: Marks,
 
-    /// Those that one more round adds.
-    pub next: Fresh,
+    /// The marks that one more round adds.
+    pub delta: Delta,
 
-    // What a round has found and not yet settled: between the rounds nothing.
-    found: Sheet,
+    // The marks that a round has found, before they are filtered: between the rounds there are none.
+    candidates: Marks,
 
-    ghost blank: { Blank found },
+    ghost blank: { Blank candidates.rows },
 }
 
 impl Closing {
@@ -39,28 +39,40 @@ impl Closing {
     /// A sheet with no mark, before any round.
     pub fn new() -> Closing {
         Closing {
-            sheet: [ConceptSet::EMPTY; State::PAIRS],
-            next: Fresh::none(),
-            found: [ConceptSet::EMPTY; State::PAIRS],
+            sheet: Marks::none(),
+            delta: Delta::none(),
+            candidates: Marks::none(),
         }
     }
 
     // The sheet of round 0, whatever stood here.
-    pub(crate) fn start(&mut self, rows: &Rows)
+    pub(crate) fn start(&mut self, loops: &mut Loops, rows: &Rows)
         ensures { IsRound rows.now 0 self.new }
     {
-        begin(&mut self.sheet, &mut self.next, &mut self.found, rows);
+        begin(
+            &mut self.sheet,
+            &mut self.delta,
+            &mut self.candidates,
+            loops,
+            rows,
+        );
     }
 
     // One round. How many marks it added.
-    pub(crate) fn advance(&mut self, rows: &Rows) -> MarkCount
+    pub(crate) fn advance(&mut self, loops: &mut Loops, rows: &Rows) -> MarkCount
         ensures round { (n : ℕ) → IsRound rows.now n self.old
             → IsRound rows.now (n + 1) self.new }
         ensures added { (n : ℕ) → IsRound rows.now n self.old
             → Adds (kind_of rows.now) n result }
     {
-        let added = self.next.many;
-        round(&mut self.sheet, &mut self.next, &mut self.found, rows);
+        let added = self.delta.many;
+        round(
+            &mut self.sheet,
+            &mut self.delta,
+            &mut self.candidates,
+            loops,
+            rows,
+        );
         added
     }
 
@@ -69,77 +81,99 @@ impl Closing {
         ensures { (rows : TheRows) (n : ℕ) → IsRound rows n self.now
             → IsTrue result ↔ Unchanged (kind_of rows) n }
     {
-        self.next.many == 0
+        self.delta.many == 0
     }
 }
 
 // ---- a round
 
-// The fresh rows of one state are put into the sheet.
-fn put_line(sheet: &mut Sheet, next: &Sheet, line: ConceptSet, s: usize)
-    requires from { s < most_states }
-    requires line { LineOf next.now s line.0 }
-    ensures { Gets (Turns (RowOf next.now s) most_states) sheet.old sheet.new }
+// The delta's rows from s are added to the sheet.
+fn add_from(sheet: &mut Marks, delta: &Marks, s: usize)
+    requires { s < most_states }
+    ensures { Gets (RowsFrom delta.now s) sheet.old.rows sheet.new.rows }
 {
-    if line.is_empty() {
-        return;
-    }
-    for t in 0..State::NUMBERS {
-        let q = State::NUMBERS * s + t;
-        put(sheet, q, next[q]);
+    for t in delta.pairs[s].iter() {
+        let row = delta.rows[State::NUMBERS * s + t.0 as usize];
+        sheet.put(s, t, row);
     }
 }
 
-fn put_next(sheet: &mut Sheet, next: &Fresh)
-    ensures { Gets (Turns (RowsOf next.now.marks.rows) most_states) sheet.old sheet.new }
+// The delta's marks are added to the sheet.
+fn add(sheet: &mut Marks, delta: &Marks)
+    ensures { Gets (AllRows delta.now) sheet.old.rows sheet.new.rows }
 {
-    for (s, line) in next.marks.lines.iter().enumerate() {
-        put_line(sheet, &next.marks.rows, *line, s);
+    for s in 0..State::NUMBERS {
+        add_from(sheet, delta, s);
     }
 }
 
-// What is next is put into the sheet, and what one more round adds is next. `found` is empty before
-// and after.
-fn round(sheet: &mut Sheet, next: &mut Fresh, found: &mut Sheet, rows: &Rows)
-    requires { Blank found.old }
-    ensures round { IsTurn rows.now sheet.old next.old.marks.rows sheet.new next.new.marks.rows }
-    ensures found { Blank found.new }
+// The delta is added to the sheet, and is then what one more round adds. There is no candidate
+// before and after.
+fn round(
+    sheet: &mut Marks,
+    delta: &mut Delta,
+    candidates: &mut Marks,
+    loops: &mut Loops,
+    rows: &Rows,
+)
+    requires { Blank candidates.old.rows }
+    ensures round { IsTurn rows.now sheet.old.rows delta.old.marks sheet.new delta.new.marks.rows }
+    ensures candidates { Blank candidates.new.rows }
 {
-    put_next(sheet, next);
-    joins(found, next, sheet);
-    hangs(found, next, rows);
-    next.refill(found, sheet, rows);
+    add(sheet, &delta.marks);
+    joins(candidates, &delta.marks, sheet);
+    through_children(candidates, loops, &delta.marks, rows);
+    delta.refill(candidates, sheet, rows);
 }
 
 // ---- round 0
 
-fn first_row(rows: &Rows, s: usize) -> ConceptSet
-    requires { s < most_states }
-    ensures { IsMarkable rows.now s s result.0 }
+// Each declared state is marked to itself, at every valid concept.
+fn put_own(sheet: &mut Marks, rows: &Rows)
+    ensures { Gets (ByState (Own rows.now)) sheet.old.rows sheet.new.rows }
 {
-    rows.markable(State(s as u16), State(s as u16))
-}
-
-// Each declared state to itself.
-fn first(sheet: &mut Sheet, rows: &Rows)
-    ensures { First rows.now most_states sheet.new }
-{
-    *sheet = [ConceptSet::EMPTY; State::PAIRS];
     for s in 0..State::NUMBERS {
-        sheet[State::NUMBERS * s + s] = first_row(rows, s);
+        let own = rows.markable(State(s as u16), State(s as u16));
+        sheet.put_some(s, State(s as u16), own);
     }
 }
 
-// All of round 0 is fresh, and beside what uses it only the tests are found.
-fn begin(sheet: &mut Sheet, next: &mut Fresh, found: &mut Sheet, rows: &Rows)
-    ensures first { First rows.now most_states sheet.new }
-    ensures next { FirstTurn rows.now sheet.new next.new.marks.rows }
-    ensures found { Blank found.new }
+// The rows of s are put.
+fn put_rows_from(candidates: &mut Marks, rows: &Sheet, s: usize)
+    requires { s < most_states }
+    ensures { Gets (ByState (RowAt rows.now s)) candidates.old.rows candidates.new.rows }
 {
-    first(sheet, rows);
-    next.set(sheet);
-    *found = rows.tests;
-    joins(found, next, sheet);
-    hangs(found, next, rows);
-    next.refill(found, sheet, rows);
+    for t in 0..State::NUMBERS {
+        candidates.put_some(s, State(t as u16), rows[State::NUMBERS * s + t]);
+    }
+}
+
+// All rows are put, since nothing tells which of them have marks.
+fn put_rows(candidates: &mut Marks, rows: &Sheet)
+    ensures { Gets (EachRow rows.now) candidates.old.rows candidates.new.rows }
+{
+    for s in 0..State::NUMBERS {
+        put_rows_from(candidates, rows, s);
+    }
+}
+
+// All marks of round 0 are in the delta, and round 1 adds the tests and what uses these marks.
+fn begin(
+    sheet: &mut Marks,
+    delta: &mut Delta,
+    candidates: &mut Marks,
+    loops: &mut Loops,
+    rows: &Rows,
+)
+    requires { Blank candidates.old.rows }
+    ensures first { FirstTurn rows.now sheet.new delta.new.marks.rows }
+    ensures candidates { Blank candidates.new.rows }
+{
+    sheet.clear();
+    put_own(sheet, rows);
+    delta.set(sheet);
+    put_rows(candidates, &rows.tests);
+    joins(candidates, &delta.marks, sheet);
+    through_children(candidates, loops, &delta.marks, rows);
+    delta.refill(candidates, sheet, rows);
 }

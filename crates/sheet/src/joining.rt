@@ -1,78 +1,77 @@
-// Where two marks meet, of which one is fresh.
+// Where two marks meet, of which one is of the delta: they make a candidate.
 
-ghost use Rattle.std.specs.Prelude.{◌<◌, length};
+ghost use Rattle.std.specs.Prelude.{◌<◌};
 ghost use Rattle.kinds.specs.Kinds.{most_states};
 ghost use Rattle.rules.specs.Rows.{Gets};
-ghost use Rattle.sheet.specs.Finds.{Turns, Put, Left, Right, Joined, JoinedFrom, Joins};
+ghost use Rattle.sheet.specs.Finds.{Left, RightFrom, Right, JoinedPair, JoinedFrom, Joins};
 
-use crate::Sheet;
-use crate::fresh::Fresh;
+use crate::marks::Marks;
 use kinds::State;
 use sets::ConceptSet;
 
-// A row put into what is found.
-pub(crate) fn put(found: &mut Sheet, at: usize, row: ConceptSet)
-    requires { at < length found.old }
-    ensures { Gets (Put at row.0) found.old found.new }
-{
-    found[at] = found[at].union(row);
-}
-
-// What a row of (s, u) leads on to, by the rows of the sheet that go on from u.
-fn left(found: &mut Sheet, sheet: &Sheet, row: ConceptSet, s: usize, u: usize)
+// A row of (s, u), with each row of the sheet from u.
+fn left(candidates: &mut Marks, sheet: &Marks, row: ConceptSet, s: usize, u: usize)
     requires from { s < most_states }
     requires to { u < most_states }
-    ensures { Gets (Turns (Left sheet.now row.0 s u) most_states) found.old found.new }
+    ensures { Gets (Left sheet.now row.0 s u) candidates.old.rows candidates.new.rows }
 {
-    for t in 0..State::NUMBERS {
-        let on = row.intersection(sheet[State::NUMBERS * u + t]);
-        put(found, State::NUMBERS * s + t, on);
+    for t in sheet.pairs[u].iter() {
+        let both = row.intersection(sheet.rows[State::NUMBERS * u + t.0 as usize]);
+        candidates.put(s, t, both);
     }
 }
 
-// The same, by the rows of the sheet that lead to s.
-fn right(found: &mut Sheet, sheet: &Sheet, row: ConceptSet, s: usize, u: usize)
+// The same row, with the row of the sheet from r to s.
+fn right_from(candidates: &mut Marks, sheet: &Marks, row: ConceptSet, s: usize, u: State, r: usize)
     requires from { s < most_states }
-    requires to { u < most_states }
-    ensures { Gets (Turns (Right sheet.now row.0 s u) most_states) found.old found.new }
+    requires to { u.0 < most_states }
+    requires before { r < most_states }
+    ensures { Gets (RightFrom sheet.now row.0 s u.0 r) candidates.old.rows candidates.new.rows }
+{
+    if !sheet.pairs[r].contains(State(s as u16)) {
+        return;
+    }
+    let both = row.intersection(sheet.rows[State::NUMBERS * r + s]);
+    candidates.put(r, u, both);
+}
+
+// The same, for each r.
+fn right(candidates: &mut Marks, sheet: &Marks, row: ConceptSet, s: usize, u: State)
+    requires from { s < most_states }
+    requires to { u.0 < most_states }
+    ensures { Gets (Right sheet.now row.0 s u.0) candidates.old.rows candidates.new.rows }
 {
     for r in 0..State::NUMBERS {
-        let on = row.intersection(sheet[State::NUMBERS * r + s]);
-        put(found, State::NUMBERS * r + u, on);
+        right_from(candidates, sheet, row, s, u, r);
     }
 }
 
-// The fresh row of one pair of states, joined on both sides. An empty row has nothing to join.
-fn join_pair(found: &mut Sheet, fresh: &Sheet, sheet: &Sheet, s: usize, u: usize)
+// The delta's row of one pair of states, joined on both sides.
+fn join_pair(candidates: &mut Marks, delta: &Marks, sheet: &Marks, s: usize, u: State)
     requires from { s < most_states }
-    requires to { u < most_states }
-    ensures { Gets (Joined fresh.now sheet.now s u) found.old found.new }
+    requires to { u.0 < most_states }
+    ensures { Gets (JoinedPair delta.now sheet.now s u.0) candidates.old.rows candidates.new.rows }
 {
-    let row = fresh[State::NUMBERS * s + u];
-    if row.is_empty() {
-        return;
-    }
-    left(found, sheet, row, s, u);
-    right(found, sheet, row, s, u);
+    let row = delta.rows[State::NUMBERS * s + u.0 as usize];
+    left(candidates, sheet, row, s, u.0 as usize);
+    right(candidates, sheet, row, s, u);
 }
 
-// The fresh rows of one state. Most states have none.
-fn join_from(found: &mut Sheet, fresh: &Fresh, sheet: &Sheet, s: usize)
+// The delta's rows from s.
+fn join_from(candidates: &mut Marks, delta: &Marks, sheet: &Marks, s: usize)
     requires { s < most_states }
-    ensures { Gets (JoinedFrom fresh.now.marks.rows sheet.now s) found.old found.new }
+    ensures { Gets (JoinedFrom delta.now sheet.now s) candidates.old.rows candidates.new.rows }
 {
-    if fresh.marks.lines[s].is_empty() {
-        return;
-    }
-    for u in 0..State::NUMBERS {
-        join_pair(found, &fresh.marks.rows, sheet, s, u);
+    for u in delta.pairs[s].iter() {
+        join_pair(candidates, delta, sheet, s, u);
     }
 }
 
-pub(crate) fn joins(found: &mut Sheet, fresh: &Fresh, sheet: &Sheet)
-    ensures { Gets (Joins fresh.now.marks.rows sheet.now) found.old found.new }
+// All rows of the delta.
+pub(crate) fn joins(candidates: &mut Marks, delta: &Marks, sheet: &Marks)
+    ensures { Gets (Joins delta.now sheet.now) candidates.old.rows candidates.new.rows }
 {
     for s in 0..State::NUMBERS {
-        join_from(found, fresh, sheet, s);
+        join_from(candidates, delta, sheet, s);
     }
 }

@@ -1,25 +1,18 @@
-// The loop sheet, round by round: what a round adds uses a mark that the round before added.
-#![tactic(auto)]
+// The loop sheet, round by round: each mark that a round adds uses a mark that the round before added.
+#![tactic(auto, using(crate::proofs::Laws::laws))]
 
 mod allowed;
 mod areas;
 mod closing;
-mod counting;
-mod fresh;
-mod hanging;
+mod delta;
+mod filtering;
 mod joining;
-mod settling;
+mod marks;
 pub mod theorems;
+mod through;
 
 pub use allowed::Ran;
 pub use areas::lay;
 pub use closing::Closing;
-pub use fresh::{Fresh, Marks};
-use kinds::State;
-use sets::ConceptSet;
-
-/// For each pair of states the concepts at which it is marked.
-pub type Sheet = [ConceptSet; State::PAIRS];
-
-// For each state the concepts of its rows together.
-type LineSets = [ConceptSet; State::NUMBERS];
+pub use delta::Delta;
+pub use marks::Marks;

@@ -5,4 +5,4 @@ use Rattle.rules.specs.Made.{IsEdge}
 use Rattle.rules.proofs.made.put_edges.Given as goal
 
 abbrev pub invariant-loop-r : goal.invariant-loop-r
-invariant-loop-r l = Filling (IsEdge l.order.below l.ways.by) no_edge most_edges l.fn.edges l.edges l.r
+invariant-loop-r l = Filling (IsEdge l.below l.transitions) no_edge most_edges l.fn.edges l.edges l.r

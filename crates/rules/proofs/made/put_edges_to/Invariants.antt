@@ -1,9 +1,9 @@
--- The concepts below k.
+-- The roles below r.
 use Rattle.laws.specs.Fill.{Filling}
 use Rattle.sets.specs.Rows.{no_roles}
-use Rattle.rules.specs.Rows.{most_concepts}
+use Rattle.rules.specs.Rows.{most_edges}
 use Rattle.rules.proofs.MadeLaws.{EdgesTo}
 use Rattle.rules.proofs.made.put_edges_to.Given as goal
 
-abbrev pub invariant-loop-k : goal.invariant-loop-k
-invariant-loop-k l = Filling EdgesTo no_roles most_concepts l.fn.edges l.edges l.k
+abbrev pub invariant-loop-r : goal.invariant-loop-r
+invariant-loop-r l = Filling EdgesTo no_roles most_edges l.fn.edges l.edges l.r

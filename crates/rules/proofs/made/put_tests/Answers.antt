@@ -4,7 +4,8 @@ use Rattle.rules.proofs.MadeLaws.{tests_start, tests_more}
 use Rattle.rules.proofs.made.put_tests.Goals as goal
 
 pub loop-step-init : goal.loop-step-init
-loop-step-init c = rw (c.into_iter-step-iterator.ensures.into_iter_gives, c.iter-step-items.ensures.first) (tests_start _ _ _ _ c.iter-step-items.ensures.numbers)
+loop-step-init c = rw (c.into_iter-step-iterator.ensures.into_iter_gives, c.iter-step-items.ensures.first)
+    (tests_start _ _ _ _ c.iter-step-items.ensures.numbers)
 
 pub loop-step-preserved : goal.loop-step-preserved
 loop-step-preserved c =

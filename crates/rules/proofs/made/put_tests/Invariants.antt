@@ -5,4 +5,5 @@ use Rattle.rules.proofs.StepLaws.{Reading}
 use Rattle.rules.proofs.made.put_tests.Given as goal
 
 abbrev pub invariant-loop-step : goal.invariant-loop-step
-invariant-loop-step l = Reading (λ Is. Gets (Passes Is l.order.below) l.fn.tests l.tests) l.fn.steps.numbers l.step-iterator.table.numbers l.step-iterator.next
+invariant-loop-step l = Reading
+    (λ Is. Gets (Passes Is l.below) l.fn.tests l.tests) l.fn.steps.numbers l.step-iterator.table.numbers l.step-iterator.next

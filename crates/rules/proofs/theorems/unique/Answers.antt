@@ -1,10 +1,10 @@
 -- Each contract leaves one value.
-use Rattle.rules.proofs.Once.{ways_once, states_once, concepts_once, tests_once, edges_to_once, edges_once, markable_once}
+use Rattle.rules.proofs.Once.{transitions_once, states_once, concepts_once, tests_once, edges_to_once, edges_once, markable_once}
 use Rattle.std.proofs.Common.{sym, ◌∙◌}
 use Rattle.rules.proofs.theorems.unique.Goals as goal
 
-pub returns-clause-one_ways : goal.returns-clause-one_ways
-returns-clause-one_ways c steps above v w p q = ways_once steps above v w p.1 q.1 p.0 q.0
+pub returns-clause-one_transitions : goal.returns-clause-one_transitions
+returns-clause-one_transitions c steps above v w p q = transitions_once steps above v w p.1 q.1 p.0 q.0
 
 pub returns-clause-one_states : goal.returns-clause-one_states
 returns-clause-one_states c = states_once
@@ -19,7 +19,7 @@ pub returns-clause-one_edges_to : goal.returns-clause-one_edges_to
 returns-clause-one_edges_to c v w p q = edges_to_once v w p.1 q.1 p.0 q.0
 
 pub returns-clause-one_edges : goal.returns-clause-one_edges
-returns-clause-one_edges c below ways v w p q = edges_once below ways v w p.1 q.1 p.0 q.0
+returns-clause-one_edges c below transitions v w p q = edges_once below transitions v w p.1 q.1 p.0 q.0
 
 pub returns-clause-one_markable : goal.returns-clause-one_markable
 returns-clause-one_markable c = markable_once

@@ -7,7 +7,8 @@ pub loop-q-init : goal.loop-q-init
 loop-q-init c = going_start _ _ c.told-area
 
 pub loop-q-preserved : goal.loop-q-preserved
-loop-q-preserved c = rw c.copy_from_slice.ensures.after (going_more _ _ _ _ _ c.loop-q.invariant (omega (arith, c.loop-q-test.true)) c.to_le_bytes.ensures (omega arith))
+loop-q-preserved c = rw c.copy_from_slice.ensures.after
+    (going_more _ _ _ _ _ c.loop-q.invariant (omega (arith, c.loop-q-test.true)) c.to_le_bytes.ensures (omega arith))
 
 pub returns : goal.returns
 returns c = going_end _ _ _ (omega arith) c.loop-q.invariant

@@ -1,20 +1,21 @@
--- Round 0 is fresh as a whole; then as a round.
-use Rattle.sheet.proofs.Laws.{settled_blank}
+-- The parts of round 0.
 use Rattle.sheet.proofs.closing.begin.Goals as goal
 
-pub returns-clause-next : goal.returns-clause-next
-returns-clause-next c =
-    let e = c.set.ensures in
-    let j = c.joins.ensures in
-    let h = c.hangs.ensures in
+pub returns-clause-first : goal.returns-clause-first
+returns-clause-first c =
     record {
+      empty = _;
+      first = c.set.new.self.marks;
+      blank = _;
+      zero = _;
       one = _;
       two = _;
-      left = _;
-      joins = rw e at j;
-      hangs = rw e at h;
-      settled = c.refill.ensures;
+      bare = c.clear.ensures;
+      own = c.put_own.ensures;
+      same = c.set.ensures;
+      none = c.requires;
+      tests = c.put_rows.ensures;
+      joins = c.joins.ensures;
+      through = c.through_children.ensures;
+      new = c.refill.ensures.new;
     }
-
-pub returns-clause-found : goal.returns-clause-found
-returns-clause-found c = settled_blank _ _ _ _ _ c.refill.ensures

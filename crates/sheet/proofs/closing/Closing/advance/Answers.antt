@@ -7,7 +7,11 @@ use Rattle.sheet.proofs.closing.Closing.advance.Goals as goal
 pub returns-clause-round : goal.returns-clause-round
 returns-clause-round c = λ n r.
     let t = c.round.ensures.round in
-    rw (add-one n) (record { sheet = turn_sheet c.args.rows.now n _ _ r.sheet r.next _ _ t; next = turn_next c.args.rows.now n _ _ r.sheet r.next _ _ t })
+    rw (add-one n)
+    (record {
+      sheet = turn_sheet c.args.rows.now n _ _ r.sheet r.delta _ _ t;
+      delta = turn_next c.args.rows.now n _ _ r.sheet r.delta _ _ t;
+    })
 
 pub returns-clause-added : goal.returns-clause-added
-returns-clause-added c = λ n r. adds c.args.rows.now n _ r.next _ (omega (arith, c.args.self.now.next.counted))
+returns-clause-added c = λ n r. adds c.args.rows.now n _ r.delta _ (omega (arith, c.args.self.now.delta.counted))

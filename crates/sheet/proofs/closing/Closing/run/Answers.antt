@@ -6,8 +6,8 @@ use Rattle.sheet.proofs.Ending.{ends_needed, ends_spent}
 use Rattle.sheet.proofs.Counts.{no_rounds, going_on, one_more, numbered, failed_at, passed_on}
 use Rattle.sheet.proofs.closing.Closing.run.Goals as goal
 
-pub loop-allowance-init : goal.loop-allowance-init
-loop-allowance-init g c = record {
+pub loop-loops-init : goal.loop-loops-init
+loop-loops-init g c = record {
   going = record { within = omega arith; changing = λ m l s. omega arith };
   round = c.start.ensures;
   counts = [];
@@ -17,17 +17,17 @@ loop-allowance-init g c = record {
 
 pub returns-then-is_closed-clause-ended : goal.returns-then-is_closed-clause-ended
 returns-then-is_closed-clause-ended g c =
-    let v = c.loop-allowance.invariant in
+    let v = c.loop-loops.invariant in
     ends_needed _ _ _ v.going.within v.going.changing _ (c.is_closed.ensures _ _ v.round) c.if-is_closed.true
 
 pub returns-then-n-allowance-clause-ended : goal.returns-then-n-allowance-clause-ended
 returns-then-n-allowance-clause-ended g c =
-    let v = c.loop-allowance.invariant in
+    let v = c.loop-loops.invariant in
     ends_spent _ _ _ v.going.changing _ (c.is_closed.ensures _ _ v.round) c.if-is_closed.false c.if-n-allowance.true
 
-pub loop-allowance-preserved : goal.loop-allowance-preserved
-loop-allowance-preserved g c =
-    let v = c.loop-allowance.invariant in
+pub loop-loops-preserved : goal.loop-loops-preserved
+loop-loops-preserved g c =
+    let v = c.loop-loops.invariant in
     let h = c.in_ok-round_made.ensures.ok in
     record {
       going = going_on c.args.rows.now _ _ v.going _ (c.is_closed.ensures _ _ v.round) c.if-is_closed.false c.if-n-allowance.false;
@@ -39,8 +39,8 @@ loop-allowance-preserved g c =
 
 pub returns-in_err-round_made-clause-failed : goal.returns-in_err-round_made-clause-failed
 returns-in_err-round_made-clause-failed g c =
-    let v = c.loop-allowance.invariant in
+    let v = c.loop-loops.invariant in
     let going = going_on c.args.rows.now _ _ v.going _ (c.is_closed.ensures _ _ v.round) c.if-is_closed.false c.if-n-allowance.false in
     let a = c.advance-added.ensures.added _ v.round in
-    let w = failed_at c.args.rows.now g.L.RoundListener.hears g.L.RoundListener.fails c.args.listener.now c.args.allowance c.loop-allowance.n v.counts _ _ _ _ going v.are a v.told c.in_err-round_made.ensures.err in
+    let w = failed_at c.args.rows.now g.L.RoundListener.hears g.L.RoundListener.fails c.args.listener.now c.args.allowance c.loop-loops.n v.counts _ _ _ _ going v.are a v.told c.in_err-round_made.ensures.err in
     passed_on c.from_residual.result _ _ c.from_residual.ensures.1 w

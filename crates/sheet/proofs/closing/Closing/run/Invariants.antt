@@ -7,8 +7,8 @@ use Rattle.sheet.specs.Sheets.{IsRound}
 use Rattle.sheet.specs.Ends.{Going}
 use Rattle.sheet.proofs.closing.Closing.run.Given as goal
 
-abbrev pub invariant-loop-allowance : goal.invariant-loop-allowance
-invariant-loop-allowance g l = record {
+abbrev pub invariant-loop-loops : goal.invariant-loop-loops
+invariant-loop-loops g l = record {
   going : Going l.rows l.allowance l.n;
   round : IsRound l.rows l.n l.self;
   counts : List ℕ;
@@ -16,5 +16,5 @@ invariant-loop-allowance g l = record {
   told : Told g.L.RoundListener.hears l.fn.listener counts l.listener;
 }
 
-abbrev pub decreases-loop-allowance : goal.decreases-loop-allowance
-decreases-loop-allowance g l = l.allowance - l.n
+abbrev pub decreases-loop-loops : goal.decreases-loop-loops
+decreases-loop-loops g l = l.allowance - l.n

@@ -1,6 +1,0 @@
--- The rows of the states below s.
-use Rattle.rules.specs.Ways.{Gains, Below}
-use Rattle.rules.proofs.ways.join.Given as goal
-
-abbrev pub invariant-loop-s : goal.invariant-loop-s
-invariant-loop-s l = Gains (Below l.relation l.s) l.fn.into l.into

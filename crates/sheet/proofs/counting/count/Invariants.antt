@@ -1,9 +1,0 @@
--- The rows of the states below s are counted.
-use Rattle.std.specs.Prelude.{◌≡◌, ◌*◌, ◌≤◌}
-use Rattle.kinds.specs.Kinds.{most_states}
-use Rattle.rules.specs.Rows.{most_concepts}
-use Rattle.sheet.specs.Finds.{total}
-use Rattle.sheet.proofs.counting.count.Given as goal
-
-abbrev pub invariant-loop-s : goal.invariant-loop-s
-invariant-loop-s l = record { is : l.n ≡ total l.marks.rows l.s; small : l.n ≤ most_states * most_concepts * l.s }

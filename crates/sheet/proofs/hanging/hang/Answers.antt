@@ -1,6 +1,0 @@
--- One state more.
-use Rattle.sheet.proofs.Laws.{gets_more}
-use Rattle.sheet.proofs.hanging.hang.Goals as goal
-
-pub loop-s-preserved : goal.loop-s-preserved
-loop-s-preserved c = gets_more _ _ c.loop-s.invariant c.hang_from.ensures

@@ -1,0 +1,12 @@
+-- The edges that are taken are gone through.
+use Rattle.sets.specs.Relations.{relation_at}
+use Rattle.rules.specs.Rows.{Gets}
+use Rattle.rules.specs.Rows.{edge}
+use Rattle.sets.proofs.Gathering.{Over}
+use Rattle.sheet.specs.Pairs.{By, ByState}
+use Rattle.sheet.specs.Finds.{TripsFrom}
+use Rattle.sheet.proofs.through.through_child.Given as goal
+
+abbrev pub invariant-loop-e : goal.invariant-loop-e
+invariant-loop-e l = Over l.initial.e-iterator.rest.0 l.e-iterator.rest.0
+    (λ D. Gets (By D (λ e. ByState (TripsFrom (relation_at l.loops l.role.0) (edge l.rows e)))) l.fn.candidates.rows l.candidates.rows)
