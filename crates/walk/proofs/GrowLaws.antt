@@ -1,20 +1,21 @@
 -- Sets of states, one for each individual, that grow: what is added, and whether anything was.
-use Rattle.std.specs.Prelude.{◌≡◌, ◌≢◌, refl, ◌⊎◌, Bool, true, false, ◌||◌, List, ℕ, ◌+◌, ◌^◌, ◌<◌, ◌≤◌, length, set}
+use Rattle.std.specs.Prelude.{◌≡◌, ◌≢◌, refl, ◌⊎◌, ◌↔◌, Bool, true, false, ◌||◌, List, [], ◌∷◌, ◌++◌, ℕ, ◌+◌, ◌^◌, ◌<◌, ◌≤◌, length, set}
+use Rattle.std.specs.Prelude.{Contains}
 use Rattle.std.proofs.Common.{sym, ap, ◌∙◌, inl, inr, ⊎_elim, arith, length-set}
 use Rattle.std.proofs.lemmas.Bool.{false≢true}
+use Rattle.std.proofs.lemmas.List.Elements.{Contains-append_left, Contains-push, Contains-push_cases}
 use Rattle.std.proofs.lemmas.List.Sums.{sum_by-set}
-use Rattle.std.proofs.Math.Decide.{ℕ_discrete, dec_lt}
+use Rattle.std.proofs.Math.Decide.{ℕ_discrete}
 use Rattle.kinds.specs.Kinds.{most_individuals}
 use Rattle.sets.specs.Bits.{Has, IsUnion, state_width}
 use Rattle.sets.specs.declared.states.StateSet.{StateSet}
-use Rattle.hops.specs.Chains.{no_hop, target, IsHopFrom, IsFirst}
-use Rattle.hops.specs.Visits.{Visits}
-use Rattle.hops.specs.declared.Hop.{Hop}
+use Rattle.edges.specs.declared.FactEdge.{FactEdge}
 use Rattle.walk.specs.declared.walk.Guide.{Guide}
-use Rattle.walk.specs.Sets.{set_at, empty_set}
-use Rattle.walk.specs.Courses.{LedFrom, ByWay}
-use Rattle.walk.specs.Passes.{total, Ready, Raised, Grows, InSet, ByHop, ByHops}
-use Rattle.walk.proofs.SetLaws.{union_more, set_at-set_same, set_at-set_other}
+use Rattle.sets.specs.Rows.{no_states}
+use Rattle.sets.specs.Relations.{states_at, IsImage}
+use Rattle.walk.specs.Transposed.{EndsWithin}
+use Rattle.walk.specs.Passes.{LedByRole, total, Ready, Raised, Grows, InSet, ByEdge, ByEdges}
+use Rattle.walk.proofs.SetLaws.{union_more, states_at-set_same, states_at-set_other}
 
 tested : (b : Bool) → (b ≡ true) ⊎ (b ≡ false)
 tested true = inl refl
@@ -30,15 +31,15 @@ or_some true y e = inl refl
 or_some false y e = inr e
 
 -- one store
-pub total-set : (l : List StateSet) (x : ℕ) (v : StateSet) → x < length l → total (set l x v) + set_at l x ≡ total l + v.0
-total-set l x v h = sum_by-set (λ (s : StateSet). s.0) l x v empty_set h
+pub total-set : (l : List StateSet) (x : ℕ) (v : StateSet) → x < length l → total (set l x v) + states_at l x ≡ total l + v.0
+total-set l x v h = sum_by-set (λ (s : StateSet). s.0) l x v no_states h
 
 pub ready-set : (l : List StateSet) (x : ℕ) (v : StateSet) → Ready l → v.0 < 2 ^ state_width → Ready (set l x v)
 ready-set l x v r fits = record { long = length-set l x v ∙ r.long; small = λ b h. side b h (ℕ_discrete b x) }
   where
-    side : (b : ℕ) → b < most_individuals → Dec (b ≡ x) → set_at (set l x v) b < 2 ^ state_width
-    side b h (yes e) = rw (e, set_at-set_same l x v (let k = r.long in omega arith)) fits
-    side b h (no ne) = rw (set_at-set_other l x b v ne) (r.small b h)
+    side : (b : ℕ) → b < most_individuals → Dec (b ≡ x) → states_at (set l x v) b < 2 ^ state_width
+    side b h (yes e) = rw (e, states_at-set_same l x v (let k = r.long in omega arith)) fits
+    side b h (no ne) = rw (states_at-set_other l x b v ne) (r.small b h)
 
 pub raised_none : (l : List StateSet) → Raised l l false
 raised_none l = record { ready = λ h. h; keeps = λ b t p. p; still = λ e. refl; grows = λ e. absurd (false≢true e) }
@@ -56,24 +57,31 @@ raised_then {a} {b} {c} {x} {y} v w =
     }
 
 -- one after the other, under any name of both
-pub grows_then : {P Q R : ℕ → ℕ → Type 0} {a b c : List StateSet} {x y : Bool} → Grows P a b x → Grows Q b c y → ((i t : ℕ) → P i t ⊎ Q i t → R i t)
+pub grows_then : {P Q R : ℕ → ℕ → Type 0} {a b c : List StateSet} {x y : Bool} → Grows P a b x → Grows Q b c y
+    → ((i t : ℕ) → P i t ⊎ Q i t → R i t)
     → ((i t : ℕ) → R i t → P i t ⊎ Q i t) → Grows R a c (x || y)
 grows_then v w to from =
     record {
       raised = raised_then v.raised w.raised;
-      comes = λ i t p. ⊎_elim (λ q. ⊎_elim (λ r. inl r) (λ r. inr (to i t (inl r))) (v.comes i t q)) (λ q. inr (to i t (inr q))) (w.comes i t p);
+      comes =
+          λ i t p. ⊎_elim (λ q. ⊎_elim (λ r. inl r) (λ r. inr (to i t (inl r))) (v.comes i t q)) (λ q. inr (to i t (inr q)))
+          (w.comes i t p);
       has = λ i t p. ⊎_elim (λ q. w.raised.keeps i t (v.has i t q)) (λ q. w.has i t q) (from i t p);
     }
 
 pub grows_same : {P Q : ℕ → ℕ → Type 0} {old new : List StateSet} {grew : Bool} → ((b t : ℕ) → P b t → Q b t) → ((b t : ℕ) → Q b t → P b t)
     → Grows P old new grew → Grows Q old new grew
 grows_same to from w =
-    record { raised = w.raised; comes = λ b t p. ⊎_elim (λ q. inl q) (λ q. inr (to b t q)) (w.comes b t p); has = λ b t q. w.has b t (from b t q) }
+    record {
+      raised = w.raised;
+      comes = λ b t p. ⊎_elim (λ q. inl q) (λ q. inr (to b t q)) (w.comes b t p);
+      has = λ b t q. w.has b t (from b t q);
+    }
 
 -- a set put into that of one individual
-module _ (l : List StateSet) (x m : ℕ) (all : StateSet) (u : IsUnion (set_at l x) m all.0) where
+module _ (l : List StateSet) (x m : ℕ) (all : StateSet) (u : IsUnion (states_at l x) m all.0) where
   -- which has it already
-  pub join_none : all.0 ≡ set_at l x → Grows (InSet x m) l l false
+  pub join_none : all.0 ≡ states_at l x → Grows (InSet x m) l l false
   join_none e =
       record {
         raised = raised_none l;
@@ -82,7 +90,7 @@ module _ (l : List StateSet) (x m : ℕ) (all : StateSet) (u : IsUnion (set_at l
       }
 
   -- or not
-  pub join_some : Ready l → x < most_individuals → all.0 ≢ set_at l x → all.0 < 2 ^ state_width → Grows (InSet x m) l (set l x all) true
+  pub join_some : Ready l → x < most_individuals → all.0 ≢ states_at l x → all.0 < 2 ^ state_width → Grows (InSet x m) l (set l x all) true
   join_some r h differs fits =
       record {
         raised = record {
@@ -98,55 +106,57 @@ module _ (l : List StateSet) (x m : ℕ) (all : StateSet) (u : IsUnion (set_at l
       within : x < length l
       within = let k = r.long in omega arith
 
-      here : set_at (set l x all) x ≡ all.0
-      here = set_at-set_same l x all within
+      here : states_at (set l x all) x ≡ all.0
+      here = states_at-set_same l x all within
 
-      keeps : (b t : ℕ) → Has (set_at l b) t → Dec (b ≡ x) → Has (set_at (set l x all) b) t
+      keeps : (b t : ℕ) → Has (states_at l b) t → Dec (b ≡ x) → Has (states_at (set l x all) b) t
       keeps b t p (yes q) = rw (q, here) ((u.member t).1 (inl (rw q at p)))
-      keeps b t p (no ne) = rw (set_at-set_other l x b all ne) p
+      keeps b t p (no ne) = rw (states_at-set_other l x b all ne) p
 
-      comes : (b t : ℕ) → Has (set_at (set l x all) b) t → Dec (b ≡ x) → Has (set_at l b) t ⊎ InSet x m b t
+      comes : (b t : ℕ) → Has (states_at (set l x all) b) t → Dec (b ≡ x) → Has (states_at l b) t ⊎ InSet x m b t
       comes b t p (yes q) = ⊎_elim (λ r. inl (rw q r)) (λ r. inr (record { there = q; in_set = r })) ((u.member t).0 (rw (q, here) at p))
-      comes b t p (no ne) = inl (rw (set_at-set_other l x b all ne) at p)
+      comes b t p (no ne) = inl (rw (states_at-set_other l x b all ne) at p)
 
--- one hop, by the image of the states
-pub grows_hop : (g : Guide) (hop : Hop) (m n : ℕ) (old new : List StateSet) (grew : Bool) → ((t : ℕ) → Has n t → (ByHop g hop m hop.to.0 t)) → ((b t : ℕ) → ByHop g hop m b t → Has n t)
-    → Grows (InSet hop.to.0 n) old new grew → Grows (ByHop g hop m) old new grew
-grows_hop g hop m n old new grew to from w =
-    grows_same (λ b t p. let e = p.there in rw e (to t p.in_set)) (λ b t p. record { there = p.there; in_set = from b t p }) w
+-- one edge, by the image of the states
+pub grows_edge : (g : Guide) (edge : FactEdge) (m n : ℕ) (old new : List StateSet) (grew : Bool) → IsImage (LedByRole g edge.role.0) m n
+    → Grows (InSet edge.to.0 n) old new grew → Grows (ByEdge g edge m) old new grew
+grows_edge g edge m n old new grew i w =
+    grows_same (λ b t p. record { there = p.there; led = (i.member t).0 p.in_set })
+    (λ b t p. record { there = p.there; in_set = (i.member t).1 p.led }) w
 
--- the hops of an individual that come before the place `at` of its chain
-pub record HopsBefore (g : Guide) (a m at b t : ℕ) : Type 0 where
-  pub hop : ℕ
-  pub before : hop < at
-  pub leads : IsHopFrom g.strides.hops.now.facts.numbers.now a hop
-  pub there : b ≡ target g.strides.hops.now.facts.numbers.now hop
-  pub led : LedFrom (ByWay g.course g.strides.loops.now.rows g.strides.ways.now g.strides.hops.now.facts.numbers.now hop) m t
+-- and one by which no state can be new
+pub edge_passed : (g : Guide) (edge : FactEdge) (m : ℕ) (old : List StateSet)
+    → EndsWithin g.directed.now.transitions edge.role.0 (states_at old edge.to.0)
+    → Grows (ByEdge g edge m) old old false
+edge_passed g edge m old within = record {
+  raised = raised_none old;
+  comes = λ b t p. inl p;
+  has = λ b t p. let e = p.there in rw e (within p.led.number t p.led.holds);
+}
 
-module _ (g : Guide) (a m : ℕ) where
-  abbrev facts : List ℕ
-  facts = g.strides.hops.now.facts.numbers.now
+-- edges that were given, one after another
+module _ (g : Guide) (m : ℕ) where
+  pub followed_none : (l : List StateSet) → Grows (ByEdges g (Contains []) m) l l false
+  followed_none l = record { raised = raised_none l; comes = λ b t p. inl p; has = λ b t p. absurd (let n = p.among.1 in omega arith) }
 
-  pub followed_none : (at : ℕ) (l : List StateSet) → IsFirst facts a 0 at → Grows (HopsBefore g a m at) l l false
-  followed_none at l f = record { raised = raised_none l; comes = λ b t p. inl p; has = λ b t p. absurd (f.clear p.hop (omega arith) p.before p.leads) }
-
-  pub followed_more : (at after : ℕ) (hop : Hop) (old now new : List StateSet) (x y : Bool) → Grows (HopsBefore g a m at) old now x → Visits facts a at hop after
-      → Grows (ByHop g hop m) now new y → Grows (HopsBefore g a m after) old new (x || y)
-  followed_more at after hop old now new x y w v n = grows_then w n to from
+  pub followed_more : (given : List FactEdge) (edge : FactEdge) (old now new : List StateSet) (x y : Bool)
+      → Grows (ByEdges g (Contains given) m) old now x
+      → Grows (ByEdge g edge m) now new y → Grows (ByEdges g (Contains (given ++ edge ∷ [])) m) old new (x || y)
+  followed_more given edge old now new x y w n = grows_then w n to from
     where
-      to : (b t : ℕ) → HopsBefore g a m at b t ⊎ ByHop g hop m b t → HopsBefore g a m after b t
-      to b t (inl p) = let o = v.next.onward in let l = p.before in record { hop = p.hop; before = omega arith; leads = p.leads; there = p.there; led = p.led }
-      to b t (inr p) = let e = v.is in let o = v.next.onward in let q = p.there in let r = p.led in record { hop = at; before = omega arith; leads = v.leads; there = rw e at q; led = rw e at r }
+      to : (b t : ℕ) → ByEdges g (Contains given) m b t ⊎ ByEdge g edge m b t → ByEdges g (Contains (given ++ edge ∷ [])) m b t
+      to b t (inl p) = record { edge = p.edge; among = Contains-append_left given (edge ∷ []) p.edge p.among; there = p.there; led = p.led }
+      to b t (inr p) = record { edge = edge; among = Contains-push given edge; there = p.there; led = p.led }
 
-      from : (b t : ℕ) → HopsBefore g a m after b t → HopsBefore g a m at b t ⊎ ByHop g hop m b t
-      from b t p = side (ℕ_discrete p.hop at) (dec_lt p.hop at)
-        where
-          side : Dec (p.hop ≡ at) → Dec (p.hop < at) → HopsBefore g a m at b t ⊎ ByHop g hop m b t
-          side (yes e) d = let q = p.there in let r = p.led in inr (rw v.is (record { there = rw e at q; led = rw e at r }))
-          side (no ne) (yes l) = inl (record { hop = p.hop; before = l; leads = p.leads; there = p.there; led = p.led })
-          side (no ne) (no l) = absurd (v.next.clear p.hop (omega arith) p.before p.leads)
+      from : (b t : ℕ) → ByEdges g (Contains (given ++ edge ∷ [])) m b t → ByEdges g (Contains given) m b t ⊎ ByEdge g edge m b t
+      from b t p =
+          ⊎_elim (λ n. inl (record { edge = p.edge; among = n; there = p.there; led = p.led }))
+          (λ e. inr (rw e (record { there = p.there; led = p.led })))
+          (Contains-push_cases given edge p.edge p.among)
 
-  pub followed_all : (at : ℕ) (old new : List StateSet) (x : Bool) → no_hop ≤ at → Grows (HopsBefore g a m at) old new x → Grows (ByHops g a m) old new x
-  followed_all at old new x h w =
-      grows_same (λ b t p. record { hop = p.hop; leads = p.leads; there = p.there; led = p.led })
-      (λ b t p. record { hop = p.hop; before = (let i = p.leads.inside in omega arith); leads = p.leads; there = p.there; led = p.led }) w
+  pub followed_all : {E F : FactEdge → Type 0} (old new : List StateSet) (x : Bool) → ((edge : FactEdge) → E edge ↔ F edge)
+      → Grows (ByEdges g E m) old new x
+      → Grows (ByEdges g F m) old new x
+  followed_all old new x all w =
+      grows_same (λ b t p. record { edge = p.edge; among = (all p.edge).0 p.among; there = p.there; led = p.led })
+      (λ b t p. record { edge = p.edge; among = (all p.edge).1 p.among; there = p.there; led = p.led }) w

@@ -10,85 +10,94 @@ use Rattle.sets.specs.declared.states.StateSet.{StateSet}
 use Rattle.theory.specs.Run.{Run, stop, one}
 use Rattle.theory.specs.Run as run
 use Rattle.walk.specs.declared.walk.Guide.{Guide}
-use Rattle.walk.specs.Sets.{set_at, row_at}
-use Rattle.walk.specs.Courses.{Led, along, loop}
-use Rattle.walk.specs.Passes.{MoveOf, Ready, Grows, ByHops, Looped, none, more, IsSettled, AllFollowed, Walking, Visited}
-use Rattle.walk.proofs.SetLaws.{set_at-set_same, set_at-set_other, as_number}
+use Rattle.sets.specs.Relations.{states_at, relation_at}
+use Rattle.walk.specs.Directions.{Led, along, loop}
+use Rattle.walk.specs.Walks.{EdgeOf}
+use Rattle.walk.specs.Passes.{MoveOf, Ready, Grows, ByEdges, Looped, none, more, IsWithLoops, AllFollowed, Walking, Visited}
+use Rattle.walk.proofs.SetLaws.{states_at-set_same, states_at-set_other, as_number}
 use Rattle.walk.proofs.GrowLaws.{total-set, ready-set, raised_most}
 
 module _ (g : Guide) where
   -- loops are strides
-  looped-run : (a s t : ℕ) → a < most_individuals → Looped (Led g.course (row_at g.strides.loops.now.rows a)) s t → Run (MoveOf g) a s a t
+  looped-run : (a s t : ℕ) → a < most_individuals → Looped (Led g.directed.now.direction (relation_at g.strides.loops.now.rows a)) s t
+      → Run (MoveOf g) a s a t
   looped-run a s t h none = stop
   looped-run a s t h (more l p) = run.join (looped-run a s _ h l) (one (loop h p))
 
   -- nothing is left to follow
-  pub visited_none : (a : ℕ) (r f : List StateSet) → Ready r → length f ≡ most_individuals → set_at r a ≡ set_at f a → Visited (MoveOf g) a (a + 1) r f r f false
+  pub visited_none : (a : ℕ) (r f : List StateSet) → Ready r → length f ≡ most_individuals → states_at r a ≡ states_at f a
+      → Visited (MoveOf g) a (a + 1) r f r f false
   visited_none a r f ready long e = record {
     ready = ready;
     long = long;
     walks = λ from start w. w;
     most = omega arith;
     grows = λ z. absurd (false≢true z);
-    settled = λ z before. record { at = λ k p. side before k p (ℕ_discrete k a) };
+    all_followed = λ z before. record { at = λ k p. side before k p (ℕ_discrete k a) };
   }
     where
-      side : AllFollowed a r f → (k : ℕ) → k < a + 1 → Dec (k ≡ a) → set_at f k ≡ set_at r k
+      side : AllFollowed a r f → (k : ℕ) → k < a + 1 → Dec (k ≡ a) → states_at f k ≡ states_at r k
       side before k p (yes q) = rw q (sym e)
       side before k p (no ne) = before.at k (omega arith)
 
   -- all is what a's loops reach from its set
   module _ (a : ℕ) (r f : List StateSet) (all : StateSet) (ready : Ready r) (long : length f ≡ most_individuals) (h : a < most_individuals)
-      (own : IsSettled g a (set_at r a) all.0) (fits : all.0 < 2 ^ state_width) where
+      (own : IsWithLoops g a (states_at r a) all.0) (fits : all.0 < 2 ^ state_width) where
     in_r : a < length r
     in_r = let k = ready.long in omega arith
 
-    at_a : set_at (set r a all) a ≡ all.0
-    at_a = set_at-set_same r a all in_r
+    at_a : states_at (set r a all) a ≡ all.0
+    at_a = states_at-set_same r a all in_r
 
-    followed-at : set_at (set f a all) a ≡ all.0
-    followed-at = set_at-set_same f a all (omega arith)
+    followed-at : states_at (set f a all) a ≡ all.0
+    followed-at = states_at-set_same f a all (omega arith)
 
-    keeps-own : (b t : ℕ) → Has (set_at r b) t → Dec (b ≡ a) → Has (set_at (set r a all) b) t
+    keeps-own : (b t : ℕ) → Has (states_at r b) t → Dec (b ≡ a) → Has (states_at (set r a all) b) t
     keeps-own b t p (yes e) = rw (e, at_a) (own.keeps t (rw e at p))
-    keeps-own b t p (no ne) = rw (set_at-set_other r a b all ne) p
+    keeps-own b t p (no ne) = rw (states_at-set_other r a b all ne) p
 
     -- new is what of it was not followed yet
-    module _ (new : ℕ) (r' : List StateSet) (grew : Bool) (is-new : IsMinus all.0 (set_at f a) new) (hops : Grows (ByHops g a new) (set r a all) r' grew) where
-      keeps : (b t : ℕ) → Has (set_at r b) t → Has (set_at r' b) t
+    module _ (new : ℕ) (r' : List StateSet) (grew : Bool) (is-new : IsMinus all.0 (states_at f a) new)
+        (hops : Grows (ByEdges g (EdgeOf g.strides a) new) (set r a all) r' grew) where
+      keeps : (b t : ℕ) → Has (states_at r b) t → Has (states_at r' b) t
       keeps b t p = hops.raised.keeps b t (keeps-own b t p (ℕ_discrete b a))
 
-      has-own : (t : ℕ) → Has all.0 t → Has (set_at r' a) t
+      has-own : (t : ℕ) → Has all.0 t → Has (states_at r' a) t
       has-own t p = hops.raised.keeps a t (rw at_a p)
 
       module _ (from start : ℕ) (w : Walking (MoveOf g) from start r f) where
         sound-all : (t : ℕ) → Has all.0 t → Run (MoveOf g) from start a t
-        sound-all t p = let q = own.sound t p in run.join (w.sound a q.state q.has) (looped-run a q.state t h q.to)
+        sound-all t p = let q = own.sound t p in run.join (w.sound a q.number q.of) (looped-run a q.number t h q.holds)
 
-        sound-own : (b t : ℕ) → Has (set_at (set r a all) b) t → Dec (b ≡ a) → Run (MoveOf g) from start b t
+        sound-own : (b t : ℕ) → Has (states_at (set r a all) b) t → Dec (b ≡ a) → Run (MoveOf g) from start b t
         sound-own b t p (yes e) = let q = rw (e, at_a) at p in rw e (sound-all t q)
-        sound-own b t p (no ne) = w.sound b t (rw (set_at-set_other r a b all ne) at p)
+        sound-own b t p (no ne) = w.sound b t (rw (states_at-set_other r a b all ne) at p)
 
-        sound-hops : (b t : ℕ) → ByHops g a new b t → Run (MoveOf g) from start b t
+        sound-hops : (b t : ℕ) → ByEdges g (EdgeOf g.strides a) new b t → Run (MoveOf g) from start b t
         sound-hops b t p =
             let e = p.there in
             let l = p.led in
-            let s = ((is-new.member l.state).0 l.has).0 in
-            rw e (run.join (sound-all l.state s) (one (along p.hop p.leads l.to)))
+            let s = ((is-new.member l.number).0 l.of).0 in
+            rw e (run.join (sound-all l.number s) (one (along p.edge p.among l.holds)))
 
-        closed_all : (s b t : ℕ) → Has all.0 s → Dec (bit_at (set_at f a) s ≡ 1) → MoveOf g a s b t → Has (set_at r' b) t
+        closed_all : (s b t : ℕ) → Has all.0 s → Dec (bit_at (states_at f a) s ≡ 1) → MoveOf g a s b t → Has (states_at r' b) t
         closed_all s b t p (yes q) m = keeps b t (w.closed a s b t q m)
         closed_all s b t p (no q) (along k l m) =
-            hops.has _ t (record { hop = k; leads = l; there = refl; led = record { state = s; has = (is-new.member s).1 (p, q); to = m } })
+            hops.has _ t (record {
+              edge = k;
+              among = l;
+              there = refl;
+              led = record { number = s; of = (is-new.member s).1 (p, q); holds = m };
+            })
         closed_all s b t p (no q) (loop l m) = has-own t (own.closed s t p m)
 
-        closed : (x s b t : ℕ) → Has (set_at (set f a all) x) s → MoveOf g x s b t → Dec (x ≡ a) → Has (set_at r' b) t
-        closed x s b t p m (yes e) = closed_all s b t (rw (e, followed-at) at p) (ℕ_discrete (bit_at (set_at f a) s) 1) (rw e at m)
-        closed x s b t p m (no ne) = keeps b t (w.closed x s b t (rw (set_at-set_other f a x all ne) at p) m)
+        closed : (x s b t : ℕ) → Has (states_at (set f a all) x) s → MoveOf g x s b t → Dec (x ≡ a) → Has (states_at r' b) t
+        closed x s b t p m (yes e) = closed_all s b t (rw (e, followed-at) at p) (ℕ_discrete (bit_at (states_at f a) s) 1) (rw e at m)
+        closed x s b t p m (no ne) = keeps b t (w.closed x s b t (rw (states_at-set_other f a x all ne) at p) m)
 
-        within : (x s : ℕ) → Has (set_at (set f a all) x) s → Dec (x ≡ a) → Has (set_at r' x) s
+        within : (x s : ℕ) → Has (states_at (set f a all) x) s → Dec (x ≡ a) → Has (states_at r' x) s
         within x s p (yes e) = rw e (has-own s (rw (e, followed-at) at p))
-        within x s p (no ne) = keeps x s (w.within x s (rw (set_at-set_other f a x all ne) at p))
+        within x s p (no ne) = keeps x s (w.within x s (rw (states_at-set_other f a x all ne) at p))
 
         walks : Walking (MoveOf g) from start r' (set f a all)
         walks =
@@ -100,9 +109,10 @@ module _ (g : Guide) where
             }
 
       -- where no other set grew, the individuals below a are as they were, and a's states have been followed
-      followed-to : grew ≡ false → AllFollowed a r f → (k : ℕ) → k < a + 1 → Dec (k ≡ a) → set_at (set f a all) k ≡ set_at r' k
+      followed-to : grew ≡ false → AllFollowed a r f → (k : ℕ) → k < a + 1 → Dec (k ≡ a) → states_at (set f a all) k ≡ states_at r' k
       followed-to z before k p (yes e) = rw (e, followed-at, hops.raised.still z, at_a) refl
-      followed-to z before k p (no ne) = rw (set_at-set_other f a k all ne, hops.raised.still z, set_at-set_other r a k all ne) (before.at k (omega arith))
+      followed-to z before k p (no ne) = rw (states_at-set_other f a k all ne, hops.raised.still z, states_at-set_other r a k all ne)
+          (before.at k (omega arith))
 
       pub visited : Visited (MoveOf g) a (a + 1) r f r' (set f a all) grew
       visited =
@@ -113,8 +123,8 @@ module _ (g : Guide) where
             walks = walks;
             most = omega (arith, raised_most hops.raised, kept);
             grows = λ e. omega (arith, hops.raised.grows e, kept);
-            settled = λ z before. record { at = λ k p. followed-to z before k p (ℕ_discrete k a) };
+            all_followed = λ z before. record { at = λ k p. followed-to z before k p (ℕ_discrete k a) };
           }
         where
-          kept : set_at r a ≤ all.0
-          kept = as_number (set_at r a) all.0 own.keeps
+          kept : states_at r a ≤ all.0
+          kept = as_number (states_at r a) all.0 own.keeps

@@ -7,38 +7,38 @@ use Rattle.kinds.specs.declared.Ask.{Ask}
 use Rattle.kinds.specs.declared.Ask.TheVariants.{Pair, From}
 use Rattle.walk.specs.declared.question.Question.{Question}
 use Rattle.walk.specs.declared.strides.Strides.{Strides}
-use Rattle.walk.specs.Sets.{set_at}
+use Rattle.sets.specs.Relations.{states_at}
 use Rattle.walk.specs.Strides.{Reaches}
 
 -- an individual's set has a final state
 abbrev pub PairHit : List StateSet → ℕ → ℕ → Type 0
-PairHit reached finals second = Meets (set_at reached second) finals
+PairHit reached finals second = Meets (states_at reached second) finals
 
--- some individual's set has an exit of it
-pub record FromHit (reached exits : List StateSet) : Type 0 where
+-- some individual's set has an accepts of it
+pub record FromHit (reached accepting : List StateSet) : Type 0 where
   pub to : ℕ
   pub low : to < most_individuals
-  pub meets : Meets (set_at reached to) (set_at exits to)
+  pub meets : Meets (states_at reached to) (states_at accepting to)
 
 -- what the walk from the first individual reached makes the answer yes
 abbrev pub Hit : List StateSet → Question → Ask → Type 0
 Hit reached q (Pair first second) = PairHit reached q.finals.0 second.0
-Hit reached q (From first) = FromHit reached q.exits.now.rows
+Hit reached q (From first) = FromHit reached q.accepting.now.rows
 
-module _ (loops ways : List (List StateSet)) (facts : List ℕ) (question : Question) where
+module _ (loops transitions : List (List StateSet)) (facts : List ℕ) (question : Question) where
   -- strides lead from the first individual in the start state to the second in a final one
   pub record PairAsked (first second : ℕ) : Type 0 where
     pub state : ℕ
     pub final : Has question.finals.0 state
-    pub reaches : Reaches loops ways facts first question.start.0 second state
+    pub reaches : Reaches loops transitions facts first question.start.0 second state
 
-  -- or to any individual in an exit of it
+  -- or to any individual in an accepts of it
   pub record FromAsked (first : ℕ) : Type 0 where
     pub to : ℕ
     pub state : ℕ
     pub low : to < most_individuals
-    pub exit : Has (set_at question.exits.now.rows to) state
-    pub reaches : Reaches loops ways facts first question.start.0 to state
+    pub accepts : Has (states_at question.accepting.now.rows to) state
+    pub reaches : Reaches loops transitions facts first question.start.0 to state
 
   -- the answer to an ask is yes
   abbrev pub Asked : Ask → Type 0
@@ -46,7 +46,7 @@ module _ (loops ways : List (List StateSet)) (facts : List ℕ) (question : Ques
   Asked (From first) = FromAsked first.0
 
 abbrev pub YesBy : Strides → Question → Ask → Type 0
-YesBy s = Asked s.loops.now.rows s.ways.now s.hops.now.facts.numbers.now
+YesBy s = Asked s.loops.now.rows s.transitions.now s.edges.now.facts.numbers.now
 
 -- v is an answer to the ask, and right
 pub record IsAnswer (s : Strides) (question : Question) (ask : Ask) (v : Option Bool) : Type 0 where

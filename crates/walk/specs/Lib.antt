@@ -1,17 +1,21 @@
 -- What the public contracts name.
-pub mod Sets
 pub mod Strides
 pub mod Loops
-pub mod Parts
+pub mod Batches
 pub mod Asks
 pub mod Finals
-pub mod Known
-pub mod Onward
-pub mod Exits
+pub mod Covers
+pub mod Walks
+pub mod CoReachable
+pub mod Accepting
 pub mod Meant
 -- What the functions keep.
-pub mod Courses
+pub mod LoopParts
+pub mod Directions
+pub mod Transposed
+pub mod Images
+pub mod Guides
 pub mod Passes
-pub mod Pivots
-pub mod Taking
+pub mod Sources
+pub mod MultiWalks
 pub mod Telling

@@ -6,27 +6,32 @@ use Rattle.kinds.specs.declared.State.{State}
 use Rattle.kinds.specs.Kinds.{most_individuals, most_states}
 use Rattle.sets.specs.Bits.{Has, state_width}
 use Rattle.sets.specs.declared.states.StateSet.{StateSet}
-use Rattle.hops.specs.Chains.{target, IsHopFrom}
-use Rattle.hops.specs.declared.Hop.{Hop}
+use Rattle.edges.specs.declared.FactEdge.{FactEdge}
 use Rattle.theory.specs.Run.{Run}
 use Rattle.walk.specs.declared.walk.Guide.{Guide}
 use Rattle.walk.specs.declared.walk.Walk.{Walk}
-use Rattle.walk.specs.Sets.{set_at, row_at}
-use Rattle.walk.specs.Courses.{Led, turned, LedFrom, ByWay, Move}
+use Rattle.sets.specs.Relations.{states_at, relation_at, Relates, LedFrom}
+use Rattle.walk.specs.Directions.{Led, Move}
 
 -- the individuals are tested in groups of this size
 abbrev pub group : ℕ
 group = 15
 
--- the strides that a walk goes by
-abbrev pub MoveOf : Guide → ℕ → ℕ → ℕ → ℕ → Type 0
-MoveOf g = let s = g.strides in
-    Move g.course s.loops.now.rows s.ways.now s.hops.now.facts.numbers.now
+-- the facts, the roles whose edges are listed, and the strides that a walk goes by
+abbrev pub facts_of : Guide → List ℕ
+facts_of g = g.strides.edges.now.facts.numbers.now
 
--- the way of a hop, of the facts that it goes by
-abbrev pub WayOf : Guide → ℕ → ℕ → ℕ → Type 0
-WayOf g = let s = g.strides in
-    ByWay g.course s.loops.now.rows s.ways.now s.hops.now.facts.numbers.now
+abbrev pub roles_of : Guide → ℕ
+roles_of g = g.strides.edges.now.roles.0
+
+abbrev pub MoveOf : Guide → ℕ → ℕ → ℕ → ℕ → Type 0
+MoveOf g =
+    Move g.directed.now.direction g.strides.loops.now.rows g.directed.now.transitions (facts_of g)
+    (roles_of g)
+
+-- from s to t by the transitions of a role
+abbrev pub LedByRole : Guide → ℕ → ℕ → ℕ → Type 0
+LedByRole g R = Relates (relation_at g.directed.now.transitions R)
 
 -- the sets as numbers, together: they grow
 abbrev pub total : List StateSet → ℕ
@@ -35,37 +40,37 @@ total sets = sum_by (λ (x : StateSet). x.0) sets
 -- a set for each individual, as the code holds them
 pub record Ready (sets : List StateSet) : Type 0 where
   pub long : length sets ≡ most_individuals
-  pub small : (b : ℕ) → b < most_individuals → set_at sets b < 2 ^ state_width
+  pub small : (b : ℕ) → b < most_individuals → states_at sets b < 2 ^ state_width
 
 -- new has what old has, and grew says whether it has more
 pub record Raised (old new : List StateSet) (grew : Bool) : Type 0 where
   pub ready : Ready old → Ready new
-  pub keeps : (b t : ℕ) → Has (set_at old b) t → Has (set_at new b) t
+  pub keeps : (b t : ℕ) → Has (states_at old b) t → Has (states_at new b) t
   pub still : grew ≡ false → new ≡ old
   pub grows : grew ≡ true → total old < total new
 
 -- the pairs of P, individual and state, are added
 pub record Grows (P : ℕ → ℕ → Type 0) (old new : List StateSet) (grew : Bool) : Type 0 where
   pub raised : Raised old new grew
-  pub comes : (b t : ℕ) → Has (set_at new b) t → Has (set_at old b) t ⊎ P b t
-  pub has : (b t : ℕ) → P b t → Has (set_at new b) t
+  pub comes : (b t : ℕ) → Has (states_at new b) t → Has (states_at old b) t ⊎ P b t
+  pub has : (b t : ℕ) → P b t → Has (states_at new b) t
 
 -- the states of a set, at one individual
 pub record InSet (x m b t : ℕ) : Type 0 where
   pub there : b ≡ x
   pub in_set : Has m t
 
--- a hop leads from a state of m to b in t
-pub record ByHop (g : Guide) (hop : Hop) (m b t : ℕ) : Type 0 where
-  pub there : b ≡ hop.to.0
-  pub led : LedFrom (Led g.course (row_at g.strides.ways.now (turned g.course hop.role.0))) m t
+-- an edge leads from a state of m to b in t
+pub record ByEdge (g : Guide) (edge : FactEdge) (m b t : ℕ) : Type 0 where
+  pub there : b ≡ edge.to.0
+  pub led : LedFrom (LedByRole g edge.role.0) m t
 
--- one of the hops at the individual a does
-pub record ByHops (g : Guide) (a m b t : ℕ) : Type 0 where
-  pub hop : ℕ
-  pub leads : IsHopFrom g.strides.hops.now.facts.numbers.now a hop
-  pub there : b ≡ target g.strides.hops.now.facts.numbers.now hop
-  pub led : LedFrom (WayOf g hop) m t
+-- one of some edges does
+pub record ByEdges (g : Guide) (E : FactEdge → Type 0) (m b t : ℕ) : Type 0 where
+  pub edge : FactEdge
+  pub among : E edge
+  pub there : b ≡ edge.to.0
+  pub led : LedFrom (LedByRole g edge.role.0) m t
 
 -- the states that a relation leads to from s
 pub data Looped (L : ℕ → ℕ → Type 0) (s : ℕ) : ℕ → Type 0 where
@@ -73,30 +78,32 @@ pub data Looped (L : ℕ → ℕ → Type 0) (s : ℕ) : ℕ → Type 0 where
   more : {t u : ℕ} → Looped L s t → L t u → Looped L s u
 
 -- r is m and all to which the relation leads from it
-pub record Settled (L : ℕ → ℕ → Type 0) (m r : ℕ) : Type 0 where
+pub record IsClosure (L : ℕ → ℕ → Type 0) (m r : ℕ) : Type 0 where
   pub keeps : (t : ℕ) → Has m t → Has r t
   pub sound : (t : ℕ) → Has r t → LedFrom (Looped L) m t
   pub closed : (s t : ℕ) → Has r s → L s t → Has r t
 
-abbrev pub IsSettled : Guide → ℕ → ℕ → ℕ → Type 0
-IsSettled g a = Settled (Led g.course (row_at g.strides.loops.now.rows a))
+abbrev pub IsWithLoops : Guide → ℕ → ℕ → ℕ → Type 0
+IsWithLoops g a = IsClosure (Led g.directed.now.direction (relation_at g.strides.loops.now.rows a))
 
 -- where the test fails, all states of the n individuals from `at` on were followed
 pub record Behind (at n : ℕ) (reached followed : List StateSet) (test : Bool) : Type 0 where
-  pub clean : test ≡ false → (k : ℕ) → at ≤ k → k < at + n → set_at followed k ≡ set_at reached k
+  pub clean : test ≡ false → (k : ℕ) → at ≤ k → k < at + n
+      → states_at followed k ≡ states_at reached k
 
 -- each state of the individuals below n was followed
 pub record AllFollowed (n : ℕ) (reached followed : List StateSet) : Type 0 where
-  pub at : (k : ℕ) → k < n → set_at followed k ≡ set_at reached k
+  pub at : (k : ℕ) → k < n → states_at followed k ≡ states_at reached k
 
 module _ (M : ℕ → ℕ → ℕ → ℕ → Type 0) where
   -- reached holds what strides reach, and has what they reach in one stride from the states that
   -- were followed
   pub record Walking (from start : ℕ) (reached followed : List StateSet) : Type 0 where
-    pub begins : Has (set_at reached from) start
-    pub sound : (b t : ℕ) → Has (set_at reached b) t → Run M from start b t
-    pub within : (a s : ℕ) → Has (set_at followed a) s → Has (set_at reached a) s
-    pub closed : (a s b t : ℕ) → Has (set_at followed a) s → M a s b t → Has (set_at reached b) t
+    pub begins : Has (states_at reached from) start
+    pub sound : (b t : ℕ) → Has (states_at reached b) t → Run M from start b t
+    pub within : (a s : ℕ) → Has (states_at followed a) s → Has (states_at reached a) s
+    pub closed : (a s b t : ℕ) → Has (states_at followed a) s → M a s b t
+        → Has (states_at reached b) t
 
   -- the individuals from lo up to hi were visited; again says whether another set may have grown
   pub record Visited (lo hi : ℕ) (r f r' f' : List StateSet) (again : Bool) : Type 0 where
@@ -105,15 +112,15 @@ module _ (M : ℕ → ℕ → ℕ → ℕ → Type 0) where
     pub walks : (from start : ℕ) → Walking from start r f → Walking from start r' f'
     pub most : total r ≤ total r'
     pub grows : again ≡ true → total r < total r'
-    pub settled : again ≡ false → AllFollowed lo r f → AllFollowed hi r' f'
+    pub all_followed : again ≡ false → AllFollowed lo r f → AllFollowed hi r' f'
 
   -- the states in which each individual is reached
   pub record Found (first : Individual) (start : State) (r : List StateSet) : Type 0 where
     pub long : length r ≡ most_individuals
-    pub sound : (b t : ℕ) → Has (set_at r b) t
+    pub sound : (b t : ℕ) → Has (states_at r b) t
         → (first.0 < most_individuals) × (start.0 < most_states) × Run M first.0 start.0 b t
     pub full : (b t : ℕ) → first.0 < most_individuals → start.0 < most_states
-        → Run M first.0 start.0 b t → Has (set_at r b) t
+        → Run M first.0 start.0 b t → Has (states_at r b) t
 
 -- the same of a walk under way
 abbrev pub Passes : Guide → ℕ → ℕ → Walk → Walk → Bool → Type 0

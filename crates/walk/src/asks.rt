@@ -1,119 +1,395 @@
-// The answers to a part of a row of asks: one walk for each first individual, and pivots from the long ones for those after them.
+// The answers to a batch of asks: by components of firsts that reach the same, then for the firsts that are left by walks of many at once,
+// or one by one where they are few.
 
-ghost use Rattle.std.specs.Prelude.{◌≡◌, ◌+◌, ◌<◌, ◌≤◌, IfSome};
-ghost use Rattle.walk.specs.Parts.{most_part, size_of};
-ghost use Rattle.walk.specs.Telling.{Tells, TellsOf, AnswersTo};
-ghost use Rattle.walk.specs.Known.{WalkedBy};
+ghost use Rattle.std.specs.Prelude.{◌≡◌, ◌↔◌, ◌+◌, ◌<◌, ◌≤◌, IsTrue};
+ghost use Rattle.kinds.specs.Kinds.{most_individuals};
+ghost use Rattle.sets.specs.Bits.{Has};
+ghost use Rattle.walk.specs.Asks.{Hit, FromHit};
+ghost use Rattle.walk.specs.Guides.{IsBackward};
+ghost use Rattle.walk.specs.Batches.{most_batch, size_of, ask_in};
+ghost use Rattle.walk.specs.Sources.{most_sources, AreMarked};
+ghost use Rattle.walk.specs.Telling.{Tells, Answering, IsComponent, OfMember, OfMembers};
+ghost use Rattle.walk.specs.Telling.{Picks, IsPicked, OfPicked, AreMarksOf};
+ghost use Rattle.walk.specs.Telling.{IsAt, IsAtSecond, IsOut, IsHitBy, IsLow};
 
-use crate::hints::{After, Hints};
-use crate::known::Known;
-use crate::part::{Answers, PART, Part};
+use crate::Sets;
+use crate::asking::Asking;
+use crate::batch::{Answers, BATCH, Batch};
+use crate::components::Component;
+use crate::directed::Directed;
+use crate::hints::{FEW, Search, graph, is_on_cycle, levels};
+use crate::multi::{Firsts, Levels, MultiWalk, SOURCES, Sources, word_of};
 use crate::question::Question;
-use crate::walk::Reach;
-use kinds::State;
+use kinds::{Ask, Individual, State};
+use sets::StateSet;
 
-/// What is asked, and for each ask the next one with the same first individual, which is a hint.
+// The number after that of the set of all states that a collection may declare.
+const LOW_END: u32 = 1 << State::NUMBERS;
+
+/// First individuals that walk together, those in the places below the count, each mostly once; and for each individual, and for each ask
+/// of the batch, the place in which it may be found there, which is a hint.
 #[derive(Clone, Copy)]
-pub struct Asking<'q> {
-    pub question: Question<'q>,
-    pub part: Part<'q>,
-    pub after: &'q After,
+pub struct Picked {
+    pub firsts: Firsts,
+    pub count: usize,
+    pub places: [usize; BATCH],
+    place_of: [usize; Individual::NUMBERS],
 }
 
-// What one walk tells of a question.
-#[derive(Clone, Copy)]
-struct Told<'r> {
-    question: Question<'r>,
-    reach: &'r Reach,
+// How many asks of the batch have no answer: a hint.
+fn open_count(answers: &Answers, batch: &Batch) -> usize {
+    let mut open: usize = 0;
+    for k in 0..batch.len() {
+        if answers[k].is_none() {
+            open = open.saturating_add(1);
+        }
+    }
+    open
 }
 
-// The answer to ask j, where it has the walk's first individual.
-fn tell(answers: &mut Answers, part: &Part, told: &Told, j: usize)
-    ensures { TellsOf part.now told.now j answers.old answers.new }
+// Whether what was reached makes the answer yes; `out` says so of an ask with one named end, since it is the same for all of these.
+fn is_hit_or_out(question: Question, reached: &Sets, ask: Ask, out: bool) -> bool
+    requires { IsTrue out ↔ FromHit reached.now question.accepting.now.rows }
+    ensures { IsTrue result ↔ Hit reached.now question.entry ask }
 {
-    let Some(ask) = part.get(j) else {
+    match ask {
+        Ask::Pair(_, _) => question.is_hit(reached, ask),
+        Ask::From(_) => out,
+    }
+}
+
+// The answer to ask k, where its first is a member of the component.
+fn tell_member(answers: &mut Answers, asking: &Asking, component: &Component, out: bool, k: usize)
+    requires component { IsComponent asking.now.strides asking.now.question.start component.now }
+    requires out { IsTrue out
+        ↔ FromHit component.now.reached asking.now.question.accepting.now.rows }
+    ensures { Tells asking.now (OfMember asking.now component.now k) answers.old answers.new }
+{
+    let Some(ask) = asking.batch.get(k) else {
         return;
     };
-    if ask.first() != told.reach.first {
+    if !component.has(ask.first()) {
         return;
     }
-    answers[j] = Some(told.question.is_hit(&told.reach.sets, ask));
+    answers[k] = Some(is_hit_or_out(asking.question, &component.reached, ask, out));
 }
 
-// The ask that a hint gives after j.
-fn ask_after(after: &After, j: usize) -> usize
-    requires { j < most_part }
+// The answers to all asks whose first is a member of the component.
+fn tell_members(answers: &mut Answers, asking: &Asking, component: &Component)
+    requires { IsComponent asking.now.strides asking.now.question.start component.now }
+    ensures { Tells asking.now
+        (OfMembers asking.now component.now (size_of asking.now.batch)) answers.old answers.new }
 {
-    after[j] as usize
-}
-
-// The answers to the asks after k that have the same first individual.
-fn tell_rest(answers: &mut Answers, asking: &Asking, told: &Told, k: usize)
-    requires { k < most_part }
-    ensures { Tells asking.now.part told.now answers.old answers.new }
-{
-    let mut j = k;
-    loop {
-        let next = ask_after(asking.after, j);
-        if next <= j || next >= PART {
-            return;
-        }
-        tell(answers, &asking.part, told, next);
-        j = next;
+    let out = asking
+        .question
+        .is_hit(&component.reached, Ask::From(component.first));
+    for k in 0..asking.batch.len() {
+        tell_member(answers, asking, component, out, k);
     }
 }
 
-// Ask k, and all others of its first individual, unless it has its answer; the walk, where one was made.
-fn answer_one(answers: &mut Answers, known: &Known, asking: &Asking, k: usize) -> Option<Reach>
-    requires { AnswersTo known.now asking.now k answers.old }
-    ensures so_far { AnswersTo known.now asking.now (k + 1) answers.new }
-    ensures walked { IfSome result (λ reach. WalkedBy known.now
-        reach.first asking.now.question.start reach.sets) }
+// Ask k, and the asks of the same first individual, by a walk from it.
+fn answer_alone(answers: &mut Answers, asking: &Asking, k: usize)
+    requires { Answering asking.now k answers.old }
+    ensures { Answering asking.now (k + 1) answers.new }
 {
-    let Some(ask) = asking.part.get(k) else {
-        return None;
+    let Some(ask) = asking.batch.get(k) else {
+        return;
     };
     if answers[k].is_some() {
-        return None;
+        return;
     }
-    let reach = known.walk(ask.first(), asking.question.start);
-    let told = Told {
-        question: asking.question,
-        reach: &reach,
+    let component = Component::alone(asking, ask.first());
+    tell_members(answers, asking, &component);
+}
+
+// Every ask, by one walk from each first individual.
+fn answer_each(answers: &mut Answers, asking: &Asking)
+    requires { Answering asking.now 0 answers.old }
+    ensures { Answering asking.now (size_of asking.now.batch) answers.new }
+{
+    for k in 0..asking.batch.len() {
+        answer_alone(answers, asking, k);
+    }
+}
+
+// The asks of the component of ask k; how many were answered, which is a hint.
+fn answer_component(answers: &mut Answers, asking: &Asking, against: &Directed, k: usize) -> usize
+    requires against { IsBackward asking.now.strides.transitions.now against.now }
+    requires before { Answering asking.now 0 answers.old }
+    ensures { Answering asking.now 0 answers.new }
+{
+    let Some(ask) = asking.batch.get(k) else {
+        return 0;
     };
-    tell(answers, &asking.part, &told, k);
-    tell_rest(answers, asking, &told, k);
-    Some(reach)
+    let open = open_count(answers, &asking.batch);
+    let component = Component::of(asking, against, ask.first());
+    tell_members(answers, asking, &component);
+    open.saturating_sub(open_count(answers, &asking.batch))
 }
 
-// A pivot for the walks after this one, where the hints give one; the walk that was made serves where it is from there.
-fn learn(known: &mut Known, hints: &mut Hints, reach: &Reach, start: State)
-    requires { WalkedBy known.old reach.now.first start reach.now.sets }
-    ensures { known.new ≡ known.old }
+// The asks of some components, while enough are answered by each.
+fn answer_components(answers: &mut Answers, asking: &Asking)
+    requires { Answering asking.now 0 answers.old }
+    ensures { Answering asking.now 0 answers.new }
 {
-    if let Some(x) = hints.pivot(reach, known.used()) {
-        if x == reach.first && hints.turn == start {
-            known.add(reach.first, start, &reach.sets);
-        } else {
-            let ahead = known.walk(x, hints.turn).sets;
-            known.add(x, hints.turn, &ahead);
+    let against = Directed::backward(asking.strides.transitions);
+    let mut search = Search::new();
+    for k in 0..asking.batch.len() {
+        if answers[k].is_none() && search.goes_on() {
+            search.note(answer_component(answers, asking, &against, k));
         }
     }
 }
 
-/// Every ask of the part.
-pub(crate) fn answer_all(
-    answers: &mut Answers,
-    known: &mut Known,
-    asking: &Asking,
-    hints: &mut Hints,
-)
-    requires { AnswersTo known.old asking.now 0 answers.old }
-    ensures { AnswersTo known.old asking.now (size_of asking.now.part) answers.new }
-{
-    for k in 0..asking.part.len() {
-        if let Some(reach) = answer_one(answers, known, asking, k) {
-            learn(known, hints, &reach, asking.question.start);
+impl Picked {
+    ghost use Rattle.std.specs.Prelude.{◌≡◌, ◌<◌, ◌≤◌, ℕ, slice_index};
+    ghost use Rattle.walk.specs.Batches.{most_batch};
+    ghost use Rattle.walk.specs.Sources.{most_sources, first_at};
+    ghost use Rattle.walk.specs.Telling.{Keeps};
+
+    // One first individual is picked, and each ask has the first place.
+    fn new(first: Individual) -> Picked
+        ensures count { result.count ≡ 1 }
+        ensures own { first_at result.firsts 0 ≡ first.0 }
+        ensures places { (k : ℕ) → k < most_batch → slice_index result.places k ≡ 0 }
+    {
+        Picked {
+            firsts: [first; SOURCES],
+            count: 1,
+            places: [0; BATCH],
+            place_of: [0; Individual::NUMBERS],
         }
     }
+
+    // A place in which the individual may have been picked; whether it was is tested where asks are told.
+    fn place_of(&self, first: Individual) -> usize {
+        if first.0 >= Individual::MOST {
+            return SOURCES;
+        }
+        self.place_of[first.0 as usize]
+    }
+
+    // Whether the individual was picked in a place.
+    fn has_at(&self, place: usize, first: Individual) -> bool {
+        place < self.count && place < SOURCES && self.firsts[place] == first
+    }
+
+    // The individual is picked in the next place, if there is room; those that were picked stay.
+    fn add(&mut self, first: Individual)
+        requires { self.old.count ≤ most_sources }
+        ensures { Keeps self.old self.new }
+    {
+        let at = self.count;
+        if at >= SOURCES {
+            return;
+        }
+        if first.0 < Individual::MOST {
+            self.place_of[first.0 as usize] = at;
+        }
+        self.firsts[at] = first;
+        self.count = at + 1;
+    }
+}
+
+// The first of ask j is picked, if the ask is open and it was not picked yet; and the ask is given its place.
+fn pick_one(picked: &mut Picked, answers: &Answers, asking: &Asking, j: usize, k: usize)
+    requires later { k < j }
+    requires picks { Picks asking.now k picked.old }
+    ensures { Picks asking.now k picked.new }
+{
+    let Some(ask) = asking.batch.get(j) else {
+        return;
+    };
+    if answers[j].is_some() {
+        return;
+    }
+    let first = ask.first();
+    if !picked.has_at(picked.place_of(first), first) {
+        picked.add(first);
+    }
+    picked.places[j] = picked.place_of(first);
+}
+
+// The first of ask k, and those of open asks after it.
+fn pick(answers: &Answers, asking: &Asking, ask: Ask, k: usize) -> Picked
+    requires place { k < most_batch }
+    requires ask { ask ≡ ask_in asking.now.batch k }
+    ensures { Picks asking.now k result }
+{
+    let mut picked = Picked::new(ask.first());
+    for j in k + 1..asking.batch.len() {
+        pick_one(&mut picked, answers, asking, j, k);
+    }
+    picked
+}
+
+// The firsts in the states of a set.
+fn at(words: &[Sources; State::NUMBERS], states: StateSet) -> Sources
+    ensures { IsAt states.0 words.now result }
+{
+    let mut out = 0;
+    for s in states.iter() {
+        out |= word_of(words, s);
+    }
+    out
+}
+
+// The firsts that reach an individual in an accepts of it.
+fn at_accepting(walk: &MultiWalk, accepting: &Sets) -> Sources
+    ensures { IsOut walk.now.words accepting.now most_individuals result }
+{
+    let mut out = 0;
+    for b in 0..Individual::NUMBERS {
+        out |= at(&walk.words[b], accepting[b]);
+    }
+    out
+}
+
+// The firsts for which the answer to the ask is yes; out are those that reach an accepts.
+fn hit_by(walk: &MultiWalk, question: Question, ask: Ask, out: Sources) -> Sources
+    requires { IsOut walk.now.words question.accepting.now.rows most_individuals out }
+    ensures { IsHitBy walk.now.words question.entry ask result }
+{
+    match ask {
+        Ask::Pair(_, second) => at_second(walk, question.finals, second),
+        Ask::From(_) => out,
+    }
+}
+
+// The firsts that reach the individual in a state of a set; one that has no row is not reached.
+fn at_second(walk: &MultiWalk, finals: StateSet, second: Individual) -> Sources
+    ensures { IsAtSecond walk.now.words finals.0 second.0 result }
+{
+    if second.0 >= Individual::MOST {
+        return 0;
+    }
+    at(&walk.words[second.0 as usize], finals)
+}
+
+// Whether first k is among some.
+fn is_among(sources: Sources, k: usize) -> bool
+    requires { k < most_sources }
+    ensures { IsTrue result ↔ Has sources k }
+{
+    (sources >> k) & 1 == 1
+}
+
+// What a multi-walk tells of the asks that were picked: `out` has the firsts that reach an individual in an accepts of it.
+#[derive(Clone, Copy)]
+struct Marks<'r> {
+    picked: &'r Picked,
+    walk: &'r MultiWalk,
+    out: Sources,
+}
+
+// The answer to ask j, where the walk in its place begins at its first.
+fn tell_picked(answers: &mut Answers, asking: &Asking, marks: &Marks, j: usize)
+    requires { AreMarksOf asking.now marks.now }
+    ensures { Tells asking.now (IsPicked asking.now marks.now.picked.now j) answers.old answers.new }
+{
+    let Some(ask) = asking.batch.get(j) else {
+        return;
+    };
+    let i = marks.picked.places[j];
+    if i >= marks.picked.count || ask.first() != marks.picked.firsts[i] {
+        return;
+    }
+    let sources = hit_by(marks.walk, asking.question, ask, marks.out);
+    answers[j] = Some(is_among(sources, i));
+}
+
+// The answers to the asks whose firsts were picked, and have walked.
+fn tell_all_picked(answers: &mut Answers, asking: &Asking, picked: &Picked, walk: &MultiWalk)
+    requires few { picked.now.count ≤ most_sources }
+    requires low { IsLow asking.now.question }
+    requires marked { AreMarked asking.now.strides picked.now.firsts picked.now.count
+        asking.now.question.start walk.now.words }
+    ensures { Tells asking.now
+        (OfPicked asking.now picked.now (size_of asking.now.batch)) answers.old answers.new }
+{
+    let marks = Marks {
+        picked,
+        walk,
+        out: at_accepting(walk, &asking.question.accepting.rows),
+    };
+    for j in 0..asking.batch.len() {
+        tell_picked(answers, asking, &marks, j);
+    }
+}
+
+// Ask k, and open asks after it, by walks of all their firsts at once. It is never put into its caller, so that its words are on the stack
+// while these walks are made, and at no other time.
+#[inline(never)]
+fn answer_together(answers: &mut Answers, asking: &Asking, levels: &Levels, k: usize)
+    requires low { IsLow asking.now.question }
+    requires before { Answering asking.now k answers.old }
+    ensures { Answering asking.now (k + 1) answers.new }
+{
+    let Some(ask) = asking.batch.get(k) else {
+        return;
+    };
+    if answers[k].is_some() {
+        return;
+    }
+    let picked = pick(answers, asking, ask, k);
+    let mut walk = MultiWalk::new();
+    walk.walk(
+        &asking.strides,
+        &picked.firsts,
+        picked.count,
+        asking.question.start,
+        levels,
+    );
+    tell_all_picked(answers, asking, &picked, &walk);
+}
+
+// Every ask, by walks of many firsts at once.
+fn answer_many(answers: &mut Answers, asking: &Asking, levels: &Levels)
+    requires low { IsLow asking.now.question }
+    requires before { Answering asking.now 0 answers.old }
+    ensures { Answering asking.now (size_of asking.now.batch) answers.new }
+{
+    for k in 0..asking.batch.len() {
+        answer_together(answers, asking, levels, k);
+    }
+}
+
+// Whether paths end in states alone that have a word in a multi-walk. They do where the tables of a question were made as they are meant.
+fn is_low(question: &Question) -> bool
+    ensures { IsTrue result → IsLow question.now }
+{
+    let mut ends = question.finals;
+    for a in 0..Individual::NUMBERS {
+        ends = ends.union(question.accepting.rows[a]);
+    }
+    ends.0 < LOW_END
+}
+
+// Every ask that components leave open.
+fn answer_rest(answers: &mut Answers, asking: &Asking, levels: &Levels)
+    requires { Answering asking.now 0 answers.old }
+    ensures { Answering asking.now (size_of asking.now.batch) answers.new }
+{
+    if open_count(answers, &asking.batch) < FEW || !is_low(&asking.question) {
+        answer_each(answers, asking);
+        return;
+    }
+    answer_many(answers, asking, levels);
+}
+
+/// Every ask of the batch.
+pub(crate) fn answer_all(answers: &mut Answers, asking: &Asking)
+    requires { Answering asking.now 0 answers.old }
+    ensures { Answering asking.now (size_of asking.now.batch) answers.new }
+{
+    if asking.batch.len() < FEW {
+        answer_each(answers, asking);
+        return;
+    }
+    let graph = graph(&asking.strides);
+    if is_on_cycle(&graph, asking.question.start) {
+        answer_components(answers, asking);
+    }
+    answer_rest(answers, asking, &levels(&graph));
 }

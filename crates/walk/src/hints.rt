@@ -1,168 +1,174 @@
-// Which nodes become pivots, and which asks one walk answers: hints alone, of which nothing is said. Any others would do.
+// Hints: what is tried, in which order, and when trying stops. They change the time that answers take and nothing else, so no contract speaks of them.
 
 ghost use Rattle.std.specs.Prelude.{◌<◌};
 ghost use Rattle.kinds.specs.Kinds.{most_states};
 
-use crate::course::Row;
 use crate::loops::Loops;
-use crate::part::{PART, Part};
-use crate::pivot::Pivot;
-use crate::strides::{Strides, Ways};
-use crate::walk::Reach;
-use kinds::{Individual, State};
-use sets::StateSet;
+use crate::multi::Levels;
+use crate::strides::Strides;
+use kinds::State;
+use sets::{Relation, StateSet, Transitions};
 
-/// For each ask the next one with the same first individual; 0 where there is none.
-pub type After = [u16; PART];
+/// With fewer open asks than this each first individual is walked from alone.
+pub const FEW: usize = 24;
 
-// With so few asks to come a pivot is not worth its two walks.
-const FEW: usize = 4;
+// A component is worth its two walks where it answers so many asks.
+const WORTH: usize = 5;
 
-// A walk of more visits is worth a pivot.
-const LONG: u16 = 8;
+// The search for components ends after so many misses, and one more for each so many asks that were answered.
+const MISSES: usize = 2;
 
-// So many pivots are tried before short walks are counted.
-const TRIED: usize = 4;
+const SHARE: usize = 24;
 
-// So many short walks make up for one pivot more.
-const SHORT: usize = 4;
-
-/// The asks that each ask is answered with.
-pub(crate) fn after_each(part: &Part) -> After {
-    let mut after = [0; PART];
-    let mut nearest = [0; Individual::NUMBERS];
-    for k in (0..part.len()).rev() {
-        let Some(ask) = part.get(k) else {
-            return after;
-        };
-        let first = ask.first().0;
-        if first < Individual::MOST {
-            after[k] = nearest[first as usize];
-            nearest[first as usize] = k as u16;
-        }
-    }
-    after
-}
-
-/// What the choice of pivots goes by: the state that they are made in, how many asks are still to come, and how many walks were short.
+/// How the search for components goes.
 #[derive(Clone, Copy)]
-pub struct Hints {
-    pub turn: State,
-    left: usize,
-    short: usize,
+pub struct Search {
+    misses: usize,
+    found: usize,
 }
 
-// The sets of a row put into those of another.
-fn join_row(graph: &mut Row, row: &Row) {
-    for (set, more) in graph.iter_mut().zip(row.iter()) {
-        *set = set.union(*more);
+// Adds each set of a row to the same set of the graph.
+fn join_row(graph: &mut Relation, row: &Relation) {
+    for s in 0..State::NUMBERS {
+        graph[s] = graph[s].union(row[s]);
     }
 }
 
 // The same, but for what leads from a state back to itself.
-fn join_onward(graph: &mut Row, row: &Row) {
+fn join_onward(graph: &mut Relation, row: &Relation) {
     for s in 0..State::NUMBERS {
         let own = StateSet::only(State(s as u16));
         graph[s] = graph[s].union(row[s].minus(own));
     }
 }
 
-// From each state where the ways of some role lead.
-fn by_ways(graph: &mut Row, ways: &Ways) {
-    for row in ways.iter() {
+// Adds where the edges by some role lead from each state.
+fn by_edges(graph: &mut Relation, transitions: &Transitions) {
+    for row in transitions.iter() {
         join_row(graph, row);
     }
 }
 
-// And where the loops of some individual lead: but for those that stay in a state, since each declared state has one.
-fn by_loops(graph: &mut Row, loops: &Loops) {
+// Adds where the loops of some individual lead, but for those that stay in their state: each declared state has one.
+fn by_loops(graph: &mut Relation, loops: &Loops) {
     for row in loops.rows.iter() {
         join_onward(graph, row);
     }
 }
 
-// Each state that leads to k leads where k does.
-fn through(graph: &mut Row, k: usize)
+// Each state that leads to k leads where k does: one step of the transitive closure.
+fn through(graph: &mut Relation, k: usize)
     requires { k < most_states }
 {
-    let via = graph[k];
+    let onward = graph[k];
     for set in graph.iter_mut() {
         if set.contains(State(k as u16)) {
-            *set = set.union(via);
+            *set = set.union(onward);
         }
     }
 }
 
-// Where paths lead from each state.
-fn paths(strides: &Strides) -> Row {
-    let mut graph = [StateSet::EMPTY; State::NUMBERS];
-    by_ways(&mut graph, strides.ways);
-    by_loops(&mut graph, strides.loops);
+// The transitive closure of the graph.
+fn close(graph: &mut Relation) {
     for k in 0..State::NUMBERS {
-        through(&mut graph, k);
+        through(graph, k);
     }
+}
+
+/// Whether transitions lead from some state back to it.
+pub(crate) fn lead_in_circle(transitions: &Transitions) -> bool {
+    let mut graph = [StateSet::EMPTY; State::NUMBERS];
+    by_edges(&mut graph, transitions);
+    close(&mut graph);
+    for s in 0..State::MOST {
+        if is_on_cycle(&graph, State(s)) {
+            return true;
+        }
+    }
+    false
+}
+
+/// Where paths lead from each state, by edges and by the loops of any individual.
+pub(crate) fn graph(strides: &Strides) -> Relation {
+    let mut graph = [StateSet::EMPTY; State::NUMBERS];
+    by_edges(&mut graph, strides.transitions);
+    by_loops(&mut graph, strides.loops);
+    close(&mut graph);
     graph
 }
 
-// The start state where paths lead back to it; else, of the states that they lead to and back to, the one that leads to most.
-fn turning(graph: &Row, start: State) -> State {
-    if start.0 >= State::MOST {
-        return start;
+// The state s, and those that it leads to and that lead to it.
+fn class_of(graph: &Relation, s: State) -> StateSet {
+    let mut class = StateSet::only(s);
+    if s.0 >= State::MOST {
+        return class;
     }
-    let from = graph[start.0 as usize];
-    if from.contains(start) {
-        return start;
-    }
-    let mut best = start;
-    let mut most = 0;
-    for (t, set) in graph.iter().enumerate() {
-        let state = State(t as u16);
-        let onward = set.len();
-        if from.contains(state) && set.contains(state) && onward > most {
-            best = state;
-            most = onward;
+    for t in graph[s.0 as usize].iter() {
+        if t.0 < State::MOST && graph[t.0 as usize].contains(s) {
+            class.insert(t);
         }
     }
-    best
+    class
 }
 
-// The first individual where it was reached in the state, else the lowest that was.
-fn picked(reach: &Reach, turn: State) -> Option<Individual> {
-    let first = reach.first;
-    if first.0 < Individual::MOST && reach.sets[first.0 as usize].contains(turn) {
-        return Some(first);
+// Puts a class into the next place.
+fn place(levels: &mut Levels, next: &mut usize, class: StateSet) {
+    let at = *next;
+    if at < State::NUMBERS {
+        levels[at] = class;
+        *next = at + 1;
     }
-    let b = reach.sets.iter().position(|set| set.contains(turn))?;
-    Some(Individual(b as u16))
 }
 
-impl Hints {
-    pub(crate) fn new(strides: &Strides, start: State, asks: usize) -> Hints {
-        let turn = if asks > FEW {
-            turning(&paths(strides), start)
+// The classes of the states that lead to so many states, themselves among them.
+fn place_classes(levels: &mut Levels, next: &mut usize, graph: &Relation, reached: u32) {
+    let mut placed = StateSet::EMPTY;
+    for (s, set) in graph.iter().enumerate() {
+        let state = State(s as u16);
+        let all = set.union(StateSet::only(state));
+        if all.len() == reached && !placed.contains(state) {
+            let class = class_of(graph, state);
+            placed = placed.union(class);
+            place(levels, next, class);
+        }
+    }
+}
+
+/// The classes of states that lead to each other, each before those to which it leads, since it leads to more states than they do.
+pub(crate) fn levels(graph: &Relation) -> Levels {
+    let mut levels = [StateSet::EMPTY; State::NUMBERS];
+    let mut next = 0;
+    for fewer in 0..State::MOST {
+        let reached = State::MOST as u32 - fewer as u32;
+        place_classes(&mut levels, &mut next, graph, reached);
+    }
+    levels
+}
+
+/// Whether the graph leads from the state back to it.
+pub(crate) fn is_on_cycle(graph: &Relation, s: State) -> bool {
+    s.0 < State::MOST && graph[s.0 as usize].contains(s)
+}
+
+impl Search {
+    pub(crate) fn new() -> Search {
+        Search {
+            misses: 0,
+            found: 0,
+        }
+    }
+
+    /// Whether one more component is looked for.
+    pub(crate) fn goes_on(&self) -> bool {
+        self.misses < MISSES + self.found / SHARE
+    }
+
+    /// A component answered so many asks.
+    pub(crate) fn note(&mut self, answered: usize) {
+        if answered < WORTH {
+            self.misses = self.misses.saturating_add(1);
         } else {
-            start
-        };
-        Hints {
-            turn,
-            left: asks,
-            short: 0,
+            self.found = self.found.saturating_add(answered);
         }
-    }
-
-    /// The individual that a walk makes a pivot of, in the state `turn`; `used` pivots are made.
-    pub(crate) fn pivot(&mut self, reach: &Reach, used: usize) -> Option<Individual> {
-        self.left = self.left.saturating_sub(1);
-        if self.left < FEW {
-            return None;
-        }
-        if reach.visits <= LONG {
-            self.short = self.short.saturating_add(1);
-            return None;
-        }
-        if used >= Pivot::MOST || used >= TRIED + self.short / SHORT {
-            return None;
-        }
-        picked(reach, self.turn)
     }
 }

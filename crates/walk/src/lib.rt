@@ -1,29 +1,32 @@
 // The individuals' walk over the closed sheet: where it leads from one individual, and the answers to many asks.
 #![tactic(auto)]
 
+mod accepting;
+mod answering;
+mod asking;
 mod asks;
-mod course;
-mod exits;
+mod batch;
+mod components;
+mod coreachable;
+mod directed;
+mod direction;
 mod hints;
-mod known;
+mod images;
 mod loops;
-mod onward;
-mod part;
-mod pivot;
+mod multi;
 mod question;
 mod strides;
 pub mod theorems;
 mod walk;
 
-pub use course::Row;
-pub use exits::Exits;
+pub use accepting::Accepting;
+pub use batch::{Answers, BATCH};
+pub use coreachable::PathsBelow;
 use kinds::Individual;
-pub use loops::{Loops, Sheet};
-pub use onward::Tree;
-pub use part::{Answers, PART};
+pub use loops::Loops;
 pub use question::Question;
 use sets::StateSet;
-pub use strides::{Strides, Ways};
+pub use strides::{Strides, roles_of};
 
 /// A set of states for each individual.
 pub type Sets = [StateSet; Individual::NUMBERS];

@@ -1,47 +1,145 @@
-// The loops of each individual, made from its concepts and the closed sheet.
+// The loops of each individual, made from its concepts and the closed sheet. Most individuals share many concepts: the loops by these are made
+// once, and for each concept those that it gives besides. An individual's loops are what all share, joined with what its own concepts give.
 
-ghost use Rattle.std.specs.Prelude.{◌<◌};
+ghost use Rattle.std.specs.Prelude.{◌*◌, ◌<◌};
 ghost use Rattle.kinds.specs.Kinds.{most_states};
-ghost use Rattle.walk.specs.Sets.{IsGathered};
+ghost use Rattle.sets.specs.Bits.{Has, IsEmpty, IsSetOf};
 ghost use Rattle.walk.specs.Loops.{LoopTo, IsLoopRow, AreLoops};
+ghost use Rattle.walk.specs.LoopParts.{Within, AreShared, IsLeft, AreRelations, Puts, AreByConcept, Joined, Gives, IsRowOf};
 
-use crate::course::{Row, with};
-use kinds::{Individual, State};
-use sets::{ConceptSet, StateSet};
-
-/// The closed sheet: for each pair of states the concepts that it marks.
-pub type Sheet = [ConceptSet; State::PAIRS];
+use kinds::{Concept, Individual, State};
+use sets::{ConceptSet, Relation, Sheet, StateSet};
 
 /// For each individual and each state, the states to which the individual's loops lead.
 #[derive(Clone, Copy)]
 pub struct Loops {
-    pub rows: [Row; Individual::NUMBERS],
+    pub rows: [Relation; Individual::NUMBERS],
 }
 
-// The states to which loops lead from s at an individual that has the concepts.
+/// For each concept the loops that it gives beside those that individuals share, and the concepts that give any.
+#[derive(Clone, Copy)]
+pub struct ByConcept {
+    pub rows: [Relation; Concept::NUMBERS],
+    pub useful: ConceptSet,
+}
+
+// The states to which loops lead from s by the concepts.
 fn loops_from(sheet: &Sheet, s: usize, concepts: ConceptSet) -> StateSet
     requires { s < most_states }
-    ensures { IsGathered (LoopTo sheet.now concepts.0 s) result.0 }
+    ensures { IsSetOf (LoopTo sheet.now concepts.0 s) result.0 }
 {
     let mut out = StateSet::EMPTY;
     for t in 0..State::NUMBERS {
-        out = with(out, t, sheet[State::NUMBERS * s + t].intersects(concepts));
+        out.insert_if(
+            State(t as u16),
+            sheet[State::NUMBERS * s + t].intersects(concepts),
+        );
     }
     out
 }
 
-// The same from each state. The many individuals with no concept are passed over.
-fn loop_row(sheet: &Sheet, concepts: ConceptSet) -> Row
+// The same from each state.
+fn loops_by(sheet: &Sheet, concepts: ConceptSet) -> Relation
     ensures { IsLoopRow sheet.now concepts.0 result }
 {
     let mut out = [StateSet::EMPTY; State::NUMBERS];
-    if concepts.is_empty() {
-        return out;
-    }
     for (s, set) in out.iter_mut().enumerate() {
         *set = loops_from(sheet, s, concepts);
     }
     out
+}
+
+// What an individual with the concepts shares with those before it. One that has no concept is left out.
+fn shared_with(so_far: ConceptSet, concepts: ConceptSet) -> ConceptSet
+    ensures keeps { Within result.0 so_far.0 }
+    ensures own { (IsEmpty concepts.0 → ⊥) → Within result.0 concepts.0 }
+{
+    if concepts.is_empty() {
+        return so_far;
+    }
+    so_far.intersection(concepts)
+}
+
+/// The concepts that all individuals have that have any.
+pub(crate) fn shared_concepts(individuals: &[ConceptSet; Individual::NUMBERS]) -> ConceptSet
+    ensures { AreShared individuals.now result.0 }
+{
+    let mut out = ConceptSet(u128::MAX);
+    for concepts in individuals.iter() {
+        out = shared_with(out, *concepts);
+    }
+    out
+}
+
+// The concepts at which pair q of states is marked; none where the pair is related already.
+fn left_at(sheet: &Sheet, shared: &Relation, q: usize) -> ConceptSet
+    requires { q < most_states * most_states }
+    ensures { IsSetOf (IsLeft sheet.now shared.now q) result.0 }
+{
+    let to = State((q % State::NUMBERS) as u16);
+    if shared[q / State::NUMBERS].contains(to) {
+        return ConceptSet::EMPTY;
+    }
+    sheet[q]
+}
+
+// Each of the concepts relates s to t.
+fn put(rows: &mut [Relation; Concept::NUMBERS], concepts: ConceptSet, s: usize, t: State)
+    requires from { s < most_states }
+    requires to { t.0 < most_states }
+    requires ready { AreRelations rows.old }
+    ensures ready { AreRelations rows.new }
+    ensures put { Puts (Has concepts.0) s t.0 rows.old rows.new }
+{
+    for concept in concepts.iter() {
+        rows[concept.number()][s].insert(t);
+    }
+}
+
+// The loops by each concept, of the pairs that are left.
+fn by_concept(sheet: &Sheet, shared: &Relation) -> ByConcept
+    ensures { AreByConcept sheet.now shared.now result }
+{
+    let mut rows = [[StateSet::EMPTY; State::NUMBERS]; Concept::NUMBERS];
+    let mut useful = ConceptSet::EMPTY;
+    for q in 0..State::PAIRS {
+        let left = left_at(sheet, shared, q);
+        let to = State((q % State::NUMBERS) as u16);
+        useful = useful.union(left);
+        put(&mut rows, left, q / State::NUMBERS, to);
+    }
+    ByConcept { rows, useful }
+}
+
+// The pairs of another relation are added.
+fn add_relation(relation: &mut Relation, more: &Relation)
+    ensures { Joined relation.old more.now relation.new }
+{
+    for s in 0..State::NUMBERS {
+        relation[s] = relation[s].union(more[s]);
+    }
+}
+
+// What is shared, with what each of the concepts gives.
+fn joined(shared: &Relation, by_concept: &ByConcept, concepts: ConceptSet) -> Relation
+    ensures { Gives (Has concepts.0) shared.now by_concept.now result }
+{
+    let mut out = *shared;
+    for concept in concepts.iter() {
+        add_relation(&mut out, &by_concept.rows[concept.number()]);
+    }
+    out
+}
+
+// The loops of an individual that has the concepts. With none there is no loop.
+fn loops_of(shared: &Relation, by_concept: &ByConcept, concepts: ConceptSet) -> Relation
+    ensures { IsRowOf shared.now by_concept.now concepts.0 result }
+{
+    if concepts.is_empty() {
+        return [StateSet::EMPTY; State::NUMBERS];
+    }
+    let useful = concepts.intersection(by_concept.useful);
+    joined(shared, by_concept, useful)
 }
 
 impl Loops {
@@ -53,8 +151,10 @@ impl Loops {
     pub fn fill(&mut self, individuals: &[ConceptSet; Individual::NUMBERS], sheet: &Sheet)
         ensures { AreLoops individuals.now sheet.now self.new.rows }
     {
+        let shared = loops_by(sheet, shared_concepts(individuals));
+        let by_concept = by_concept(sheet, &shared);
         for a in 0..Individual::NUMBERS {
-            self.rows[a] = loop_row(sheet, individuals[a]);
+            self.rows[a] = loops_of(&shared, &by_concept, individuals[a]);
         }
     }
 }

@@ -5,18 +5,18 @@ ghost use Rattle.walk.specs.Asks.{PairHit, FromHit};
 ghost use Rattle.walk.specs.Finals.{AreFinals};
 
 use crate::Sets;
-use crate::exits::Exits;
-use crate::onward::Tree;
+use crate::accepting::Accepting;
+use crate::coreachable::PathsBelow;
 use kinds::{Ask, Individual, State};
 use sets::{ConceptSet, StateSet};
 use tables::Table;
 
-/// Where paths begin; and where they may end: of a pair in the final states, of one named end in the exits of any individual.
+/// Where paths begin; and where they may end: of a pair in the final states, of one named end in the accepting states of any individual.
 #[derive(Clone, Copy)]
 pub struct Question<'q> {
     pub start: State,
     pub finals: StateSet,
-    pub exits: &'q Exits,
+    pub accepting: &'q Accepting,
 }
 
 // The states of a table of finals.
@@ -40,12 +40,12 @@ fn is_in_final(reached: &Sets, finals: StateSet, second: Individual) -> bool
     reached[second.0 as usize].intersects(finals)
 }
 
-// Some individual was reached in an exit of it.
-fn is_out(reached: &Sets, exits: &Exits) -> bool
-    ensures { IsTrue result ↔ FromHit reached.now exits.now.rows }
+// Some individual was reached in one of its accepting states.
+fn is_out(reached: &Sets, accepting: &Accepting) -> bool
+    ensures { IsTrue result ↔ FromHit reached.now accepting.now.rows }
 {
     for a in 0..Individual::NUMBERS {
-        if reached[a].intersects(exits.rows[a]) {
+        if reached[a].intersects(accepting.rows[a]) {
             return true;
         }
     }
@@ -54,24 +54,24 @@ fn is_out(reached: &Sets, exits: &Exits) -> bool
 
 impl<'q> Question<'q> {
     ghost use Rattle.walk.specs.Asks.{Hit};
-    ghost use Rattle.walk.specs.Exits.{AreExits};
+    ghost use Rattle.walk.specs.Accepting.{AreAccepting};
 
-    /// Paths begin in the start state, and end as the tree says. The exits are made of what each individual has.
+    /// Paths begin in the start state, and end as the tables of paths below individuals say. Accepting states are made of what each individual has.
     pub fn new(
         start: State,
-        tree: &Tree,
+        paths: &PathsBelow,
         individuals: &[ConceptSet; Individual::NUMBERS],
-        exits: &'q mut Exits,
+        accepting: &'q mut Accepting,
     ) -> Question<'q>
         ensures start { result.start ≡ start }
-        ensures finals { result.finals ≡ tree.now.finals }
-        ensures exits { AreExits individuals.now tree.now result.exits.now.rows }
+        ensures finals { result.finals ≡ paths.now.finals }
+        ensures accepting { AreAccepting individuals.now paths.now result.accepting.now.rows }
     {
-        exits.fill(individuals, tree);
+        accepting.fill(individuals, paths);
         Question {
             start,
-            finals: tree.finals,
-            exits,
+            finals: paths.finals,
+            accepting,
         }
     }
 
@@ -81,7 +81,7 @@ impl<'q> Question<'q> {
     {
         match ask {
             Ask::Pair(_, second) => is_in_final(reached, self.finals, second),
-            Ask::From(_) => is_out(reached, self.exits),
+            Ask::From(_) => is_out(reached, self.accepting),
         }
     }
 }

@@ -1,6 +1,6 @@
 -- `loops_from`: the states below t are in where a loop leads to them.
+use Rattle.sets.proofs.Gathering.{Gathering}
 use Rattle.walk.specs.Loops.{LoopTo}
-use Rattle.walk.proofs.SetLaws.{Gathering}
 use Rattle.walk.proofs.loops.loops_from.Given as goal
 
 abbrev pub invariant-loop-t : goal.invariant-loop-t

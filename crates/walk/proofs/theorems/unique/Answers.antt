@@ -1,6 +1,6 @@
 -- Each contract leaves one value.
 use Rattle.walk.proofs.LoopLaws.{loops-once}
-use Rattle.walk.proofs.ExitLaws.{exits-once}
+use Rattle.walk.proofs.AcceptingLaws.{accepting-once}
 use Rattle.walk.proofs.FinalLaws.{finals-once}
 use Rattle.walk.proofs.WalkLaws.{found-once}
 use Rattle.walk.proofs.TellLaws.{answers-once}
@@ -9,8 +9,8 @@ use Rattle.walk.proofs.theorems.unique.Goals as goal
 pub returns-clause-one_loops : goal.returns-clause-one_loops
 returns-clause-one_loops c = loops-once
 
-pub returns-clause-one_exits : goal.returns-clause-one_exits
-returns-clause-one_exits c = exits-once
+pub returns-clause-one_accepting : goal.returns-clause-one_accepting
+returns-clause-one_accepting c = accepting-once
 
 pub returns-clause-one_finals : goal.returns-clause-one_finals
 returns-clause-one_finals c = finals-once

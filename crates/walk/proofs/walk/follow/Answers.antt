@@ -1,10 +1,9 @@
--- `follow`: what is joined is the image of the states by the ways of the hop's role.
-use Rattle.std.proofs.Common.{refl}
-use Rattle.walk.proofs.GrowLaws.{grows_hop}
+-- `follow`: nothing where no state can be new, else the image of the states by the edge's role.
+use Rattle.walk.proofs.GrowLaws.{grows_edge, edge_passed}
 use Rattle.walk.proofs.walk.follow.Goals as goal
 
-pub returns : goal.returns
-returns c =
-    grows_hop c.args.guide.now c.args.hop _ _ _ _ _
-    (λ t p. record { there = refl; led = rw c.role-by.ensures at (c.led-next.ensures.at t).0 p })
-    (λ b t p. let q = p.led in (c.led-next.ensures.at t).1 (rw c.role-by.ensures q)) c.join.ensures
+pub returns-then-ends_within-clause-grows : goal.returns-then-ends_within-clause-grows
+returns-then-ends_within-clause-grows c = edge_passed c.args.guide.now c.args.edge _ _ (c.ends_within.ensures c.if-ends_within.true)
+
+pub returns-clause-grows : goal.returns-clause-grows
+returns-clause-grows c = grows_edge c.args.guide.now c.args.edge _ _ _ _ _ c.by-next.ensures.image c.join.ensures

@@ -8,4 +8,5 @@ pub returns-then-eq : goal.returns-then-eq
 returns-then-eq c = join_none _ _ _ _ c.union-all.ensures (eqb-true _ _ (sym c.eq.ensures ∙ c.if-eq.true))
 
 pub returns : goal.returns
-returns c = join_some _ _ _ _ c.union-all.ensures c.requires.ready c.requires.row (eqb-false _ _ (sym c.eq.ensures ∙ c.if-eq.false)) (search rules)
+returns c = join_some _ _ _ _ c.union-all.ensures c.requires.ready c.requires.row (eqb-false _ _ (sym c.eq.ensures ∙ c.if-eq.false))
+    (search rules)

@@ -9,4 +9,5 @@ returns-then-eq c = visited_none c.args.guide.now _ _ _ c.requires.ready c.requi
 
 pub returns : goal.returns
 returns c =
-    visited _ _ _ _ _ c.requires.ready c.requires.long c.requires.row c.settle-all.ensures (search rules) _ _ _ c.minus-new.ensures c.follow_all.ensures
+    visited _ _ _ _ _ c.requires.ready c.requires.long c.requires.row c.with_loops-all.ensures
+    (search rules) _ _ _ c.minus-new.ensures c.follow_all.ensures

@@ -1,0 +1,6 @@
+-- `walk`: no node is behind at the end.
+use Rattle.walk.proofs.SweepLaws.{walked}
+use Rattle.walk.proofs.multi.MultiWalk.walk.Goals as goal
+
+pub returns : goal.returns
+returns c = walked _ _ _ _ _ _ c.rows_are_long.ensures c.begin.ensures c.exhaust_all.ensures

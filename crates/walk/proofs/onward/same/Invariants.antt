@@ -1,7 +1,0 @@
--- `same`: the sets of the states below s are equal.
-use Rattle.std.proofs.Common.{ℕ, ◌≡◌, ◌<◌}
-use Rattle.walk.specs.Sets.{concepts_at}
-use Rattle.walk.proofs.onward.same.Given as goal
-
-abbrev pub invariant-loop-s : goal.invariant-loop-s
-invariant-loop-s l = (k : ℕ) → k < l.s → concepts_at l.now k ≡ concepts_at l.next k

@@ -1,6 +1,0 @@
--- `absorb`: the sets of the individuals below b are taken.
-use Rattle.walk.specs.Taking.{TakesSets}
-use Rattle.walk.proofs.walk.absorb.Given as goal
-
-abbrev pub invariant-loop-b : goal.invariant-loop-b
-invariant-loop-b l = TakesSets l.ahead l.b l.fn.walk l.walk

@@ -1,0 +1,113 @@
+// Transitions in the direction of a walk. A walk backward goes by those of the inverse roles, transposed once, so that walks follow edges in
+// both directions alike.
+
+ghost use Rattle.std.specs.Prelude.{◌≡◌, ◌<◌, ℕ, true};
+ghost use Rattle.kinds.specs.Kinds.{flip};
+ghost use Rattle.sets.specs.Bits.{Has, role_width};
+ghost use Rattle.sets.specs.Relations.{Relates};
+ghost use Rattle.walk.specs.Transposed.{EndsWithin, AreEnds, IsTransposed, AreTransposed};
+
+use crate::direction::Direction;
+use kinds::{SignedRole, State};
+use sets::{Relation, StateSet, Transitions, preimage};
+
+/// What a walk in one direction goes by: for each signed role its transitions in that direction, and all states to which these lead at all.
+#[derive(Clone, Copy)]
+pub struct Directed {
+    pub direction: Direction,
+    pub transitions: Transitions,
+    pub ends: [StateSet; SignedRole::NUMBERS],
+    ghost covers: { AreEnds transitions ends },
+}
+
+/// All states to which a relation leads.
+pub(crate) fn ends_of(relation: &Relation) -> StateSet
+    ensures { (s t : ℕ) → Relates relation.now s t → Has result.0 t }
+{
+    let mut out = StateSet::EMPTY;
+    for set in relation.iter() {
+        out = out.union(*set);
+    }
+    out
+}
+
+// The same of each role.
+fn ends_of_each(transitions: &Transitions) -> [StateSet; SignedRole::NUMBERS]
+    ensures { AreEnds transitions.now result }
+{
+    let mut out = [StateSet::EMPTY; SignedRole::NUMBERS];
+    for r in 0..SignedRole::NUMBERS {
+        out[r] = ends_of(&transitions[r]);
+    }
+    out
+}
+
+// The relation from t to s for each pair that the given one relates from s to t.
+fn transpose(relation: &Relation) -> Relation
+    ensures { IsTransposed relation.now result }
+{
+    let mut out = [StateSet::EMPTY; State::NUMBERS];
+    for t in 0..State::NUMBERS {
+        out[t] = preimage(relation, StateSet::only(State(t as u16)));
+    }
+    out
+}
+
+// The number of the inverse of a role.
+#[tactic(auto, unfolding(kinds::specs::Kinds::inverse))]
+fn inverse(role: usize) -> usize
+    requires { role < role_width }
+    ensures is { result ≡ flip role }
+    ensures low { result < role_width }
+{
+    SignedRole(role as u16).inverse().0 as usize
+}
+
+// For each role the transitions of its inverse, transposed.
+fn transposed(transitions: &Transitions) -> Transitions
+    ensures { AreTransposed transitions.now result }
+{
+    let mut out = [[StateSet::EMPTY; State::NUMBERS]; SignedRole::NUMBERS];
+    for r in 0..SignedRole::NUMBERS {
+        out[r] = transpose(&transitions[inverse(r)]);
+    }
+    out
+}
+
+impl Directed {
+    ghost use Rattle.walk.specs.Guides.{IsForward, IsBackward};
+
+    /// Forward, by the transitions as they are.
+    pub(crate) fn forward(transitions: &Transitions) -> Directed
+        ensures { IsForward transitions.now result }
+    {
+        let ends = ends_of_each(transitions);
+        let transitions = *transitions;
+        Directed {
+            direction: Direction::Forward,
+            transitions,
+            ends,
+        }
+    }
+
+    /// Backward, by the transposed ones.
+    pub(crate) fn backward(transitions: &Transitions) -> Directed
+        ensures { IsBackward transitions.now result }
+    {
+        let transitions = transposed(transitions);
+        let ends = ends_of_each(&transitions);
+        Directed {
+            direction: Direction::Backward,
+            transitions,
+            ends,
+        }
+    }
+
+    /// Whether the states are all to which a role leads, so that a walk adds none to them by it.
+    pub(crate) fn ends_within(&self, role: SignedRole, states: StateSet) -> bool
+        requires { role.0 < role_width }
+        ensures { result ≡ true → EndsWithin self.now.transitions role.0 states.0 }
+    {
+        self.ends[role.0 as usize].minus(states).is_empty()
+    }
+}
