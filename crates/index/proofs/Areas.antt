@@ -27,8 +27,14 @@ module _ (l : Lent) (area spare x y : List ℕ) where
   has : {f : Found} → IsSettled l (length area) (length spare) f → Fits p
   has s = fits s.passes s.areas
 
-  pub left-found : (f : Found) → IsSettled l (length area) (length spare) f → LeavesFirst l f area x → LeavesSecond f spare y → Left p area spare x y
-  left-found Contradiction s h k = record { sheet = λ w. absurd (w.sane s.found); cleared = λ w. absurd (w.sane s.found); untouched = λ w. h; spared = λ w. k }
+  pub left-found : (f : Found) → IsSettled l (length area) (length spare) f → LeavesFirst l f area x → LeavesSecond f spare y
+      → Left p area spare x y
+  left-found Contradiction s h k = record {
+    sheet = λ w. absurd (w.sane s.found);
+    cleared = λ w. absurd (w.sane s.found);
+    untouched = λ w. h;
+    spared = λ w. k;
+  }
   left-found Spent s h k =
       let b = s.found in
       let a : HasSheet p = record { fits = has s; sane = b.1.sane } in

@@ -9,7 +9,8 @@ use Rattle.meaning.specs.Layout.{zeros}
 use Rattle.meaning.specs.Lite.{lite}
 use Rattle.meaning.specs.SameSets.{SameSets}
 use Rattle.meaning.specs.Deeds.{SameButDeeds, lent_with}
-use Rattle.meaning.specs.Outcome.{Outcome, Breaks, HoldsSheet, bad-count, bad-table, bad-number, bad-ask, contradiction, spent, says-yes, says-no}
+use Rattle.meaning.specs.Outcome.{Outcome, Breaks, HoldsSheet, bad-count, bad-table, bad-number, bad-ask, contradiction, spent, says-yes}
+use Rattle.meaning.specs.Outcome.{says-no}
 use Rattle.meaning.specs.Worlds.{model_world}
 use Rattle.theory.proofs.SheetLaws.{rounds-unique}
 use Rattle.meaning.proofs.OutcomeLaws.{outcome-unique}
@@ -52,7 +53,8 @@ module _ (c : Call) (r : Answer) (x y : List ℕ) where
     pub no_world : r ≡ Contradiction → HasNoWorld c
     pub a_world : IfSome (sheet_rounds r) (λ n. IsWorldOf c (model_world (collection_of c)))
     pub not_forced : (n : ℕ) → r ≡ No n → HasPath c (model_world (collection_of c)) → ⊥
-    pub same_sets : (t : Tables) (q : Answer) (u v : List ℕ) → SameSets c t → Outcome (record c { tables = t }) q u v → (q ≡ r) × (u ≡ x) × (v ≡ y)
+    pub same_sets : (t : Tables) (q : Answer) (u v : List ℕ) → SameSets c t → Outcome (record c { tables = t }) q u v
+        → (q ≡ r) × (u ≡ x) × (v ≡ y)
     pub deeds : (t : Tables) → SameButDeeds c.tables t → Outcome (lent_with c t) r x y
     pub grows : (d : Call) (q : Answer) (u v : List ℕ) → GrowsTo c d → Outcome d q u v → Sound c → Enough c → Sound d → Enough d → Grown r q
     pub returns : (n : ℕ) → c.allowance ≤ n → answer_number r ≤ 2 → Outcome (allowed c n) r x y
@@ -128,7 +130,11 @@ module _ (c : Call) where
 
   -- the canonical model is a world of a sound call that breaks nothing
   world : Sound c → (¬ Breaks c) → IsWorldOf c (model_world (collection_of c))
-  world s sane = record { keeps = model-keeps (collection_of c) (sound-well-formed c s).numbers; respects = model-respects (collection_of c) sane }
+  world s sane = record {
+    keeps = model-keeps (collection_of c) (sound-well-formed c s).numbers;
+    respects = model-respects
+        (collection_of c) sane;
+  }
 
   world-of : {r : Answer} {x y : List ℕ} → Outcome c r x y → IfSome (sheet_rounds r) (λ n. IsWorldOf c (model_world (collection_of c)))
   world-of (bad-count h) = tt
@@ -189,6 +195,7 @@ answer-fixes-areas c ask r x y u v o p =
     by (sheet_rounds r) a.sheet a.cleared a.untouched a.spared b.sheet b.cleared b.untouched b.spared
   where
     by : (s : Option ℕ) → IfSome s (λ n. HoldsSheet c n x) → IfSome s (λ n. y ≡ zeros) → IfNone s (x ≡ c.area) → IfNone s (y ≡ c.spare)
-        → IfSome s (λ n. HoldsSheet c n u) → IfSome s (λ n. v ≡ zeros) → IfNone s (u ≡ c.area) → IfNone s (v ≡ c.spare) → SameOutcome r x y r u v
+        → IfSome s (λ n. HoldsSheet c n u) → IfSome s (λ n. v ≡ zeros) → IfNone s (u ≡ c.area) → IfNone s (v ≡ c.spare)
+        → SameOutcome r x y r u v
     by (Some n) h z i j h' z' i' j' = (refl, lays-once _ x u h h', z ∙ sym z')
     by None h z i j h' z' i' j' = (refl, i ∙ sym i', j ∙ sym j')

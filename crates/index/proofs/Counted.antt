@@ -52,7 +52,8 @@ module _ (l : Lent) (p : Passes l.collection) (rows : Rows) (r : RowsOf (meant l
   counts_of = same_counts (meant l.collection) p.counts rows r
 
   -- rounds that each changed the sheet are needed
-  pub begins_of : (k : ℕ) (counts : List ℕ) → Going rows l.allowance k → RoundCounts (kind_of rows) k counts → (model.Contradiction (meant l.collection) → ⊥)
+  pub begins_of : (k : ℕ) (counts : List ℕ) → Going rows l.allowance k → RoundCounts (kind_of rows) k counts
+      → (model.Contradiction (meant l.collection) → ⊥)
       → BeginsCounts l counts
   begins_of k counts g c sane =
       let w = rounds-suffice (meant l.collection) (well l.collection p) in
@@ -101,7 +102,8 @@ module _ (l : Lent) (area spare : List ℕ) where
   told-refused e h = record { rounds = λ w. absurd (refused-fits l (length area) (length spare) e h w.fits); none = λ no. refl }
 
   -- THEOREM: and where the listener failed, what was told is a start of it
-  pub begun : Passes l.collection → HasAreas (length area) (length spare) → (counts : List ℕ) → (b : BeginsCounts l counts) → MarksTold p (counts ++ b.rest)
+  pub begun : Passes l.collection → HasAreas (length area) (length spare) → (counts : List ℕ) → (b : BeginsCounts l counts)
+      → MarksTold p (counts ++ b.rest)
   begun passes areas counts b = record {
     rounds = λ w n need. let e = rounds-unique (lite (meant l.collection)) n b.n need b.needed in rw e b.all;
     none = λ no. absurd (no (record { fits = fits l area spare area spare passes areas; sane = b.sane }));

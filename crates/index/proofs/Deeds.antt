@@ -80,7 +80,8 @@ module _ (p : Preparation) (t : Tables) (s : SameButDeeds p.tables t) where
       let w = h x y e f in
       (w.0, w.1, (deeds-decide-nothing (asked p ask x y) t s r w.0 w.1).0 w.2)
 
-  turn : {ask : ℕ → Ask} {tells : ℕ → Answer → Type 0} {area spare : List ℕ} (n : ℕ) {x y : List ℕ} → InTurn p ask tells area spare n x y → InTurn q ask tells area spare n x y
+  turn : {ask : ℕ → Ask} {tells : ℕ → Answer → Type 0} {area spare : List ℕ} (n : ℕ) {x y : List ℕ} → InTurn p ask tells area spare n x y
+      → InTurn q ask tells area spare n x y
   turn zero none = none
   turn {ask} (suc n) (next {x = x} {y = y} {u = u} {v = v} r a h o) =
       next r (turn n a) h ((deeds-decide-nothing (asked p (ask n) x y) t s r u v).0 o)
@@ -106,6 +107,7 @@ module _ (p : Preparation) where
   answer-whatever h t s = answer p t s h
 
   -- THEOREM: a row of answers
-  pub turn-whatever : {ask : ℕ → Ask} {tells : ℕ → Answer → Type 0} {area spare : List ℕ} (n : ℕ) {x y : List ℕ} → InTurn p ask tells area spare n x y
+  pub turn-whatever : {ask : ℕ → Ask} {tells : ℕ → Answer → Type 0} {area spare : List ℕ} (n : ℕ) {x y : List ℕ}
+      → InTurn p ask tells area spare n x y
       → WhateverDeeds p (λ q. InTurn q ask tells area spare n x y)
   turn-whatever n a t s = turn p t s n a

@@ -46,7 +46,8 @@ module _ (l : Lent) (area spare : ℕ) {r : Result (Unit {0}) Refusal} {u : Unit
   pub has_areas : HasAreas area spare
   has_areas = record { area = all.tables.area; spare = all.tables.spare }
 
-module _ (p : Preparation) (area spare x y : List ℕ) (left : Left p area spare x y) (e : length area ≡ p.area) (f : length spare ≡ p.spare) where
+module _ (p : Preparation) (area spare x y : List ℕ) (left : Left p area spare x y) (e : length area ≡ p.area)
+    (f : length spare ≡ p.spare) where
   has : {ask : Ask} → Sound (asked p ask area spare) → (Breaks (asked p ask area spare) → ⊥) → HasSheet p
   has s k = record { fits = record { counts = s.counts; tables = rw (← e, ← f) s.tables; numbers = s.numbers }; sane = k }
 
@@ -54,10 +55,13 @@ module _ (p : Preparation) (area spare x y : List ℕ) (left : Left p area spare
   pub areas : (ask : Ask) (r : Answer) (u v : List ℕ) → AskDeclared p.counts ask → Outcome (asked p ask area spare) r u v
       → Outcome (asked p ask area spare) r x y
   areas ask r u v d (bad-count h) = rw (left.untouched (λ s. h s.fits.counts), left.spared (λ s. h s.fits.counts)) (bad-count h)
-  areas ask r u v d (bad-table k h) = let no : HasSheet p → ⊥ = λ s. h (rw (e, f) s.fits.tables) in rw (left.untouched no, left.spared no) (bad-table k h)
-  areas ask r u v d (bad-number k t h) = let no : HasSheet p → ⊥ = λ s. h s.fits.numbers in rw (left.untouched no, left.spared no) (bad-number k t h)
+  areas ask r u v d (bad-table k h) = let no : HasSheet p
+      → ⊥ = λ s. h (rw (e, f) s.fits.tables) in rw (left.untouched no, left.spared no) (bad-table k h)
+  areas ask r u v d (bad-number k t h) = let no : HasSheet p
+      → ⊥ = λ s. h s.fits.numbers in rw (left.untouched no, left.spared no) (bad-number k t h)
   areas ask r u v d (bad-ask k t n h) = absurd (h d)
-  areas ask r u v d (contradiction s k) = let no : HasSheet p → ⊥ = λ t. t.sane k in rw (left.untouched no, left.spared no) (contradiction s k)
+  areas ask r u v d (contradiction s k) = let no : HasSheet p
+      → ⊥ = λ t. t.sane k in rw (left.untouched no, left.spared no) (contradiction s k)
   areas ask r u v d (spent {n = n} s k need h lays) =
       let w = has {ask = ask} s k in
       let g : min n p.allowance ≡ p.allowance = omega arith in
@@ -79,8 +83,10 @@ module _ (p : Preparation) (area spare x y : List ℕ) (left : Left p area spare
   replied ask r d h = let w = h area spare e f in areas ask r w.0 w.1 d w.2
 
 -- the same of a preparation that is known to be equal
-pub replied-as : (l : Lent) (area spare x y : List ℕ) (q : Preparation) → q ≡ preparation l (length area) (length spare) → Left q area spare x y
+pub replied-as : (l : Lent) (area spare x y : List ℕ) (q : Preparation) → q ≡ preparation l (length area) (length spare)
+    → Left q area spare x y
     → (ask : Ask) (r : Answer) → AskDeclared l.collection.counts ask → IsAnswer q ask r → Outcome (called l ask area spare) r x y
 replied-as l area spare x y q own left ask r d h =
     let p = preparation l (length area) (length spare) in
-    replied p area spare x y (subst (λ (q : Preparation). Left q area spare x y) own left) refl refl ask r d (subst (λ (q : Preparation). IsAnswer q ask r) own h)
+    replied p area spare x y (subst (λ (q : Preparation). Left q area spare x y) own left) refl refl ask r d
+    (subst (λ (q : Preparation). IsAnswer q ask r) own h)

@@ -45,13 +45,16 @@ module _ (l : Lent) (area spare : ℕ) where
     pub undeclared : (ask : Ask) → (AskDeclared l.collection.counts ask → ⊥) → IsAnswer of ask answer.BadAsk
     undeclared ask n x y e f = (x, y, bad-ask passes.counts (fits x y e f) passes.numbers n)
 
-    sound : (ask : Ask) → AskDeclared l.collection.counts ask → (x y : List ℕ) → length x ≡ area → length y ≡ spare → Sound (asked of ask x y)
+    sound : (ask : Ask) → AskDeclared l.collection.counts ask → (x y : List ℕ) → length x ≡ area → length y ≡ spare
+        → Sound (asked of ask x y)
     sound ask d x y e f = record { counts = passes.counts; tables = fits x y e f; numbers = passes.numbers; ask = d }
 
-    pub broken : (ask : Ask) → AskDeclared l.collection.counts ask → Contradiction (meant l.collection) → IsAnswer of ask answer.Contradiction
+    pub broken : (ask : Ask) → AskDeclared l.collection.counts ask → Contradiction (meant l.collection)
+        → IsAnswer of ask answer.Contradiction
     broken ask d h x y e f = (x, y, contradiction (sound ask d x y e f) h)
 
-    pub beyond : (ask : Ask) → AskDeclared l.collection.counts ask → (n : ℕ) → NeedsMore l n → IsAnswer of ask (answer.AllowanceSpent l.allowance)
+    pub beyond : (ask : Ask) → AskDeclared l.collection.counts ask → (n : ℕ) → NeedsMore l n
+        → IsAnswer of ask (answer.AllowanceSpent l.allowance)
     beyond ask d n k x y e f =
         let s = sound ask d x y e f in
         (sheet_area (asked of ask x y) l.allowance, zeros, spent s k.sane k.needed k.more (holds-sheet (asked of ask x y) s l.allowance))

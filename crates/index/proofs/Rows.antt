@@ -19,7 +19,8 @@ use Rattle.index.specs.Row.{ask_count, AnswersEach, AllAlike, StandsAt, SomeDecl
 use Rattle.index.proofs.Outcomes.{replied}
 
 -- an entry that is there
-pub stands : (P : Answer → Type 0) (answers : List Answer) (k : ℕ) → k < length answers → IfSome (slice_get answers k) P → (r : Answer) × StandsAt answers k r × P r
+pub stands : (P : Answer → Type 0) (answers : List Answer) (k : ℕ) → k < length answers → IfSome (slice_get answers k) P
+    → (r : Answer) × StandsAt answers k r × P r
 stands P answers k h w =
     let e = slice_get-get_or answers k BadAsk h in
     (_, e, subst (λ o. IfSome o P) e w)
@@ -54,7 +55,8 @@ module _ (p : Preparation) (ask : ℕ → Ask) (tells : ℕ → Answer → Type 
   still zero h = none
   still (suc n) h = let w = h n (omega arith) in next w.0 (still n (λ k l. h k (omega arith))) w.1 w.2
 
-  module _ (x y : List ℕ) (left : Left p area spare x y) (e : length area ≡ p.area) (f : length spare ≡ p.spare) (g : length x ≡ p.area) (h : length y ≡ p.spare) where
+  module _ (x y : List ℕ) (left : Left p area spare x y) (e : length area ≡ p.area) (f : length spare ≡ p.spare) (g : length x ≡ p.area)
+      (h : length y ≡ p.spare) where
     -- prepared once more, nothing changes
     again : Left p x y x y
     again = record { sheet = left.sheet; cleared = left.cleared; untouched = λ n. refl; spared = λ n. refl }
@@ -100,19 +102,25 @@ module _ (l : Lent) (t : List ℕ) (area spare : List ℕ) (answers : List Answe
       rw (← few) (still p (read_ask t) (StandsAt answers) area spare n
       (λ k i.
       let w = stands (λ q. q ≡ refused) answers k (omega arith) (alike k (omega arith)) in
-      let o = h (read_ask t k) area spare refl refl (λ d. none-declared (record { at = k; below = omega arith; whole = omega arith; declared = d })) in
+      let o = h (read_ask t k) area spare refl refl
+      (λ d. none-declared (record { at = k; below = omega arith; whole = omega arith; declared = d })) in
       (w.0, w.1, rw w.2 o)))
 
-  module _ (q : Preparation) (own : q ≡ p) (x y : List ℕ) (left : Left q area spare x y) (e : length x ≡ length area) (f : length y ≡ length spare) where
+  module _ (q : Preparation) (own : q ≡ p) (x y : List ℕ) (left : Left q area spare x y) (e : length x ≡ length area)
+      (f : length y ≡ length spare) where
     -- where some is
-    pub replied_in_turn : AnswersEach q t answers → SomeDeclared l.collection.counts t n → InTurn p (read_ask t) (StandsAt answers) area spare (min (ask_count t) long) x y
+    pub replied_in_turn : AnswersEach q t answers → SomeDeclared l.collection.counts t n
+        → InTurn p (read_ask t) (StandsAt answers) area spare (min (ask_count t) long) x y
     replied_in_turn each d =
         let left' = subst (λ (q : Preparation). Left q area spare x y) own left in
         let each' = subst (λ (q : Preparation). AnswersEach q t answers) own each in
-        rw (← few) (turns p (read_ask t) (StandsAt answers) area spare x y left' refl refl e f n (λ k i. stands (IsAnswer p (read_ask t k)) answers k (omega arith) (each' k (omega arith))) d.at d.below d.declared)
+        rw (← few)
+        (turns p (read_ask t) (StandsAt answers) area spare x y left' refl refl e f n
+        (λ k i. stands (IsAnswer p (read_ask t k)) answers k (omega arith) (each' k (omega arith))) d.at d.below d.declared)
 
 -- the same asks in turn, whose answers stand elsewhere too
-pub retold : {p : Preparation} {ask ask' : ℕ → Ask} {tells tells' : ℕ → Answer → Type 0} {area spare : List ℕ} (n : ℕ) {x y : List ℕ} → InTurn p ask tells area spare n x y
+pub retold : {p : Preparation} {ask ask' : ℕ → Ask} {tells tells' : ℕ → Answer → Type 0} {area spare : List ℕ} (n : ℕ) {x y : List ℕ}
+    → InTurn p ask tells area spare n x y
     → ((k : ℕ) → k < n → ask k ≡ ask' k) → ((k : ℕ) (r : Answer) → k < n → tells k r → tells' k r) → InTurn p ask' tells' area spare n x y
 retold zero none e h = none
 retold {p} {ask} {ask'} (suc n) (next {x = x} {y = y} {u = u} {v = v} r a s o) e h =

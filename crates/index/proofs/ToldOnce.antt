@@ -30,13 +30,19 @@ module _ (p : Preparation) where
       by : Dec (HasSheet p) → (counts : List ℕ) × MarksTold p counts
       by (yes s) =
           let w = rounds-suffice (collection_in p) (well p s.fits) in
-          let c = counts-there (lite (collection_in p)) (lite-countable (collection_in p) (well p s.fits)) (min w.0 p.allowance) in
-          (c.0, record { rounds = λ h n need. let e = rounds-unique (lite (collection_in p)) n w.0 need w.2 in rw e c.1; none = λ n. absurd (n s) })
+          let c = counts-there (lite (collection_in p)) (lite-countable (collection_in p) (well p s.fits)) (min w.0 p.allowance) in (
+            c.0,
+            record {
+              rounds = λ h n need. let e = rounds-unique (lite (collection_in p)) n w.0 need w.2 in rw e c.1;
+              none = λ n. absurd (n s);
+            },
+          )
       by (no n) = ([], record { rounds = λ s. absurd (n s); none = λ h. refl })
 
   -- THEOREM: with states × concepts they make the number of marks standing in the area that holds the sheet
   pub told-make : MakesSheet p
-  told-make counts area t s n need lays = area-stands (collection_in p) (well p s.fits) (min n p.allowance) area lays counts (t.rounds s n need)
+  told-make counts area t s n need lays = area-stands (collection_in p) (well p s.fits) (min n p.allowance) area lays counts
+      (t.rounds s n need)
 
   -- THEOREM: an area that holds what was prepared has that many
   pub told-stand : (area : List ℕ) → HoldsPrepared p area → MarksStand p area

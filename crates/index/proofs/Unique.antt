@@ -13,6 +13,7 @@ use Rattle.meaning.proofs.OutcomeLaws.{outcome-unique}
 use Rattle.meaning.proofs.LayoutLaws.{lays-once}
 use Rattle.meaning.proofs.Demands.{rounds-suffice}
 use Rattle.meaning.proofs.Reply.{clash}
+use Rattle.index.proofs.Replies.{fails}
 use Rattle.meaning.proofs.ClashLaws.{clash-is}
 use Rattle.kinds.specs.declared.Ask.{Ask}
 use Rattle.kinds.specs.declared.Ask.TheVariants.{Pair}
@@ -67,8 +68,8 @@ module _ (p : Preparation) where
   dec-sheet = by dec-fits
     where
       sane : Fits p → (b : Bool) → clash (collection_in p) ≡ b → Dec (HasSheet p)
-      sane f true e = no (λ s. s.sane ((clash-is (collection_in p) (well f)).0 (rw e tt)))
-      sane f false e = yes (record { fits = f; sane = λ k. let t = (clash-is (collection_in p) (well f)).1 k in rw e at t })
+      sane f true e = no (λ s. s.sane ((clash-is (collection_in p) (well f)).0 e))
+      sane f false e = yes (record { fits = f; sane = fails (clash-is (collection_in p) (well f)) e })
 
       by : Dec (Fits p) → Dec (HasSheet p)
       by (yes f) = sane f (clash (collection_in p)) refl

@@ -14,9 +14,13 @@ use Rattle.kinds.specs.declared.Ask.{Ask}
 use Rattle.tables.specs.declared.collection.Collection as code
 use Rattle.kinds.specs.Asks.{AskDeclared}
 use Rattle.tables.specs.Lists.{lists}
+use Rattle.edges.specs.declared.list.FactEdges.{FactEdges}
+use Rattle.rules.specs.RowsOf.{LeadDown}
 use Rattle.walk.specs.Asks.{Asked}
+use Rattle.walk.specs.Covers.{Covers}
 use Rattle.walk.specs.Meant.{SheetOf}
 use Rattle.sets.specs.declared.concepts.ConceptSet.{ConceptSet}
+use Rattle.sets.specs.declared.states.StateSet.{StateSet}
 use Rattle.index.specs.declared.lent.Lent.{Lent}
 use Rattle.index.specs.declared.routes.Paths.{Paths}
 use Rattle.index.specs.declared.work.Found.{Found}
@@ -47,6 +51,14 @@ module _ (𝓒 : Collection) where
   abbrev pub Counts : ℕ → List ℕ → Type 0
   Counts = RoundCounts (lite 𝓒)
 
+-- the transitions lead where steps down do; the edges are those of the role facts, by each role that
+-- leads anywhere
+pub record AreFactEdges (c : code.Collection) (transitions : List (List StateSet)) (edges : FactEdges)
+    : Type 0 where
+  pub led : LeadDown (meant c) transitions
+  pub facts : edges.facts.numbers.now ≡ (lists c).role-facts
+  pub covers : Covers transitions edges.roles.0
+
 -- the closed sheet, as rows hold it: that of the rounds needed
 pub record IsClosedSheet (𝓒 : Collection) (rows : List ConceptSet) : Type 0 where
   pub rounds : ℕ
@@ -55,7 +67,7 @@ pub record IsClosedSheet (𝓒 : Collection) (rows : List ConceptSet) : Type 0 w
 
 -- strides lead from the first individual of an ask in the start state to what it asks for
 abbrev pub StridesLead : Paths → Ask → Type 0
-StridesLead r = Asked r.loops.now.rows r.ways.now r.hops.facts.numbers.now r.question
+StridesLead r = Asked r.loops.now.rows r.transitions.now r.edges.facts.numbers.now r.question
 
 -- so of each declared ask they tell whether it is yes
 pub record AreRight (c : code.Collection) (r : Paths) : Type 0 where

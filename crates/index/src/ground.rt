@@ -1,29 +1,28 @@
-// The ground of every answer: what follows from what, who has what, and whose role facts lead where.
+// The ground of every answer: what follows from what, and who has what.
 
-ghost use Rattle.std.specs.Prelude.{◌≡◌, ◌↔◌, IsTrue};
+ghost use Rattle.std.specs.Prelude.{◌≡◌, ◌↔◌, IsNone, IfSome};
 ghost use Rattle.meaning.specs.Model.{Contradiction};
-ghost use Rattle.rules.specs.RowsOf.{RowsOf};
-ghost use Rattle.walk.specs.Meant.{WaysOf};
-ghost use Rattle.index.specs.Works.{Passes, meant, IsClosedSheet, AreRight};
+ghost use Rattle.rules.specs.RowsOf.{AreBelow, LeadDown, RowsOf};
+ghost use Rattle.index.specs.Works.{Passes, meant, AreFactEdges, IsClosedSheet, AreRight};
 
 use crate::routes::Paths;
 use clash::Exclusions;
+use edges::{FactEdges, MOST_FACT_EDGES, PackedEdge};
 use elements::Elements;
-use hops::{Hops, NO_HOP};
-use orders::{ConceptOrder, RoleOrder};
-use rules::{Rows, Ways};
+use orders::{ConceptOrder, ConceptRelation, RoleOrder};
+use rules::{Rows, fill_transitions};
+use sets::{Sheet, Transitions};
 use std::marker::Model;
 use tables::Collection;
-use walk::{Exits, Loops, Question, Sheet, Tree};
+use walk::{Accepting, Loops, PathsBelow, Question, roles_of};
 
-// Seen as the collection that it was made of, which passed its tests.
+// Contracts see it as the collection that it was made of, which passed its tests.
 #[derive(Drop)]
 pub(crate) struct Ground<'r> {
     of: Collection<'r>,
     roles: RoleOrder,
     order: ConceptOrder,
     elements: Elements,
-    hops: Hops<'r>,
 }
 
 impl<'r> Model for Ground<'r> {
@@ -34,15 +33,14 @@ impl<'r> Model for Ground<'r> {
 
     ghost view = { λ g. g.of };
 
-    ghost invariant = { λ g. IsGround g.of g.roles g.order g.elements g.hops };
+    ghost invariant = { λ g. IsGround g.of g.roles g.order g.elements };
 }
 
 // What makes it, what tests it and what makes paths of it are never put into their caller: so what only they need is gone
 // from the stack while rounds are worked.
 impl<'r> Ground<'r> {
-    // The array is lent for what comes after each hop of an individual.
     #[inline(never)]
-    pub(crate) fn new(of: &Collection<'r>, next: &'r mut [u16; NO_HOP]) -> Ground<'r>
+    pub(crate) fn new(of: &Collection<'r>) -> Ground<'r>
         requires { Passes of.now }
         ensures { result ≡ of.now }
     {
@@ -50,55 +48,86 @@ impl<'r> Ground<'r> {
         let order = ConceptOrder::new(of.concept_rules, &roles);
         let mut elements = Elements::EMPTY;
         elements.fill(of.concept_facts, of.role_facts, &order);
-        let hops = Hops::new(of.role_facts, next);
         Ground {
             of: *of,
             roles,
             order,
             elements,
-            hops,
         }
     }
 
-    // Whether the canonical model breaks an exclusion.
+    // The edges that facts make, for the contradiction test and for walks; none where the canonical model breaks an exclusion.
+    // Exclusions of concepts are tested first, since they need no edge. The array is lent for the edges.
     #[inline(never)]
-    pub(crate) fn contradicts(&self) -> bool
-        ensures { IsTrue result ↔ Contradiction (meant self.now) }
+    pub(crate) fn edges(
+        &self,
+        transitions: &mut Transitions,
+        list: &'r mut [PackedEdge; MOST_FACT_EDGES],
+    ) -> Option<FactEdges<'r>>
+        ensures none { IsNone result ↔ Contradiction (meant self.now) }
+        ensures some { IfSome result (AreFactEdges self.now transitions.new) }
     {
         let exclusions = Exclusions::new(self.of.concept_exclusions, self.of.role_exclusions);
-        exclusions.clash(&self.roles, &self.order, &self.elements, &self.hops)
+        if exclusions.contradicts_concepts(&self.order, &self.elements) {
+            return None;
+        }
+        fill_transitions(transitions, self.of.steps, &self.roles);
+        let roles = exclusions
+            .concerned(&self.roles)
+            .union(roles_of(transitions));
+        let edges = FactEdges::new(self.of.role_facts, roles, list);
+        if exclusions.contradicts_roles(&self.roles, self.elements.generating, &edges) {
+            return None;
+        }
+        Some(edges)
     }
 
-    // The ways of the question, and the rows that its rounds read.
-    pub(crate) fn lay_out(&self, ways: &mut Ways, rows: &mut Rows)
-        ensures ways { WaysOf (meant self.now) ways.new.by }
-        ensures rows { RowsOf (meant self.now) rows.new }
+    // For each concept those below it.
+    #[inline(never)]
+    pub(crate) fn below(&self) -> ConceptRelation
+        ensures { AreBelow (meant self.now) result }
     {
-        ways.fill(self.of.steps, &self.roles);
-        rows.fill(self.of.counts, &self.order, ways, self.of.steps);
+        self.order.transposed()
+    }
+
+    // The tables that the rounds read.
+    pub(crate) fn lay_out(
+        &self,
+        below: &ConceptRelation,
+        transitions: &Transitions,
+        rows: &mut Rows,
+    )
+        requires below { AreBelow (meant self.now) below.now }
+        requires transitions { LeadDown (meant self.now) transitions.now }
+        ensures { RowsOf (meant self.now) rows.new }
+    {
+        rows.fill(self.of.counts, below, transitions, self.of.steps);
     }
 
     // What walks follow, made from the closed sheet.
     #[inline(never)]
     pub(crate) fn paths(
         &self,
-        ways: &'r walk::Ways,
+        below: &ConceptRelation,
+        transitions: &'r Transitions,
+        edges: FactEdges<'r>,
         sheet: &Sheet,
         loops: &'r mut Loops,
-        exits: &'r mut Exits,
+        accepting: &'r mut Accepting,
     ) -> Paths<'r>
-        requires ways { WaysOf (meant self.now) ways.now }
+        requires below { AreBelow (meant self.now) below.now }
+        requires edges { AreFactEdges self.now transitions.now edges }
         requires sheet { IsClosedSheet (meant self.now) sheet.now }
         ensures { AreRight self.now result }
     {
         let individuals = &self.elements.individuals;
         loops.fill(individuals, sheet);
-        let tree = Tree::new(&self.order.below, ways, sheet, self.of.finals);
-        let question = Question::new(self.of.counts.start, &tree, individuals, exits);
+        let below = PathsBelow::new(below, transitions, sheet, self.of.finals);
+        let question = Question::new(self.of.counts.start, &below, individuals, accepting);
         Paths {
             loops,
-            ways,
-            hops: self.hops,
+            transitions,
+            edges,
             question,
         }
     }

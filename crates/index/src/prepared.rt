@@ -16,7 +16,7 @@ use crate::work::{Found, settle};
 use kinds::{Answer, Ask, NoListener, RoundListener, Rounds};
 use std::marker::Model;
 use tables::{Record, Refusal, Table};
-use walk::{Answers, PART};
+use walk::{Answers, BATCH};
 
 // Seen as what it was prepared of: counts, tables, allowance and the lengths of both areas.
 #[derive(Drop)]
@@ -115,7 +115,7 @@ impl<'a> Prepared<'a> {
         {
             return paths.strides().answers(paths.question, asks, from);
         }
-        [None; PART]
+        [None; BATCH]
     }
 }
 

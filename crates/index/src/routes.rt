@@ -1,50 +1,53 @@
-// The tables that walks are made by, and what walks go by.
+// Memory for the tables that walks go by, and the filled tables.
 
 ghost use Rattle.std.specs.Prelude.{◌≡◌};
+ghost use Rattle.walk.specs.Covers.{Covers};
 
-use hops::{Hops, NO_HOP};
-use rules::Ways;
-use walk::{Exits, Loops, Question, Strides};
+use edges::{FactEdges, MOST_FACT_EDGES, PackedEdge};
+use rules::NO_TRANSITIONS;
+use sets::Transitions;
+use walk::{Accepting, Loops, Question, Strides};
 
-// The tables that walks are made by. They are lent to a preparation, which fills them.
+// Memory for the tables that walks go by. It is lent to a preparation, which fills it.
 #[derive(Drop)]
 pub struct Routes {
-    pub(crate) next: [u16; NO_HOP],
+    pub(crate) list: [PackedEdge; MOST_FACT_EDGES],
     pub(crate) loops: Loops,
-    pub(crate) ways: Ways,
-    pub(crate) exits: Exits,
+    pub(crate) transitions: Transitions,
+    pub(crate) accepting: Accepting,
 }
 
 impl Routes {
     pub fn new() -> Routes {
         Routes {
-            next: [0; NO_HOP],
+            list: [PackedEdge::BLANK; MOST_FACT_EDGES],
             loops: Loops::NONE,
-            ways: Ways::NONE,
-            exits: Exits::NONE,
+            transitions: NO_TRANSITIONS,
+            accepting: Accepting::NONE,
         }
     }
 }
 
-// What walks go by, and where they begin and may end.
+// The filled tables that walks go by, and where they begin and may end. Each role that has a transition has its edges listed.
 #[derive(Clone, Copy)]
 pub struct Paths<'r> {
     pub loops: &'r Loops,
-    pub ways: &'r walk::Ways,
-    pub hops: Hops<'r>,
+    pub transitions: &'r Transitions,
+    pub edges: FactEdges<'r>,
     pub question: Question<'r>,
+    ghost covers: { Covers transitions.now edges.roles.0 },
 }
 
 impl<'r> Paths<'r> {
     pub(crate) fn strides(&self) -> Strides<'_, 'r>
         ensures loops { result.loops ≡ self.now.loops }
-        ensures ways { result.ways ≡ self.now.ways }
-        ensures hops { result.hops.now ≡ self.now.hops }
+        ensures transitions { result.transitions ≡ self.now.transitions }
+        ensures edges { result.edges.now ≡ self.now.edges }
     {
         Strides {
             loops: self.loops,
-            ways: self.ways,
-            hops: &self.hops,
+            transitions: self.transitions,
+            edges: &self.edges,
         }
     }
 }

@@ -11,7 +11,7 @@ use crate::prepared::Prepared;
 use crate::routes::Routes;
 use kinds::{Answer, Ask, Counts};
 use tables::{Record, Table};
-use walk::PART;
+use walk::BATCH;
 
 // Some ask of the first n is declared.
 fn any_declared(asks: &Table<Ask>, counts: Counts, n: usize) -> bool
@@ -38,16 +38,16 @@ fn answer_alike(asks: &Table<Ask>, answers: &mut [Answer], answer: Answer)
 }
 
 impl<'a> Prepared<'a> {
-    ghost use Rattle.walk.specs.Parts.{most_part};
+    ghost use Rattle.walk.specs.Batches.{most_batch};
     ghost use Rattle.index.specs.Row.{AnswersBetween};
 
     // The answers to the asks from one on, as many as are walked together.
     fn reply_part(&self, asks: &Table<Ask>, from: usize, answers: &mut [Answer])
-        ensures { AnswersBetween self.now asks.now.numbers.now from (from + most_part)
+        ensures { AnswersBetween self.now asks.now.numbers.now from (from + most_batch)
             answers.old answers.new }
     {
         let told = self.told(*asks, from);
-        for k in from..answers.len().min(from.saturating_add(PART)) {
+        for k in from..answers.len().min(from.saturating_add(BATCH)) {
             let Some(ask) = asks.get(k) else {
                 return;
             };
@@ -61,8 +61,8 @@ impl<'a> Prepared<'a> {
         ensures rest { KeepsRest asks.now.numbers.now answers.old answers.new }
     {
         let n = answers.len().min(asks.len());
-        for part in 0..n.div_ceil(PART) {
-            self.reply_part(asks, PART * part, answers);
+        for part in 0..n.div_ceil(BATCH) {
+            self.reply_part(asks, BATCH * part, answers);
         }
     }
 }

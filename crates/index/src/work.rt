@@ -20,8 +20,8 @@ pub enum Found<'r> {
     Needed(Rounds, Paths<'r>),
 }
 
-// The contradiction test; the rounds against the allowance, of which a listener is told; and what
-// walks follow. All of it stays where it is made, and is lent.
+// Works everything out in order: orders and elements, the contradiction test, the rounds against the allowance, each of which
+// is reported to the listener, and what walks follow. The tables are locals or lent, and are not copied.
 pub(crate) fn settle<'r, L: RoundListener>(
     lent: &Lent<'r>,
     area: &mut [u8; AREA],
@@ -41,24 +41,32 @@ pub(crate) fn settle<'r, L: RoundListener>(
     ensures spare_kept { OnErr result (spare.new ≡ spare.old) }
 {
     let Routes {
-        next,
+        list,
         loops,
-        ways,
-        exits,
+        transitions,
+        accepting,
     } = routes;
-    let ground = Ground::new(&lent.collection, next);
-    if ground.contradicts() {
+    let ground = Ground::new(&lent.collection);
+    let Some(edges) = ground.edges(transitions, list) else {
         return Ok(Found::Contradiction);
-    }
+    };
+    let below = ground.below();
     let mut rows = Rows::NONE;
-    ground.lay_out(ways, &mut rows);
+    ground.lay_out(&below, transitions, &mut rows);
     let mut closing = Closing::new();
     let ran = closing.run(&rows, lent.allowance, listener)?;
     closing.leave(area, spare);
     match ran {
         Ran::Spent => Ok(Found::Spent),
         Ran::Needed(rounds) => {
-            let paths = ground.paths(&ways.by, &closing.sheet, loops, exits);
+            let paths = ground.paths(
+                &below,
+                transitions,
+                edges,
+                &closing.sheet.rows,
+                loops,
+                accepting,
+            );
             Ok(Found::Needed(rounds, paths))
         }
     }

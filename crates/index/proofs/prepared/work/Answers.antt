@@ -23,7 +23,11 @@ returns-in-Err-clause-told g c = ([], told-refused c.args.lent.now _ _ _ (rw c.i
 pub returns-in_ok-found-in-Ok-clause-worked : goal.returns-in_ok-found-in-Ok-clause-worked
 returns-in_ok-found-in-Ok-clause-worked g c =
     let t = c.check.ensures in
-    record { passes = passes c.args.lent.now _ _ t c.in-Ok.is; areas = has_areas c.args.lent.now _ _ t c.in-Ok.is; found = c.in_ok-found-in-Ok.ensures.found }
+    record {
+      passes = passes c.args.lent.now _ _ t c.in-Ok.is;
+      areas = has_areas c.args.lent.now _ _ t c.in-Ok.is;
+      found = c.in_ok-found-in-Ok.ensures.found;
+    }
 
 pub returns-in_ok-found-in-Ok-clause-left : goal.returns-in_ok-found-in-Ok-clause-left
 returns-in_ok-found-in-Ok-clause-left g c =

@@ -5,7 +5,8 @@ use Rattle.index.proofs.Deeds.{rounds-whatever, none-whatever}
 use Rattle.index.proofs.prepared.Prepared.rounds.Goals as goal
 
 pub returns-in-Err-clause-none : goal.returns-in-Err-clause-none
-returns-in-Err-clause-none c = rw c.answer.ensures (none-seen _ c.self.view_is (none-refused c.self.inside.lent _ _ _ (refused-as _ _ _ _ c.self.invariant c.in-Err.is)))
+returns-in-Err-clause-none c = rw c.answer.ensures
+    (none-seen _ c.self.view_is (none-refused c.self.inside.lent _ _ _ (refused-as _ _ _ _ c.self.invariant c.in-Err.is)))
 
 pub returns-in-Contradiction-clause-none : goal.returns-in-Contradiction-clause-none
 returns-in-Contradiction-clause-none c =

@@ -11,7 +11,8 @@ returns c =
     let e = c.strides.ensures in
     let a = c.answers.ensures in
     let p = preparation c.self.inside.lent c.self.inside.area c.self.inside.spare in
-    all_seen _ _ _ c.self.view_is (walks_told p _ _ c.strides.result c.in-Needed.paths e.loops e.ways e.hops f.paths.each _ a.each a.rest)
+    all_seen _ _ _ c.self.view_is
+    (walks_told p _ _ c.strides.result c.in-Needed.paths e.loops e.transitions e.edges f.paths.each _ a.each a.rest)
 
 pub returns-2 : goal.returns-2
 returns-2 c = none_told c.args.self.now c.args.asks.numbers.now c.args.from 256
