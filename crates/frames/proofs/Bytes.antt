@@ -1,19 +1,49 @@
--- A byte of a sound line is below 256.
-use Rattle.std.specs.Prelude.{ℕ, ◌+◌, ◌*◌, ◌<◌, ◌≡◌, List, Bool, true, false, if◌then◌else◌, nat_lt, slice_index}
+-- The bytes of a line that a reader works out: of digits they are those that the digits make.
+use Rattle.std.specs.Prelude.{ℕ, ◌+◌, ◌*◌, ◌%◌, ◌<◌, ◌≤◌, ◌≡◌, List, Bool, true, false, nat_lt, if◌then◌else◌, slice_index}
 use Rattle.std.proofs.Common.{refl, arith}
+use Rattle.std.proofs.Math.Path.{fun_ext}
 use Rattle.std.proofs.lemmas.List.Elements.{All-get_or}
 use Rattle.std.proofs.lemmas.Bool.Decides.{nat_tests}
 use Rattle.frames.specs.Digits.{digit_of, bytes, byte_of, LineOk}
+use Rattle.frames.specs.Reader.{worth, byte_read, Digits}
+use Rattle.frames.proofs.Worth.{worth_digit}
 
-pub byte_small : (l : List ℕ) (k : ℕ) → LineOk l → byte_of l k < 256
-unfolding byte_of
-byte_small l k ok = by (nat_lt k (bytes l)) refl
+-- a byte within the line is made of its two characters
+pub byte_within : (l : List ℕ) (k : ℕ) → k < bytes l
+    → byte_read l k ≡ (16 * worth (slice_index l (2 * k)) % 256 + worth (slice_index l (2 * k + 1))) % 256
+unfolding byte_read
+byte_within l k inside = grind (arith, nat_tests)
+
+-- and past its end it is 0
+pub byte_past : (l : List ℕ) (k : ℕ) → bytes l ≤ k → byte_read l k ≡ 0
+unfolding byte_read
+byte_past l k past = grind (arith, nat_tests)
+
+same_byte : (l : List ℕ) → Digits l (2 * bytes l) → (k : ℕ) → byte_read l k ≡ byte_of l k
+unfolding byte_read byte_of
+same_byte l d k = by (nat_lt k (bytes l)) refl
   where
+    high : ℕ
+    high = digit_of (slice_index l (2 * k))
+
+    low : ℕ
+    low = digit_of (slice_index l (2 * k + 1))
+
+    first : ℕ
+    first = worth (slice_index l (2 * k))
+
+    second : ℕ
+    second = worth (slice_index l (2 * k + 1))
+
     by : (b : Bool) → nat_lt k (bytes l) ≡ b
-        → (if b then 16 * digit_of (slice_index l (2 * k)) + digit_of (slice_index l (2 * k + 1)) else 0) < 256
+        → (if b then (16 * first % 256 + second) % 256 else 0) ≡ (if b then 16 * high + low else 0)
     by true e =
         let inside : k < bytes l = grind (arith, nat_tests) in
-        let high = All-get_or (λ c. digit_of c < 16) l (2 * k) 0 (omega arith) ok.digits in
-        let low = All-get_or (λ c. digit_of c < 16) l (2 * k + 1) 0 (omega arith) ok.digits in
-        omega arith
-    by false e = omega arith
+        let h = d (2 * k) (omega arith) in
+        let l = d (2 * k + 1) (omega arith) in
+        omega (arith, h, l, worth_digit _ h, worth_digit _ l)
+    by false e = refl
+
+-- so it is of all bytes of a sound line
+pub sound_bytes : (l : List ℕ) → LineOk l → byte_read l ≡ byte_of l
+sound_bytes l ok = fun_ext (same_byte l (λ j h. All-get_or (λ c. digit_of c < 16) l j 0 (omega arith) ok.digits))

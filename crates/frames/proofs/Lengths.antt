@@ -1,11 +1,7 @@
--- A sound line has a byte; its marks one by one.
-use Rattle.std.specs.Prelude.{ℕ, zero, suc, ◌+◌, ◌/◌, ◌≤◌, ◌≡◌, List, [], ◌∷◌, ◌++◌, length}
+-- The marks of a line one by one.
+use Rattle.std.specs.Prelude.{ℕ, zero, suc, ◌+◌, ◌≡◌, [], ◌∷◌, ◌++◌, length}
 use Rattle.std.proofs.Common.{refl, add-one, length-append, arith}
-use Rattle.frames.specs.Digits.{LineOk}
 use Rattle.frames.specs.Frames.{marks_of}
-
-pub one_byte : (l : List ℕ) → LineOk l → 1 ≤ length l / 2
-one_byte l ok = let a = ok.some in let b = ok.even in omega arith
 
 pub marks_none : (byte : ℕ → ℕ) → marks_of byte 0 ≡ []
 unfolding marks_of

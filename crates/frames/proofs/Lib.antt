@@ -1,4 +1,6 @@
+pub mod Worth
 pub mod Bytes
 pub mod Lengths
+pub mod ReaderLaws
+pub mod FrontLaws
 pub mod Once
-pub mod KeptLaws

@@ -4,7 +4,7 @@ use Rattle.frames.specs.declared.kind.Kind.{Kind}
 use Rattle.frames.specs.declared.kind.Kind.TheVariants.{Declared, ConceptRule, ConceptExclusion, RoleRule, RoleExclusion, ConceptFact, RoleFact, RoleStep, TestStep, Final, Ask, Allowance, Expression, AskFrom}
 
 -- each kind at the byte that names it, from 00 on, which names none
-abbrev kinds : List (Option Kind)
+abbrev pub kinds : List (Option Kind)
 kinds =
     None ∷ Some Declared
     ∷ Some ConceptRule ∷ Some ConceptExclusion ∷ Some RoleRule ∷ Some RoleExclusion

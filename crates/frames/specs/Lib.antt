@@ -1,6 +1,7 @@
 pub mod Digits
 pub mod Kinds
 pub mod Frames
-pub mod Kept
+pub mod Measured
 pub mod Reader
+pub mod Front
 pub mod Laws

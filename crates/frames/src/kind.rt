@@ -1,9 +1,13 @@
 // The kinds of frame: the byte that names each, and how many bytes its frame has.
-ghost use Rattle.std.specs.Prelude.{◌≡◌, ◌↔◌, IsTrue};
+ghost use Rattle.std.specs.Prelude.{◌≡◌, ◌↔◌, IsTrue, IfSome};
 ghost use Rattle.frames.specs.Kinds.{kind_of, frame_length, HasLength};
+ghost use Rattle.frames.specs.Front.{BeginsLine, NamesKind};
 
 // The bytes of a deed number.
 const DEED: usize = 2;
+
+// The characters of the longest line of a known length.
+const LONGEST: usize = 12;
 
 #[derive(Clone, Copy)]
 pub enum Kind {
@@ -26,7 +30,8 @@ pub enum Kind {
 impl Kind {
     // The kind that a frame's first byte names.
     #[tactic(auto, unfolding(crate::specs::Kinds::kind_of))]
-    pub(crate) fn of(byte: u16) -> Option<Kind>
+    #[inline(always)]
+    pub(crate) fn of(byte: u8) -> Option<Kind>
         ensures { result ≡ kind_of byte }
     {
         let kind = match byte {
@@ -47,6 +52,21 @@ impl Kind {
             _ => return None,
         };
         Some(kind)
+    }
+
+    // The kind that the first two of some characters name. The first is 0 for every kind, so that the second alone is worked out.
+    #[inline(always)]
+    pub(crate) fn named(held: &[u8]) -> Option<Kind>
+        ensures { IfSome result (NamesKind held.now) }
+    {
+        if held.len() < 2 || held[0] != b'0' {
+            return None;
+        }
+        match held[1] {
+            x @ b'0'..=b'9' => Kind::of(x - b'0'),
+            x @ b'A'..=b'F' => Kind::of(x - b'A' + 10),
+            _ => None,
+        }
     }
 
     // The bytes of its frame, with the byte that names it. The deed number of a fact and the marks of an expression are
@@ -81,6 +101,26 @@ impl Kind {
             Kind::ConceptFact | Kind::RoleFact => bytes == own || bytes == own + DEED,
             Kind::Expression => true,
             _ => bytes == own,
+        }
+    }
+
+    // The line of this kind at the front of some characters, where an end stands where a frame of the kind ends. The end
+    // behind the marks of an expression, which may be anywhere, is not looked for.
+    #[inline(always)]
+    pub(crate) fn line_of<'a>(self, held: &'a [u8]) -> Option<&'a [u8]>
+        ensures { IfSome result (λ line. BeginsLine self held.now line.now) }
+    {
+        if held.len() <= LONGEST {
+            return None;
+        }
+        let own = 2 * self.length();
+        if held[own] == b'\n' {
+            return Some(&held[..own]);
+        }
+        let noted = own + 2 * DEED;
+        match self {
+            Kind::ConceptFact | Kind::RoleFact if held[noted] == b'\n' => Some(&held[..noted]),
+            _ => None,
         }
     }
 }

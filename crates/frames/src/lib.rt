@@ -1,22 +1,26 @@
 // A line of the desk's input becomes a frame: one named kind with its own numbers, each of its kind from here on.
 #![tactic(auto)]
 
-ghost use Rattle.std.specs.Prelude.{ℕ, ◌+◌, ◌-◌, ◌*◌, ◌^◌, ◌<◌, ◌≡◌};
-ghost use Rattle.kinds.specs.Kinds.{concept_name, role_name, individual, state, signed, deed_number, concept_of};
-ghost use Rattle.frames.specs.Digits.{digit_of, bytes, byte_of, LineOk};
-ghost use Rattle.frames.specs.Frames.{two_bytes, marks_of, frame_by, FrameOf};
-ghost use Rattle.frames.specs.Reader.{Advanced};
+ghost use Rattle.std.specs.Prelude.{◌≡◌, IfSome};
+ghost use Rattle.frames.specs.Digits.{bytes};
+ghost use Rattle.frames.specs.Front.{BeginsFrame};
+ghost use Rattle.frames.specs.Frames.{frame_by, FrameOf};
+ghost use Rattle.frames.specs.Kinds.{HasLength};
+ghost use Rattle.frames.specs.Measured.{IsMeasured};
+ghost use Rattle.frames.specs.Reader.{byte_read, IsAt, ReadsWhole};
 
+use digits::is_sound;
 use kind::Kind;
 use kinds::{
     Concept, ConceptName, Counts, DeedNumber, Individual, RoleName, Rounds, SignedRole, State,
 };
 use marks::Marks;
-use sound::SoundLine;
+use reader::Reader;
 
+mod digits;
 mod kind;
 pub mod marks;
-mod sound;
+mod reader;
 pub mod theorems;
 
 // What a line says.
@@ -45,151 +49,32 @@ pub enum Misread {
     BadFrame,
 }
 
-// A digit is below it.
+// Digits are below it.
 pub const BASE: u8 = 16;
 
-// A byte is below it.
-const BYTE: u16 = 256;
-
-// A line and a place in it, counted in bytes.
+// A frame at the front of some characters, and how many of them are its line, without the end.
 #[derive(Drop)]
-struct Reader<'a> {
-    line: &'a SoundLine<'a>,
-    at: usize,
+pub struct Front {
+    pub frame: Frame,
+    pub length: usize,
 }
 
-impl<'a> Reader<'a> {
-    // At a line's first byte.
-    fn opened(line: &'a SoundLine<'a>) -> Reader<'a>
-        ensures line { result.line ≡ line.entry }
-        ensures at { result.at ≡ 0 }
-    {
-        Reader { line, at: 0 }
-    }
-
-    // The byte at the reader's place, after which the reader is at the next.
-    fn byte(&mut self) -> u16
-        requires { self.old.at < 64 }
-        ensures value { result ≡ byte_of self.old.line.now self.old.at }
-        ensures next { Advanced self.old self.new }
-    {
-        let byte = self.line.byte_at(self.at);
-        self.at += 1;
-        byte
-    }
-
-    // A number of two bytes, high byte first. Past the line's end both are 0.
-    #[tactic(auto, using(crate::proofs::Bytes::byte_small))]
-    fn number(&mut self) -> u16
-        requires sound { LineOk self.old.line.now }
-        requires inside { self.old.at < 63 }
-        ensures { result ≡ two_bytes (byte_of self.old.line.now) self.old.at }
-    {
-        BYTE * self.byte() + self.byte()
-    }
-
-    // The deed number that ends a fact; where the line ends before it, 0.
-    fn deed(&mut self) -> DeedNumber
-        requires sound { LineOk self.old.line.now }
-        requires inside { self.old.at < 63 }
-        ensures { result ≡ deed_number (two_bytes (byte_of self.old.line.now) self.old.at) }
-    {
-        DeedNumber(self.number())
-    }
-
-    // A field of one byte, as what it stands for.
-    fn field<F: Field>(&mut self) -> F
-        requires { self.old.at < 64 }
-        ensures value { result ≡ F.of (byte_of self.old.line.now self.old.at) }
-        ensures next { Advanced self.old self.new }
-    {
-        F::of(self.byte())
-    }
-}
-
-// What stands in one byte of a frame.
-trait Field {
-    ghost of: { ℕ → Self };
-
-    fn of(byte: u16) -> Self
-        ensures { result ≡ of byte };
-}
-
-impl Field for Concept {
-    ghost of = { concept_of };
-
-    fn of(byte: u16) -> Concept {
-        Concept::read(byte)
-    }
-}
-
-impl Field for ConceptName {
-    ghost of = { concept_name };
-
-    fn of(byte: u16) -> ConceptName {
-        ConceptName(byte)
-    }
-}
-
-impl Field for SignedRole {
-    ghost of = { signed };
-
-    fn of(byte: u16) -> SignedRole {
-        SignedRole(byte)
-    }
-}
-
-impl Field for RoleName {
-    ghost of = { role_name };
-
-    fn of(byte: u16) -> RoleName {
-        RoleName(byte)
-    }
-}
-
-impl Field for Individual {
-    ghost of = { individual };
-
-    fn of(byte: u16) -> Individual {
-        Individual(byte)
-    }
-}
-
-impl Field for State {
-    ghost of = { state };
-
-    fn of(byte: u16) -> State {
-        State(byte)
-    }
-}
-
-// The bytes of a line after its kind.
-#[tactic(auto, using(crate::proofs::Bytes::byte_small, crate::proofs::Lengths::one_byte, crate::proofs::Lengths::marks_none, crate::proofs::Lengths::marks_more, crate::proofs::Lengths::marks_long))]
-fn marks_in(line: &SoundLine) -> Marks
-    requires { LineOk line.now }
-    ensures { result ≡ marks_of (byte_of line.now) (bytes line.now - 1) }
-{
-    let mut marks = Marks::new();
-    for k in 0..line.bytes() - 1 {
-        marks.push(line.byte_at(k + 1) as u8);
-    }
-    marks
-}
-
-// The frame of a kind, with the reader at its first field.
-#[tactic(auto, using(crate::proofs::Bytes::byte_small))]
+// The frame of a kind, by a reader behind the byte that names it.
+#[inline(always)]
 fn frame_of(kind: Kind, reader: &mut Reader) -> Frame
-    requires sound { LineOk reader.old.line.now }
-    requires first { reader.old.at ≡ 1 }
-    ensures { let line = reader.old.line.now in
-        result ≡ frame_by (byte_of line) (bytes line) kind }
+    requires behind { IsAt 1 reader.old }
+    requires measured { IsMeasured reader.old.line.now }
+    requires length { HasLength kind (bytes reader.old.line.now) }
+    ensures frame { let line = reader.old.line.now in
+        result ≡ frame_by (byte_read line) (bytes line) kind }
+    ensures whole { ReadsWhole reader.old reader.new }
 {
     match kind {
         Kind::Declared => Frame::Declared(Counts {
-            names: reader.byte(),
-            roles: reader.byte(),
-            individuals: reader.byte(),
-            states: reader.byte(),
+            names: reader.field(),
+            roles: reader.field(),
+            individuals: reader.field(),
+            states: reader.field(),
             start: reader.field(),
         }),
         Kind::ConceptRule => Frame::ConceptRule(reader.field(), reader.field()),
@@ -208,24 +93,43 @@ fn frame_of(kind: Kind, reader: &mut Reader) -> Frame
         Kind::Final => Frame::Final(reader.field()),
         Kind::Ask => Frame::Ask(reader.field(), reader.field()),
         Kind::Allowance => Frame::Allowance(reader.number()),
-        Kind::Expression => Frame::Expression(marks_in(reader.line)),
+        Kind::Expression => Frame::Expression(reader.marks()),
         Kind::AskFrom => Frame::AskFrom(reader.field()),
     }
 }
 
-// The frame of a line, whose kind and length are tested before its fields are read.
+// The frame of a line, whose characters, kind and length are tested before its fields are read.
 pub fn read(line: &[u8]) -> Result<Frame, Misread>
     ensures { FrameOf line.now result }
 {
-    let Some(sound) = SoundLine::read(line) else {
+    if !is_sound(line) {
         return Err(Misread::BadLine);
-    };
-    let mut reader = Reader::opened(&sound);
+    }
+    let mut reader = Reader::opened(line);
     let Some(kind) = Kind::of(reader.byte()) else {
         return Err(Misread::BadFrame);
     };
-    if !kind.has_length(sound.bytes()) {
+    if !kind.has_length(line.len() / 2) {
         return Err(Misread::BadFrame);
     }
     Ok(frame_of(kind, &mut reader))
+}
+
+// The frame at the front of some characters, read where it stands: its line and the end behind it are not searched for, and
+// all its digits are tested at once. `None` decides nothing: there may be a frame, an expression say, or a fault.
+#[inline(always)]
+pub fn read_front(held: &[u8]) -> Option<Front>
+    ensures { IfSome result (BeginsFrame held.now) }
+{
+    let kind = Kind::named(held)?;
+    let line = kind.line_of(held)?;
+    let mut reader = Reader::behind_kind(line);
+    let frame = frame_of(kind, &mut reader);
+    if !reader.is_sound() {
+        return None;
+    }
+    Some(Front {
+        frame,
+        length: line.len(),
+    })
 }

@@ -10,7 +10,7 @@ use Rattle.reading.specs.declared.Refusal.{Refusal}
 use Rattle.reading.specs.Tables.{Kind, concept_rules, concept_exclusions, role_rules, role_exclusions, concept_facts, role_facts, steps, finals, asks, record_in, most, entries, table}
 use Rattle.reading.specs.File.{file_of, IsInPlace, HasShelfRoom, RoomIn}
 use Rattle.reading.specs.Judged.{InPlace, CountsOk, HasRoom, NumbersOk, AskOk, Judged}
-use Rattle.reading.specs.Turns.{FrameJudged, ExpressionJudged}
+use Rattle.reading.specs.Turns.{FrameJudged, ExpressionJudged, Passes}
 use Rattle.reading.proofs.TableLaws.{table-length}
 
 begun : (fs : List Frame) → (0 < length fs) ↔ (fs ≢ [])
@@ -94,15 +94,8 @@ module _ (file : File) (f : Frame) where
       (first-onward (λ c. first-same (room before f)
       (first-onward (λ n. first-onward (λ a e. absurd cc))))) t
 
-  -- what a frame that has passed the first tests has passed
-  pub record First : Type 0 where
-    pub in_place : IsInPlace file f
-    pub counts : CountsOk f
-    pub room : HasShelfRoom file f
-    pub numbers : NumbersOk file.counts f
-    pub ask : AskOk file.counts f
-
-  pub first : FrameJudged file f (Ok tt) → First
+  -- a frame that the first tests do not refuse passes them all, and the other way
+  pub first : FrameJudged file f (Ok tt) → Passes file f
   first h =
       let a = first-passed h (λ e. cc) in
       let b = first-passed a.1 (λ e. cc) in
@@ -110,6 +103,9 @@ module _ (file : File) (f : Frame) where
       let d = first-passed c.1 (λ e. cc) in
       let g = first-passed d.1 (λ e. cc) in
       record { in_place = a.0; counts = b.0; room = c.0; numbers = d.0; ask = g.0 }
+
+  pub passed_first : Passes file f → FrameJudged file f (Ok tt)
+  passed_first p = holds p.in_place (holds p.counts (holds p.room (holds p.numbers (holds p.ask refl))))
 
   -- and one that has passed them, by its last
   pub judged_last : {q : Result (Unit {0}) Refusal} → FrameJudged file f (Ok tt) → ExpressionJudged file.counts f q → (before : List Frame) → file ≡ file_of before → Judged before f q

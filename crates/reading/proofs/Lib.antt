@@ -7,6 +7,7 @@ pub mod Turns
 pub mod Questions
 pub mod Rows
 pub mod GoingOn
+pub mod Fronts
 pub mod Once
 pub mod Accepted
 pub mod Prefix

@@ -17,7 +17,7 @@ use Rattle.reading.specs.File.{file_of, file_with, HasShelfRoom, IsSmall}
 use Rattle.reading.specs.Judged.{InPlace, NumbersOk, Judged}
 use Rattle.reading.specs.Reading.{unread, refused, taken, Taken}
 use Rattle.reading.specs.Reads.{IsRead}
-use Rattle.reading.specs.Turns.{FrameJudged, ExpressionJudged, refused as turned, taken as turned_on, TakesLine}
+use Rattle.reading.specs.Turns.{FrameJudged, ExpressionJudged, Passes, refused as turned, taken as turned_on, TakesLine}
 use Rattle.reading.proofs.Passed.{Passed, passed, taken-keeps}
 use Rattle.reading.proofs.Bounds.{most_lines, within-lines}
 use Rattle.reading.proofs.Kept.{declared-later, declared-first, file_with-file_of}
@@ -68,14 +68,17 @@ few_states w = rw w.kept (few-states w.frames w.taken)
 pub few_lines : {file : File} → IsRead file → file.lines ≤ most_lines
 few_lines w = let e = ap (λ (f : File). f.lines) w.kept in omega (arith, within-lines w.frames w.taken)
 
-module _ (file : File) (f : Frame) (j : FrameJudged file f (Ok tt)) where
-  pub room_left : HasShelfRoom file f
-  room_left = (first file f j).room
-
-  pub small_numbers : IsRead file → IsSmall f
-  small_numbers w =
-      let p = first file f j in
+module _ (file : File) (f : Frame) where
+  pub small_passed : Passes file f → IsRead file → IsSmall f
+  small_passed p w =
       small w.frames f w.taken ((in_place w.frames f).0 (rw w.kept at p.in_place)) (rw w.kept at p.numbers)
+
+  module _ (j : FrameJudged file f (Ok tt)) where
+    pub room_left : HasShelfRoom file f
+    room_left = (first file f j).room
+
+    pub small_numbers : IsRead file → IsSmall f
+    small_numbers = small_passed (first file f j)
 
 module _ {file : File} {line : List ℕ} where
   pub turn_unread : {m : Misread} {r : Result (Unit {0}) Refusal} → FrameOf line (Err m) → IsErrAnd r (λ e. e ≡ refusal_of m) → TakesLine file line r file

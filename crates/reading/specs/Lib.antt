@@ -5,5 +5,6 @@ pub mod Judged
 pub mod Reading
 pub mod Reads
 pub mod Turns
+pub mod Front
 pub mod Laws
 pub mod Deeds

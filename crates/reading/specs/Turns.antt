@@ -33,6 +33,14 @@ FrameJudged file f =
     ∷ AskOk file.counts f else Err BadAsk ∷ [])
     (λ r. r ≡ Ok tt)
 
+-- a frame passes all of them
+pub record Passes (file : File) (f : Frame) : Type 0 where
+  pub in_place : IsInPlace file f
+  pub counts : CountsOk f
+  pub room : HasShelfRoom file f
+  pub numbers : NumbersOk file.counts f
+  pub ask : AskOk file.counts f
+
 -- the last tests of a frame: 13, 12 and 14
 abbrev pub ExpressionJudged : Counts → Frame → Result (Unit {0}) Refusal → Type 0
 ExpressionJudged counts f =

@@ -1,9 +1,10 @@
 // A frame judged: of its tests, in their order, the first that fails refuses it. Those of an expression alone come last,
 // where it is read.
 ghost use Rattle.std.specs.Prelude.{◌↔◌, All, IsTrue};
+ghost use Rattle.std.specs.Bool.{OnTrue};
 ghost use Rattle.reading.specs.Judged.{CountsOk, NumbersOk, AskOk};
 ghost use Rattle.reading.specs.File.{IsInPlace, HasShelfRoom};
-ghost use Rattle.reading.specs.Turns.{HasNoQuestion, MarkOk, FrameJudged};
+ghost use Rattle.reading.specs.Turns.{HasNoQuestion, MarkOk, Passes, FrameJudged};
 
 use crate::{File, Refusal};
 use expression::letter;
@@ -138,5 +139,60 @@ impl File {
             return Err(Refusal::BadAsk);
         }
         Ok(())
+    }
+
+    // Whether a frame that adds a record to a table passes all these tests, by one look at its kind. What it does not pass may
+    // yet be taken: `judge` tells.
+    #[inline(always)]
+    pub(crate) fn passes(&self, frame: &Frame) -> bool
+        ensures { OnTrue result (Passes self.now frame.now) }
+    {
+        let counts = self.counts;
+        if self.lines == 0 {
+            return false;
+        }
+        match frame {
+            Frame::ConceptRule(c, d) => {
+                self.concept_rules.has_room() && c.declared(counts) && d.declared(counts)
+            }
+            Frame::ConceptExclusion(c, d) => {
+                self.concept_exclusions.has_room() && c.declared(counts) && d.declared(counts)
+            }
+            Frame::RoleRule(r, s) => {
+                self.role_rules.has_room() && r.declared(counts) && s.declared(counts)
+            }
+            Frame::RoleExclusion(r, s) => {
+                self.role_exclusions.has_room() && r.declared(counts) && s.declared(counts)
+            }
+            Frame::ConceptFact(a, i, _) => {
+                self.concept_facts.has_room() && a.declared(counts) && i.declared(counts)
+            }
+            Frame::RoleFact(r, i, j, _) => {
+                self.role_facts.has_room()
+                    && r.declared(counts)
+                    && i.declared(counts)
+                    && j.declared(counts)
+            }
+            Frame::RoleStep(s, r, t) => {
+                self.expression.is_none()
+                    && self.steps.has_room()
+                    && s.declared(counts)
+                    && r.declared(counts)
+                    && t.declared(counts)
+            }
+            Frame::TestStep(s, a, t) => {
+                self.expression.is_none()
+                    && self.steps.has_room()
+                    && s.declared(counts)
+                    && a.declared(counts)
+                    && t.declared(counts)
+            }
+            Frame::Final(s) => {
+                self.expression.is_none() && self.finals.has_room() && s.declared(counts)
+            }
+            Frame::Ask(i, j) => self.asks.has_room() && i.declared(counts) && j.declared(counts),
+            Frame::AskFrom(i) => self.asks.has_room() && i.declared(counts),
+            _ => false,
+        }
     }
 }

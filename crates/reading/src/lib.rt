@@ -2,6 +2,7 @@
 #![tactic(auto)]
 
 ghost use Rattle.std.specs.Prelude.{◌≡◌, ◌+◌, ◌-◌, ◌^◌, ◌<◌, ◌≤◌, [], Ok, Err, Some, IfOk, IfErr, IfSome, OnOk, OnErr, min};
+ghost use Rattle.reading.specs.Front.{TakesFront, TakesLines};
 ghost use Rattle.kinds.specs.Kinds.{number_of, most_states};
 ghost use Rattle.meaning.specs.Demands.{most_rounds};
 ghost use Rattle.tables.specs.Lists.{lists};
@@ -14,7 +15,7 @@ ghost use Rattle.reading.specs.Turns.{ExpressionJudged, RowJudged, TakesLine};
 
 use expressed::Expression;
 use frames::marks::Marks;
-use frames::{Frame, Misread};
+use frames::{Frame, Front, Misread};
 use kinds::{Ask, Concept, Counts, Rounds, State};
 use shelf::Shelf;
 use std::io;
@@ -238,6 +239,7 @@ impl File {
     }
 
     // A frame kept: its record goes to the end of its table, and an expression is kept with its automaton, or refused.
+    #[inline(always)]
     fn keep(&mut self, frame: Frame) -> Result<(), Refusal>
         requires room { HasShelfRoom self.old frame }
         requires small { IsSmall frame }
@@ -277,6 +279,40 @@ impl File {
         self.keep(frame)
     }
 
+    // The line at the front of what is held, taken where it stands: how many characters it has with its end. 0 where that is
+    // not decided here, and then nothing changes.
+    #[inline(always)]
+    fn take_front(&mut self, held: &[u8]) -> usize
+        requires { IsRead self.old }
+        ensures { TakesFront self.old held.now result self.new }
+    {
+        let Some(Front { frame, length }) = frames::read_front(held) else {
+            return 0;
+        };
+        if !self.passes(&frame) {
+            return 0;
+        }
+        match self.keep(frame) {
+            Ok(()) => length + 1,
+            Err(_) => 0,
+        }
+    }
+
+    // The lines at the front of what is held, as long as they are taken so: how many characters they have.
+    fn take_lines(&mut self, held: &[u8]) -> usize
+        requires { IsRead self.old }
+        ensures { TakesLines self.old held.now result self.new }
+    {
+        let mut at = 0;
+        'lines: loop {
+            let n = self.take_front(&held[at..]);
+            if n == 0 {
+                return at;
+            }
+            at += n;
+        }
+    }
+
     // The line after those that are read, refused.
     fn fault(&self, refusal: Refusal) -> Fault
         requires { self.now.lines < 2 ^ 16 }
@@ -299,6 +335,8 @@ impl File {
     }
 }
 
+// A line is read by itself, whatever it is, which alone tells the numbers 9 and 10; the lines behind it are taken where they
+// stand, up to one that is not.
 fn read_lines<S: Source + Drop>(source: S, file: &mut File) -> io::Result<Result<(), Fault>>
     requires { file.old ≡ file_of [] }
     ensures found { IfOk result (λ found.
@@ -318,6 +356,8 @@ fn read_lines<S: Source + Drop>(source: S, file: &mut File) -> io::Result<Result
                 }
             }
         }
+        let taken = file.take_lines(lines.held());
+        lines.consume(taken);
     }
 }
 

@@ -46,15 +46,17 @@ impl<R: Record, const N: usize> Shelf<R, N> {
         R::WIDTH <= N - self.used
     }
 
+    // A record more. Its numbers are few, and go one by one into their places.
+    #[inline(always)]
     pub(crate) fn push(&mut self, numbers: &[u16])
         requires { length self.old + length numbers.now ≤ N }
         ensures { self.new ≡ self.old ++ numbers.now }
     {
         let from = self.used;
-        let to = from + numbers.len();
-        let all = &mut self.numbers[..];
-        all[from..to].copy_from_slice(numbers);
-        self.used = to;
+        for k in 0..numbers.len() {
+            self.numbers[from + k] = numbers[k];
+        }
+        self.used = from + numbers.len();
     }
 
     pub fn table(&self) -> Table<'_, R>

@@ -1,4 +1,5 @@
 pub mod Lines
+pub mod Input
 pub mod Gives
 pub mod Takes
 pub mod Pieces

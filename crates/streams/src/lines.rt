@@ -3,6 +3,7 @@
 ghost use Rattle.std.specs.Prelude.{◌≡◌, ◌==◌, ◌+◌, ◌-◌, ◌<◌, ◌≤◌, ℕ, [], IfOk, IfErr, OnErr, IfSome, length, drop, take, position};
 ghost use Rattle.std.specs.Io.KnownBytes.{Keeps, prepend_known};
 ghost use Rattle.streams.specs.Gives.{Gives, ConsumesNext};
+ghost use Rattle.streams.specs.Input.{left_of};
 
 use crate::window::Window;
 use crate::{LINE, Source};
@@ -104,7 +105,7 @@ fn next_line<S: Source>(window: &mut Window, source: &mut S) -> io::Result<Next>
     }
 }
 
-// An input, read line by line. Callers see the bytes that are left of it, where those are known.
+// An input, read line by line. Callers see the bytes that are held of it, and those behind them, where these are known.
 #[derive(Drop)]
 pub struct Lines<S: Source> {
     window: Window,
@@ -112,17 +113,16 @@ pub struct Lines<S: Source> {
 }
 
 impl<S: Source> Model for Lines<S> {
-    ghost use Rattle.std.specs.Prelude.{ℕ, List, Option};
-    ghost use Rattle.std.specs.Io.KnownBytes.{prepend_known};
+    ghost use Rattle.streams.specs.Input.{Input};
 
-    ghost Value = { Option (List ℕ) };
+    ghost Value = { Input };
 
-    ghost view = { λ l. prepend_known l.window (S.remaining l.source) };
+    ghost view = { λ l. record { held = l.window; behind = S.remaining l.source } };
 }
 
 impl<S: Source> Lines<S> {
     pub fn new(source: S) -> Lines<S>
-        ensures { result ≡ S.remaining source }
+        ensures { result ≡ record { held = []; behind = S.remaining source } }
     {
         Lines {
             window: Window::new(),
@@ -130,11 +130,27 @@ impl<S: Source> Lines<S> {
         }
     }
 
-    // After an `Err` or a line that is too long, what is left is as it was.
+    // The bytes that are read and not yet taken. How many they are is the source's doing.
+    pub fn held(&self) -> &[u8]
+        ensures { result.now ≡ self.now.held }
+    {
+        self.window.as_slice()
+    }
+
+    // Takes so many of the bytes that are held, or all of them where they are fewer.
+    pub fn consume(&mut self, count: usize)
+        ensures held { self.new.held ≡ drop count self.old.held }
+        ensures behind { self.new.behind ≡ self.old.behind }
+    {
+        let held = self.window.as_slice().len();
+        self.window.consume(count.min(held));
+    }
+
+    // After an `Err` or a line that is too long, the bytes that are left are the same.
     pub fn next(&mut self) -> io::Result<Next>
-        ensures ok { IfOk result (Gives self.old self.new) }
-        ensures bytes { IfOk result (ConsumesNext self.old self.new) }
-        ensures err { OnErr result (Keeps self.old self.new) }
+        ensures ok { IfOk result (Gives (left_of self.old) (left_of self.new)) }
+        ensures bytes { IfOk result (ConsumesNext (left_of self.old) (left_of self.new)) }
+        ensures err { OnErr result (Keeps (left_of self.old) (left_of self.new)) }
         ensures fails { IfErr result S.fails }
     {
         next_line(&mut self.window, &mut self.source)

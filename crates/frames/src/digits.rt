@@ -1,0 +1,35 @@
+// What a character is worth as a digit, and which lines are sound.
+ghost use Rattle.std.specs.Prelude.{◌≡◌, ◌↔◌, IsTrue};
+ghost use Rattle.frames.specs.Digits.{LineOk};
+ghost use Rattle.frames.specs.Measured.{IsMeasured};
+ghost use Rattle.frames.specs.Reader.{worth};
+
+use crate::BASE;
+use streams::LINE;
+
+// A digit is worked out and not looked up, so that no table of characters is needed. What is no digit is worth `BASE` or more.
+#[inline(always)]
+#[tactic(auto, unfolding(crate::specs::Reader::worth))]
+pub(crate) fn digit(x: u8) -> u8
+    ensures { result ≡ worth x }
+{
+    let decimal = x.wrapping_sub(b'0');
+    let letter = x.wrapping_sub(b'A').saturating_add(10);
+    if decimal < 10 { decimal } else { letter }
+}
+
+// Whether a line is not empty, has at most so many characters as a line may have, and an even number of them.
+fn is_measured(line: &[u8]) -> bool
+    ensures { IsTrue result ↔ IsMeasured line.now }
+{
+    let n = line.len();
+    0 < n && n <= LINE && n % 2 == 0
+}
+
+// Whether a line has such a length, and digits alone.
+#[tactic(auto, using(crate::proofs::Worth::worth_small))]
+pub(crate) fn is_sound(line: &[u8]) -> bool
+    ensures { IsTrue result ↔ LineOk line.now }
+{
+    is_measured(line) && line.iter().all(|x| digit(*x) < BASE)
+}

@@ -1,0 +1,198 @@
+// A line read byte by byte where it stands: one pass, and what is no digit is gathered on the way.
+ghost use Rattle.std.specs.Prelude.{ℕ, ◌+◌, ◌-◌, ◌/◌, ◌<◌, ◌≤◌, ◌≡◌, ◌↔◌, ◌⊎◌, IsTrue, length};
+ghost use Rattle.kinds.specs.Kinds.{concept_name, role_name, individual, state, signed, deed_number, concept_of};
+ghost use Rattle.frames.specs.Digits.{bytes, line_length};
+ghost use Rattle.frames.specs.Frames.{two_bytes, marks_of};
+ghost use Rattle.frames.specs.Reader.{byte_read, Digits, Gathered, Advanced, IsAt, ReadsWhole};
+
+use crate::BASE;
+use crate::digits::digit;
+use crate::marks::Marks;
+use kinds::{Concept, ConceptName, DeedNumber, Individual, RoleName, SignedRole, State};
+
+// Bytes are below it.
+const BYTE: u16 = 256;
+
+// A line's slice, a place in it counted in bytes, and what the digits before that place have in common: it is below `BASE`
+// exactly where each character before the place is a digit.
+#[derive(Drop)]
+pub(crate) struct Reader<'a> {
+    line: &'a [u8],
+    at: usize,
+    wrong: u8,
+}
+
+impl<'a> Reader<'a> {
+    // A reader at a line's first byte.
+    #[inline(always)]
+    pub(crate) fn opened(line: &'a [u8]) -> Reader<'a>
+        ensures line { result.line ≡ line.entry }
+        ensures opened { IsAt 0 result }
+    {
+        Reader {
+            line,
+            at: 0,
+            wrong: 0,
+        }
+    }
+
+    // A reader behind the two characters that name a line's kind.
+    #[inline(always)]
+    pub(crate) fn behind_kind(line: &'a [u8]) -> Reader<'a>
+        requires { Digits line.now 2 }
+        ensures line { result.line ≡ line.entry }
+        ensures behind { IsAt 1 result }
+    {
+        Reader {
+            line,
+            at: 1,
+            wrong: 0,
+        }
+    }
+
+    // The byte at the reader's place, after which the reader is at the next. It is some byte where a character is no digit.
+    #[inline(always)]
+    #[tactic(auto, using(crate::proofs::ReaderLaws::advanced, crate::proofs::Bytes::byte_within))]
+    pub(crate) fn byte(&mut self) -> u8
+        requires gathered { Gathered self.old }
+        requires inside { self.old.at < length self.old.line.now / 2 }
+        ensures value { result ≡ byte_read self.old.line.now self.old.at }
+        ensures next { Advanced self.old self.new }
+    {
+        let high = digit(self.line[2 * self.at]);
+        let low = digit(self.line[2 * self.at + 1]);
+        self.at += 1;
+        self.wrong |= high | low;
+        BASE.wrapping_mul(high).wrapping_add(low)
+    }
+
+    // A number of two bytes, high byte first.
+    #[inline(always)]
+    pub(crate) fn number(&mut self) -> u16
+        requires gathered { Gathered self.old }
+        requires inside { self.old.at + 1 < length self.old.line.now / 2 }
+        ensures value { result ≡ two_bytes (byte_read self.old.line.now) self.old.at }
+        ensures line { self.new.line ≡ self.old.line }
+        ensures at { self.new.at ≡ self.old.at + 2 }
+        ensures gathered { Gathered self.new }
+    {
+        BYTE * u16::from(self.byte()) + u16::from(self.byte())
+    }
+
+    // The deed number that ends a fact; where the line ends before it, 0.
+    #[inline(always)]
+    #[tactic(auto, using(crate::proofs::Bytes::byte_past))]
+    pub(crate) fn deed(&mut self) -> DeedNumber
+        requires gathered { Gathered self.old }
+        requires inside { let bytes = length self.old.line.now / 2 in
+            (self.old.at ≡ bytes) ⊎ (self.old.at + 2 ≡ bytes) }
+        ensures value { result ≡ deed_number (two_bytes (byte_read self.old.line.now) self.old.at) }
+        ensures whole { ReadsWhole self.old self.new }
+    {
+        if self.at == self.line.len() / 2 {
+            return DeedNumber(0);
+        }
+        DeedNumber(self.number())
+    }
+
+    // A field of one byte, as what it stands for.
+    #[inline(always)]
+    pub(crate) fn field<F: Field>(&mut self) -> F
+        requires gathered { Gathered self.old }
+        requires inside { self.old.at < length self.old.line.now / 2 }
+        ensures value { result ≡ F.of (byte_read self.old.line.now self.old.at) }
+        ensures next { Advanced self.old self.new }
+    {
+        F::of(u16::from(self.byte()))
+    }
+
+    // The marks of an expression: all bytes behind the kind.
+    #[tactic(auto, using(crate::proofs::Lengths::marks_none, crate::proofs::Lengths::marks_more, crate::proofs::Lengths::marks_long))]
+    pub(crate) fn marks(&mut self) -> Marks
+        requires behind { IsAt 1 self.old }
+        requires some { 1 ≤ bytes self.old.line.now }
+        requires short { length self.old.line.now ≤ line_length }
+        ensures value { let line = self.old.line.now in
+            result ≡ marks_of (byte_read line) (bytes line - 1) }
+        ensures whole { ReadsWhole self.old self.new }
+    {
+        let mut marks = Marks::new();
+        'marks: while self.at < self.line.len() / 2 {
+            marks.push(self.byte());
+        }
+        marks
+    }
+
+    // Whether each character before the reader's place is a digit.
+    #[inline(always)]
+    pub(crate) fn is_sound(&self) -> bool
+        ensures { IsTrue result ↔ (self.now.wrong < 16) }
+    {
+        self.wrong < BASE
+    }
+}
+
+// What stands in one byte of a frame.
+pub(crate) trait Field {
+    ghost of: { ℕ → Self };
+
+    fn of(byte: u16) -> Self
+        ensures { result ≡ of byte };
+}
+
+// A count.
+impl Field for u16 {
+    ghost of = { λ byte. byte };
+
+    fn of(byte: u16) -> u16 {
+        byte
+    }
+}
+
+impl Field for Concept {
+    ghost of = { concept_of };
+
+    fn of(byte: u16) -> Concept {
+        Concept::read(byte)
+    }
+}
+
+impl Field for ConceptName {
+    ghost of = { concept_name };
+
+    fn of(byte: u16) -> ConceptName {
+        ConceptName(byte)
+    }
+}
+
+impl Field for SignedRole {
+    ghost of = { signed };
+
+    fn of(byte: u16) -> SignedRole {
+        SignedRole(byte)
+    }
+}
+
+impl Field for RoleName {
+    ghost of = { role_name };
+
+    fn of(byte: u16) -> RoleName {
+        RoleName(byte)
+    }
+}
+
+impl Field for Individual {
+    ghost of = { individual };
+
+    fn of(byte: u16) -> Individual {
+        Individual(byte)
+    }
+}
+
+impl Field for State {
+    ghost of = { state };
+
+    fn of(byte: u16) -> State {
+        State(byte)
+    }
+}
