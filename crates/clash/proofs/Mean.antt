@@ -7,7 +7,9 @@ use Rattle.kinds.specs.declared.SignedRole.{SignedRole}
 use Rattle.kinds.specs.declared.Concept.{Concept}
 use Rattle.kinds.specs.declared.Concept.TheVariants.{Exists}
 use Rattle.kinds.specs.declared.Counts.{Counts}
-use Rattle.kinds.specs.Kinds.{most_individuals, base, flip, flip-below, most_roles, inverse, inverse-inverse, signed, individual, number_of, concept_of, number-concept, concept-number, role-concept, CountsFit, SignedDeclared, ConceptDeclared}
+use Rattle.kinds.specs.Kinds.{most_individuals, base, flip, flip-below, most_roles, inverse, inverse-inverse, signed, individual}
+use Rattle.kinds.specs.Kinds.{number_of, concept_of, number-concept, concept-number, role-concept, CountsFit, SignedDeclared}
+use Rattle.kinds.specs.Kinds.{ConceptDeclared}
 use Rattle.laws.specs.Member.{◌∈◌}
 use Rattle.meaning.specs.Collection.{NumbersDeclared}
 use Rattle.meaning.specs.Lent.{Tables, collection, records, rule_width}

@@ -4,16 +4,16 @@ use Rattle.std.proofs.Common.{◌∙◌, arith, inl, inr, ⊎_elim, length-set, 
 use Rattle.std.proofs.Math.Decide.{ℕ_discrete, dec_lt}
 use Rattle.std.proofs.lemmas.Nat.Bits.{bit_at_above, bit_at-zero}
 use Rattle.std.proofs.lemmas.List.{get_or-replicate, length-replicate}
+use Rattle.laws.specs.Truth.{test-same}
 use Rattle.sets.specs.Bits.{role_width, has, Has, Meets, IsEmpty, Inserts, InsertsIf, IsUnion, TakesFirst}
 use Rattle.sets.specs.Rows.{Adds, role_marks, no_roles}
 use Rattle.sets.specs.declared.roles.RoleSet.{RoleSet}
-use Rattle.sets.proofs.RowLaws.{has_fact, has_none, same_test, adds_then}
+use Rattle.sets.proofs.RowLaws.{has_fact, has_none, adds_then}
 use Rattle.tables.specs.declared.records.RolePair.{RolePair}
 use Rattle.orders.specs.Marks.{Pair, Listed}
-use Rattle.edges.specs.declared.FactEdge.{FactEdge}
-use Rattle.kinds.specs.Kinds.{most_individuals}
 use Rattle.clash.specs.Clashes.{BothSides, Marked, HaveBothSides}
-use Rattle.clash.specs.Conflicts.{BothWays, SidesListed, Joins, Raises, IsUnionBelow, IsExcluded, Excludes, IsConcerned, AreConcerned, AreMet, ByEdge}
+use Rattle.clash.specs.Conflicts.{BothWays, SidesListed, Joins, Raises, IsUnionBelow, IsExcluded, Excludes, IsConcerned, AreConcerned}
+use Rattle.clash.specs.Conflicts.{AreMet}
 
 -- rows of empty sets mark nothing
 pub blank_roles : (n i j : ℕ) → i < n → IsTrue (role_marks (replicate n no_roles) i j) → ⊥
@@ -143,7 +143,7 @@ pub excludes : (table : List ℕ) (m roles r : ℕ → ℕ → Bool)
     → Raises m roles r → Excludes table roles r
 excludes table m roles r a u = record {
   at = λ p j hp hj.
-      same_test (u.at p j hp hj)
+      test-same (u.at p j hp hj)
       (λ v. record { by = v.0; row = v.1; above = v.2; sides = sides-listed table v.0 j v.1 ((a.at v.0 j v.1 hj).0 v.3) })
       (λ b. (b.by, b.row, b.above, (a.at b.by j b.row hj).1 (inr (listed-sides table b.by j b.sides))));
 }
@@ -181,7 +181,7 @@ excluded_sides table roles P r j w h above p = side w.sides
 pub role_broken : (table : List ℕ) (roles excluded : ℕ → ℕ → Bool) (r : ℕ) (b : Bool) → Excludes table roles excluded → r < role_width
     → IsTrue b ↔ AreMet (excluded r) (roles r)
     → IsTrue b ↔ HaveBothSides role_width table (roles r)
-role_broken table roles excluded r b a h e = same_test e to from
+role_broken table roles excluded r b a h e = test-same e to from
   where
     to : AreMet (excluded r) (roles r) → HaveBothSides role_width table (roles r)
     to m = record {

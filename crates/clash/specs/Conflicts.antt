@@ -1,5 +1,6 @@
 -- The exclusions of a table, as relations that are worked out from it.
-use Rattle.std.specs.Prelude.{ℕ, ◌/◌, ◌<◌, ◌≡◌, ◌⊎◌, ◌↔◌, IsTrue, Bool, List, length, slice_index_or}
+use Rattle.std.specs.Prelude.{ℕ, ◌+◌, ◌/◌, ◌<◌, ◌≡◌, ◌⊎◌, ◌↔◌, IsTrue, Bool, List, length, slice_index_or}
+use Rattle.kinds.specs.Kinds.{base, flip}
 use Rattle.laws.specs.Gains.{Either, OneOf}
 use Rattle.meaning.specs.Lent.{rule_width}
 use Rattle.sets.specs.Bits.{concept_width, role_width, Has, Meets}
@@ -12,15 +13,29 @@ use Rattle.edges.specs.declared.FactEdge.{FactEdge}
 
 -- ---- concepts
 
--- the relation has the pairs of the table, and the set has every left side
-pub record AreConflicts (table : List ℕ) (excluded : ℕ → ℕ → Bool) (lefts : ℕ) : Type 0 where
+-- each member of the set n is in the set m
+abbrev pub IsPart : ℕ → ℕ → Type 0
+IsPart n m = (k : ℕ) → Has n k → Has m k
+
+-- the set has what the first n rows have
+pub record AreAmong (n : ℕ) (rows : ℕ → ℕ → Bool) (among : ℕ) : Type 0 where
+  pub at : (i k : ℕ) → i < n → IsTrue (rows i k) → Has among k
+
+-- the set has what an unnamed element has that ends by a generating role
+pub record UnnamedAmong (order : ℕ → ℕ → Bool) (generating among : ℕ) : Type 0 where
+  pub at : (R k : ℕ) → Has generating R → IsTrue (order (base + flip R) k) → Has among k
+
+-- the relation has the pairs of the table, and the set every left side with a right side among
+-- some concepts
+pub record AreConflicts (table : List ℕ) (among : ℕ) (excluded : ℕ → ℕ → Bool) (lefts : ℕ)
+    : Type 0 where
   pub at : (i j : ℕ) → i < concept_width → j < concept_width
       → IsTrue (excluded i j) ↔ Listed table i j
-  pub covers : (i j : ℕ) → i < concept_width → IsTrue (excluded i j) → Has lefts i
+  pub covers : (i j : ℕ) → i < concept_width → IsTrue (excluded i j) → Has among j → Has lefts i
 
--- the set has each of the first n concepts whose row has a member
-pub record Covers (rows : ℕ → ℕ → Bool) (n lefts : ℕ) : Type 0 where
-  pub at : (i j : ℕ) → i < n → IsTrue (rows i j) → Has lefts i
+-- the set has each of the first n concepts whose row has one of some concepts
+pub record Covers (rows : ℕ → ℕ → Bool) (n among lefts : ℕ) : Type 0 where
+  pub at : (i j : ℕ) → i < n → IsTrue (rows i j) → Has among j → Has lefts i
 
 -- row i of the rows meets a set
 abbrev pub MeetsRow : List ConceptSet → ℕ → ℕ → Type 0

@@ -5,7 +5,7 @@ ghost use Rattle.kinds.specs.Kinds.{base, flip, most_individuals};
 ghost use Rattle.sets.specs.Bits.{concept_width, role_width, has, Has};
 ghost use Rattle.sets.specs.Rows.{concept_marks, no_concepts};
 ghost use Rattle.clash.specs.Clashes.{HaveBothSides, SomeBelow, SomeIn, IndividualClashes, UnnamedClashes, ConceptsClash};
-ghost use Rattle.clash.specs.Conflicts.{AreConflicts, Covers, MeetsRow};
+ghost use Rattle.clash.specs.Conflicts.{AreConflicts, AreAmong, IsPart, Covers, MeetsRow, UnnamedAmong};
 
 use elements::Elements;
 use kinds::{Concept, Individual, SignedRole};
@@ -13,35 +13,37 @@ use orders::{ConceptOrder, ConceptRelation, mark_pairs};
 use sets::{ConceptSet, RoleSet};
 use tables::{ConceptPair, Table};
 
-// The exclusions of a table: for each left side the right sides beside it, and the set of the left sides.
+// The exclusions of a table, for rows whose concepts are all in the set `among`: for each left side the right sides beside it, and the set of the
+// left sides that have a concept of `among` beside them. A row has both sides of an exclusion only by one of these.
 #[derive(Clone, Copy)]
 pub struct ConceptConflicts<'a> {
     pub exclusions: Table<'a, ConceptPair>,
+    pub among: ConceptSet,
     pub excluded: ConceptRelation,
     pub lefts: ConceptSet,
 }
 
-// The concept numbered i is put into the set if its row has a member.
+// The concept numbered i is put into the set if its row meets the other set.
 #[tactic(auto, using(orders::proofs::RowLaws::read_number))]
-fn list(lefts: &mut ConceptSet, i: usize, row: ConceptSet)
+fn list(lefts: &mut ConceptSet, i: usize, row: ConceptSet, among: ConceptSet)
     requires { i < concept_width }
     ensures keeps { (k : ℕ) → Has lefts.old.0 k → Has lefts.new.0 k }
-    ensures own { (j : ℕ) → Has row.0 j → Has lefts.new.0 i }
+    ensures own { (j : ℕ) → Has row.0 j → Has among.0 j → Has lefts.new.0 i }
 {
-    if row.is_empty() {
+    if !row.intersects(among) {
         return;
     }
     lefts.insert(Concept::read(i as u16));
 }
 
-// The concepts whose row has a member.
+// The concepts whose row meets the set.
 #[tactic(auto, using(crate::proofs::ConceptLaws::covers_none, crate::proofs::ConceptLaws::covers_more))]
-fn left_sides(rows: &ConceptRelation) -> ConceptSet
-    ensures { Covers (concept_marks rows.now) concept_width result.0 }
+fn left_sides(rows: &ConceptRelation, among: ConceptSet) -> ConceptSet
+    ensures { Covers (concept_marks rows.now) concept_width among.0 result.0 }
 {
     let mut lefts = ConceptSet::EMPTY;
     for (i, row) in rows.iter().enumerate() {
-        list(&mut lefts, i, *row);
+        list(&mut lefts, i, *row, among);
     }
     lefts
 }
@@ -67,18 +69,35 @@ fn unnamed_row(order: &ConceptOrder, role: SignedRole) -> ConceptSet
     order.above(role.inverse().exists())
 }
 
+// The concepts that some individual has, or some unnamed element.
+#[tactic(auto, using(crate::proofs::ConceptLaws::taking_start))]
+pub(crate) fn element_concepts(order: &ConceptOrder, elements: &Elements) -> ConceptSet
+    ensures individuals { AreAmong most_individuals (concept_marks elements.now.individuals)
+        result.0 }
+    ensures unnamed { UnnamedAmong (concept_marks order.now.above) elements.now.generating.0
+        result.0 }
+{
+    let mut all = elements.individual_concepts();
+    for role in elements.generating.iter() {
+        all = all.union(unnamed_row(order, role));
+    }
+    all
+}
+
 impl<'a> ConceptConflicts<'a> {
     #[tactic(auto, using(crate::proofs::ConceptLaws::are_conflicts))]
-    pub(crate) fn new(exclusions: Table<'a, ConceptPair>) -> ConceptConflicts<'a>
+    pub(crate) fn new(exclusions: Table<'a, ConceptPair>, among: ConceptSet) -> ConceptConflicts<'a>
         ensures exclusions { result.exclusions ≡ exclusions.entry }
-        ensures are { AreConflicts exclusions.entry.numbers.now (concept_marks result.excluded)
-            result.lefts.0 }
+        ensures among { result.among ≡ among }
+        ensures are { AreConflicts exclusions.entry.numbers.now among.0
+            (concept_marks result.excluded) result.lefts.0 }
     {
         let mut excluded = [ConceptSet::EMPTY; Concept::NUMBERS];
         mark_pairs(&mut excluded, exclusions);
-        let lefts = left_sides(&excluded);
+        let lefts = left_sides(&excluded, among);
         ConceptConflicts {
             exclusions,
+            among,
             excluded,
             lefts,
         }
@@ -86,8 +105,9 @@ impl<'a> ConceptConflicts<'a> {
 
     // Whether the row has both sides of an exclusion. Only members that are left sides are looked at.
     fn break_in(&self, row: ConceptSet) -> bool
-        requires { AreConflicts self.now.exclusions.numbers.now (concept_marks self.now.excluded)
-            self.now.lefts.0 }
+        requires conflicts { AreConflicts self.now.exclusions.numbers.now self.now.among.0
+            (concept_marks self.now.excluded) self.now.lefts.0 }
+        requires part { IsPart row.0 self.now.among.0 }
         ensures { IsTrue result
             ↔ HaveBothSides concept_width self.now.exclusions.numbers.now (has row.0) }
     {
@@ -97,8 +117,10 @@ impl<'a> ConceptConflicts<'a> {
     // Whether the row of some individual does.
     #[tactic(auto, using(crate::proofs::SeekLaws::past_none, crate::proofs::SeekLaws::past_more, crate::proofs::SeekLaws::past_here))]
     fn break_at_individuals(&self, individuals: &[ConceptSet; Individual::NUMBERS]) -> bool
-        requires { AreConflicts self.now.exclusions.numbers.now (concept_marks self.now.excluded)
-            self.now.lefts.0 }
+        requires conflicts { AreConflicts self.now.exclusions.numbers.now self.now.among.0
+            (concept_marks self.now.excluded) self.now.lefts.0 }
+        requires among { AreAmong most_individuals (concept_marks individuals.now)
+            self.now.among.0 }
         ensures { IsTrue result ↔ SomeBelow most_individuals
             (IndividualClashes self.now.exclusions.numbers.now (concept_marks individuals.now)) }
     {
@@ -113,8 +135,10 @@ impl<'a> ConceptConflicts<'a> {
     // Whether an unnamed element that ends by some role of the set does.
     #[tactic(auto, using(crate::proofs::SeekLaws::seek_start, crate::proofs::SeekLaws::seek_end))]
     fn break_at_unnamed(&self, order: &ConceptOrder, generating: RoleSet) -> bool
-        requires { AreConflicts self.now.exclusions.numbers.now (concept_marks self.now.excluded)
-            self.now.lefts.0 }
+        requires conflicts { AreConflicts self.now.exclusions.numbers.now self.now.among.0
+            (concept_marks self.now.excluded) self.now.lefts.0 }
+        requires among { UnnamedAmong (concept_marks order.now.above) generating.0
+            self.now.among.0 }
         ensures { IsTrue result ↔ SomeIn role_width
             (UnnamedClashes self.now.exclusions.numbers.now (concept_marks order.now.above))
             generating.0 }
@@ -129,8 +153,12 @@ impl<'a> ConceptConflicts<'a> {
 
     // Whether some individual, or some unnamed element, does.
     pub(crate) fn contradict(&self, order: &ConceptOrder, elements: &Elements) -> bool
-        requires { AreConflicts self.now.exclusions.numbers.now (concept_marks self.now.excluded)
-            self.now.lefts.0 }
+        requires conflicts { AreConflicts self.now.exclusions.numbers.now self.now.among.0
+            (concept_marks self.now.excluded) self.now.lefts.0 }
+        requires individuals { AreAmong most_individuals (concept_marks elements.now.individuals)
+            self.now.among.0 }
+        requires unnamed { UnnamedAmong (concept_marks order.now.above) elements.now.generating.0
+            self.now.among.0 }
         ensures { IsTrue result ↔ ConceptsClash self.now.exclusions.numbers.now
             (concept_marks elements.now.individuals) (concept_marks order.now.above)
             elements.now.generating.0 }

@@ -11,7 +11,7 @@ mod concepts;
 mod roles;
 pub mod theorems;
 
-use concepts::ConceptConflicts;
+use concepts::{ConceptConflicts, element_concepts};
 use edges::FactEdges;
 use elements::Elements;
 use orders::{ConceptOrder, RoleOrder};
@@ -40,7 +40,8 @@ impl<'a> Exclusions<'a> {
             (concept_marks elements.now.individuals) (concept_marks order.now.above)
             elements.now.generating.0 }
     {
-        ConceptConflicts::new(self.concepts).contradict(order, elements)
+        let among = element_concepts(order, elements);
+        ConceptConflicts::new(self.concepts, among).contradict(order, elements)
     }
 
     /// The roles that an exclusion concerns: to tell of pairs of individuals whether they have both sides of one, edges by these are enough.

@@ -9,7 +9,8 @@ use Rattle.sets.specs.Bits.{Has, IsEmpty, role_width}
 use Rattle.tables.specs.declared.records.RoleFact.{RoleFact}
 use Rattle.tables.specs.Records.{read_role_fact}
 use Rattle.edges.specs.declared.FactEdge.{FactEdge}
-use Rattle.edges.specs.Edges.{facts_read, along, back_along, is_in_range, with_edge, IsInRange, MakesEdge, at_first, at_second, IsFactEdge, HasEdge, edges_of_first, edges_at}
+use Rattle.edges.specs.Edges.{facts_read, along, back_along, is_in_range, with_edge, IsInRange, MakesEdge, at_first, at_second}
+use Rattle.edges.specs.Edges.{IsFactEdge, HasEdge, edges_of_first, edges_at}
 use Rattle.edges.proofs.WithLaws.{with-cases, with-kept, with-put, with_fact-in, with_fact-out}
 
 -- the test of a fact's numbers

@@ -10,13 +10,14 @@ use Rattle.kinds.specs.Kinds.{most_names, base, concept_name, role_name, individ
 use Rattle.laws.specs.Gains.{Either}
 use Rattle.laws.specs.Member.{◌∈◌}
 use Rattle.laws.specs.Numbers.{numbered-in, numbered-out}
+use Rattle.laws.specs.Truth.{test-same}
 use Rattle.meaning.specs.Lent.{records, concept_fact_width, role_fact_width, concept_fact, role_fact}
 use Rattle.tables.specs.declared.records.ConceptFact.{ConceptFact}
 use Rattle.tables.specs.declared.records.RoleFact.{RoleFact}
 use Rattle.sets.specs.Bits.{IsUnion, concept_width}
 use Rattle.sets.specs.Rows.{Adds, concept_marks, no_concepts}
 use Rattle.sets.specs.declared.concepts.ConceptSet.{ConceptSet}
-use Rattle.sets.proofs.RowLaws.{same_test, has_fact, adds_same, adds_then, blank_marks}
+use Rattle.sets.proofs.RowLaws.{has_fact, adds_same, adds_then, blank_marks}
 use Rattle.elements.specs.Concepts.{HasRows, Shown, named, first, second, Concepts}
 use Rattle.elements.specs.Steps.{InRow, ByConcept, ByRole, ConceptListed, RoleListed}
 
@@ -139,7 +140,7 @@ module _ (cf rf : List ℕ) (order : ℕ → ℕ → Bool) where
       (ConceptListed cf order) (RoleListed rf order) s r u v in
       record {
         at = λ i j hi hj.
-            same_test (both.at i j hi hj)
+            test-same (both.at i j hi hj)
             (⊎_elim (λ p. absurd (blank_marks most_individuals i j hi p)) (⊎_elim (concept-in i j) (role-in i j)))
             (λ p. inr (shown-out i j p));
       }

@@ -1,6 +1,7 @@
 -- What the answer means to a caller: of a collection whose numbers are declared, the generating roles are those alive in its canonical
 -- model.
 use Rattle.std.specs.Prelude.{ℕ, ◌+◌, ◌*◌, ◌<◌, ◌≡◌, ◌↔◌, IsTrue, Bool, true}
+use Rattle.laws.specs.Truth.{test-same}
 use native.Mathlib.Omega.{arith}
 use Rattle.kinds.specs.declared.SignedRole.{SignedRole}
 use Rattle.kinds.specs.declared.Concept.{Concept}
@@ -18,7 +19,6 @@ use Rattle.meaning.proofs.Declared.{concept-declared}
 use Rattle.meaning.proofs.ModelLaws.{born}
 use Rattle.theory.specs.Tree.{root, ◌▹◌}
 use Rattle.meaning.specs.Model.{Belongs, bare, grown, individuals, Element}
-use Rattle.sets.proofs.RowLaws.{same_test}
 use Rattle.orders.specs.Rows.{IsConceptOrder}
 use Rattle.orders.proofs.Mean.{role-below, concept-below, all-role-rules, all-concept-rules, concept-marks-mean}
 use Rattle.elements.specs.Concepts.{Shown, named, first, second, Concepts}
@@ -100,7 +100,7 @@ module _ (c : Counts) (t : Tables) (fit : CountsFit c) (ok : NumbersDeclared (co
   -- THEOREM: the set of generating roles has a declared role exactly when some unnamed element of the canonical model ends by it
   pub ends-mean : {m : ℕ → Bool} → AreGenerating concepts order m → (R : SignedRole) → SignedDeclared c R
       → IsTrue (m R.0) ↔ ((x : Element (collection c t)) × Belongs (collection c t) (individuals (collection c t)) (x ▹ R))
-  ends-mean l R h = same_test (l.at R.0 (role-below c t fit ok R h)) (λ p. alive→belongs ((generating-mean R).0 p))
+  ends-mean l R h = test-same (l.at R.0 (role-below c t fit ok R h)) (λ p. alive→belongs ((generating-mean R).0 p))
       (λ w. (generating-mean R).1 (belongs→alive w.0 R w.1))
 
 -- the number of a generating role is in range

@@ -9,8 +9,8 @@ use Rattle.kinds.specs.declared.Concept.TheVariants.{Name, Exists}
 use Rattle.kinds.specs.declared.Counts.{Counts}
 use Rattle.kinds.specs.Kinds.{base, number_of, forward, backward, CountsFit, NameDeclared, RoleDeclared, IndividualDeclared}
 use Rattle.kinds.specs.Kinds.{ConceptDeclared}
-use Rattle.sets.proofs.RowLaws.{same_test}
 use Rattle.laws.specs.Member.{◌∈◌}
+use Rattle.laws.specs.Truth.{test-same}
 use Rattle.meaning.specs.Collection.{NumbersDeclared}
 use Rattle.meaning.specs.Lent.{Tables, collection}
 use Rattle.meaning.specs.Model as model
@@ -74,5 +74,5 @@ module _ (c : Counts) (t : Tables) (fit : CountsFit c) (ok : NumbersDeclared (co
     pub concepts-mean : {r : ℕ → ℕ → Bool} → Concepts t.concept-facts t.role-facts order r → (a : Individual) → IndividualDeclared c a
         → IsTrue (r a.0 (number_of B)) ↔ (IndividualHas (collection c t) a B)
     concepts-mean h a l =
-        same_test (h.at a.0 (number_of B) (omega (arith, fit.individuals)) (concept-below c t fit ok B hB)) (shown→has a)
+        test-same (h.at a.0 (number_of B) (omega (arith, fit.individuals)) (concept-below c t fit ok B hB)) (shown→has a)
         (λ w. typed→shown a w.0 w.1 w.2)

@@ -5,8 +5,8 @@ use Rattle.laws.specs.Truth.{test-once}
 use Rattle.sets.specs.Bits.{has, role_width}
 use Rattle.sets.specs.Rows.{concept_marks, ConceptRows}
 use Rattle.sets.specs.declared.concepts.ConceptSet.{ConceptSet}
-use Rattle.sets.proofs.Once.{concept_rows_once, below-once}
-use Rattle.elements.specs.Concepts.{Concepts}
+use Rattle.sets.proofs.Once.{concept_rows_once, below-once, set-once}
+use Rattle.elements.specs.Concepts.{Concepts, Gathers}
 use Rattle.elements.specs.Generating.{AreGenerating}
 
 -- THEOREM: of two tables and one order there is one set of concepts for each individual
@@ -21,3 +21,7 @@ pub generating-once : {concepts order : ℕ → ℕ → Bool} (m n : ℕ) → Ar
     → AreGenerating concepts order (has n)
     → m < 2 ^ role_width → n < 2 ^ role_width → m ≡ n
 generating-once m n o p hm hn = below-once role_width m n hm hn (λ i hi. test-once (has m i) (has n i) (o.at i hi) (p.at i hi))
+
+-- THEOREM: and one set of all that the rows have
+pub gathered-once : {h : ℕ} {m : ℕ → ℕ → Bool} (n r : ℕ) → Gathers h m n → Gathers h m r → n ≡ r
+gathered-once n r g s = set-once _ n r g.member s.member

@@ -14,7 +14,8 @@ use Rattle.sets.proofs.Laws.{is_union, past}
 use Rattle.sets.proofs.RowLaws.{has_fact}
 use Rattle.elements.specs.Generating.{IsGenerating, AreGenerating}
 use Rattle.elements.specs.Generating as generating_roles
-use Rattle.elements.specs.Steps.{Gathers, AreSeeds, Reached, seed, child, IsReached, ChildRoles}
+use Rattle.elements.specs.Concepts.{Gathers}
+use Rattle.elements.specs.Steps.{AreSeeds, Reached, seed, child, IsReached, ChildRoles}
 
 -- ---- all rows in one
 

@@ -8,6 +8,7 @@ use Rattle.kinds.specs.Kinds.{most_names, most_roles, most_individuals, base, in
 use Rattle.laws.specs.Member.{◌∈◌}
 use Rattle.meaning.specs.Lent.{records, concept_fact_width, role_fact_width, concept_fact, role_fact}
 use Rattle.meaning.specs.Layout.{concept_numbers}
+use Rattle.sets.specs.Bits.{Has}
 
 -- the numbers of a role fact that have a row
 pub record HasRows (r : RoleName) (a b : Individual) : Type 0 where
@@ -29,3 +30,7 @@ pub data Shown (cf rf : List ℕ) (order : ℕ → ℕ → Bool) (a : Individual
 pub record Concepts (cf rf : List ℕ) (order m : ℕ → ℕ → Bool) : Type 0 where
   pub at : (a B : ℕ) → a < most_individuals → B < concept_numbers
       → IsTrue (m a B) ↔ Shown cf rf order (individual a) B
+
+-- j is in the set n exactly when some number below h is related to it
+pub record Gathers (h : ℕ) (m : ℕ → ℕ → Bool) (n : ℕ) : Type 0 where
+  pub member : (j : ℕ) → Has n j ↔ ((i : ℕ) × (i < h) × IsTrue (m i j))

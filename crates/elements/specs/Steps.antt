@@ -39,10 +39,6 @@ ConceptListed t order = OneOf (ConceptHit t order) (length t / concept_fact_widt
 abbrev pub RoleListed : List ℕ → (ℕ → ℕ → Bool) → ℕ → ℕ → Type 0
 RoleListed t order = OneOf (RoleHit t order) (length t / role_fact_width)
 
--- j is in the set n exactly when some number below h is related to it
-pub record Gathers (h : ℕ) (m : ℕ → ℕ → Bool) (n : ℕ) : Type 0 where
-  pub member : (j : ℕ) → Has n j ↔ ((i : ℕ) × (i < h) × IsTrue (m i j))
-
 -- the set n has the roles R where some individual has ∃R
 pub record AreSeeds (concepts : ℕ → ℕ → Bool) (n : ℕ) : Type 0 where
   pub member : (R : ℕ) → Has n R

@@ -4,7 +4,8 @@ ghost use Rattle.std.specs.Prelude.{◌<◌};
 ghost use Rattle.kinds.specs.Kinds.{most_individuals};
 ghost use Rattle.sets.specs.Bits.{role_width};
 ghost use Rattle.sets.specs.Rows.{concept_marks};
-ghost use Rattle.elements.specs.Steps.{Gathers, AreSeeds, IsReached, ChildRoles};
+ghost use Rattle.elements.specs.Concepts.{Gathers};
+ghost use Rattle.elements.specs.Steps.{AreSeeds, IsReached, ChildRoles};
 
 use kinds::{Individual, SignedRole};
 use orders::ConceptOrder;
@@ -12,7 +13,7 @@ use sets::{ConceptSet, RoleSet};
 
 // The concepts that some individual has.
 #[tactic(auto, using(crate::proofs::ReachLaws::gathers_none, crate::proofs::ReachLaws::gathers_more))]
-fn gathered(rows: &[ConceptSet; Individual::NUMBERS]) -> ConceptSet
+pub fn gathered(rows: &[ConceptSet; Individual::NUMBERS]) -> ConceptSet
     ensures { Gathers most_individuals (concept_marks rows.now) result.0 }
 {
     let mut all = ConceptSet::EMPTY;

@@ -2,12 +2,12 @@
 ghost use Rattle.std.specs.Prelude.{ℕ, ◌^◌, ◌<◌, List, Bool};
 ghost use Rattle.kinds.specs.declared.Counts.{Counts};
 ghost use Rattle.kinds.specs.Kinds.{most_individuals};
-ghost use Rattle.laws.specs.Once.{AtMostOneOf};
+ghost use Rattle.laws.specs.Once.{AtMostOne, AtMostOneOf};
 ghost use Rattle.meaning.specs.Collection.{WellFormed};
 ghost use Rattle.meaning.specs.Lent.{Tables, collection};
 ghost use Rattle.sets.specs.Bits.{has, role_width};
 ghost use Rattle.sets.specs.Rows.{ConceptRows, concept_marks};
-ghost use Rattle.elements.specs.Concepts.{Concepts};
+ghost use Rattle.elements.specs.Concepts.{Concepts, Gathers};
 ghost use Rattle.elements.specs.Generating.{AreGenerating};
 ghost use Rattle.elements.specs.Meant.{ConceptsMean, IsGeneratingMean, GeneratingMean};
 
@@ -18,6 +18,7 @@ pub fn unique()
         (λ rows. Concepts names roles order (concept_marks rows)) }
     ensures one_generating { (concepts order : ℕ → ℕ → Bool)
         → AtMostOneOf (λ set. set < 2 ^ role_width) (λ set. AreGenerating concepts order (has set)) }
+    ensures one_gathered { (h : ℕ) (m : ℕ → ℕ → Bool) → AtMostOne (Gathers h m) }
 {}
 
 /// Of a collection whose numbers are declared, it is what its canonical model has.

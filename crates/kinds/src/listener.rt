@@ -4,12 +4,12 @@ ghost use Rattle.std.specs.Prelude.{ℕ, OnOk, IfErr, ⊤};
 use crate::{MarkCount, Rounds};
 use std::convert::Infallible;
 
-// Who is told how many marks each round made, as the rounds are worked.
+// Who is told how many marks each round added, as the rounds are worked.
 pub trait RoundListener {
     // Why it could not be told.
     type Error;
 
-    // Told that a round, counted from 1, made so many marks, it goes from one to another.
+    // Told of a round, counted from 1, and of the number of marks that it added, it goes from one to another.
     ghost hears: { Self → ℕ → ℕ → Self → Type 0 };
 
     // The errors that it may give when it is told so, and what it then goes to.

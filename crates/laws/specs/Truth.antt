@@ -1,5 +1,5 @@
 -- A test that computes, and the fact that it is true for: of two facts, of a fact about every element of a list, of orders and equalities.
-use Rattle.std.specs.Prelude.{◌≡◌, ◌↔◌, ◌⊎◌, ◌&&◌, ◌||◌, refl, Bool, true, false, not, List, ℕ, ◌≤◌, ◌<◌, T, IsTrue, leb, ltb, nat_eq}
+use Rattle.std.specs.Prelude.{◌≡◌, ◌↔◌, ◌⊎◌, ◌&&◌, ◌||◌, refl, Bool, true, false, List, ℕ, ◌≤◌, ◌<◌, T, IsTrue, leb, ltb, nat_eq}
 use Rattle.std.proofs.Common.{sym, inl, inr, ⊎_elim, lt-ltb, ltb-true, le-leb, leb-true, eq-eqb, eqb-true}
 use Rattle.std.proofs.lemmas.Bool.{false≢true}
 use Rattle.laws.specs.Member.{◌∈◌}
@@ -94,10 +94,3 @@ test-equals eq h x y = test-of (eq x y) (h.is x y) (λ e. rw e (h.self y))
 
 pub test-listed : {A : Type 0} (eq : A → A → Bool) → Same eq → (l : List A) (x : A) → IsTrue (any l (eq x)) ↔ (x ∈ l)
 test-listed eq h l x = test-of (any l (eq x)) (listed-out eq h l x) (listed_in eq h l x)
-
-pub test-not : {b : Bool} {P : Type 0} → IsTrue b ↔ P → IsTrue (not b) ↔ (P → ⊥)
-test-not {b} {P} h = side b h
-  where
-    side : (x : Bool) → IsTrue x ↔ P → IsTrue (not x) ↔ (P → ⊥)
-    side true g = (λ e. absurd (false≢true e), λ p. absurd (p (g.0 refl)))
-    side false g = (λ e p. false≢true (g.1 p), λ p. refl)

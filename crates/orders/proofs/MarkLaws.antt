@@ -11,8 +11,8 @@ use Rattle.std.proofs.lemmas.List.{length-replicate, get_or-replicate}
 use Rattle.laws.specs.Rows.{rows_long}
 use Rattle.laws.specs.Marks.{mark}
 use Rattle.laws.specs.Gains.{Either}
+use Rattle.laws.specs.Truth.{test-same}
 use Rattle.sets.specs.Rows.{Adds}
-use Rattle.sets.proofs.RowLaws.{same_test}
 use Rattle.orders.specs.Marks.{Shows, Square, Pair}
 
 module _ (n : ℕ) (m : ℕ → ℕ → Bool) where
@@ -21,7 +21,7 @@ module _ (n : ℕ) (m : ℕ → ℕ → Bool) where
   adds_shows E F r s a =
       record {
         at = λ i j hi hj.
-            same_test (a.at i j hi hj) (⊎_elim (λ p. inl ((s.at i j hi hj).0 p)) (λ p. inr p))
+            test-same (a.at i j hi hj) (⊎_elim (λ p. inl ((s.at i j hi hj).0 p)) (λ p. inr p))
             (⊎_elim (λ p. inl ((s.at i j hi hj).1 p)) (λ p. inr p));
       }
 
@@ -31,7 +31,7 @@ blank n = replicate n (replicate n false)
 
 pub blank_shows : (n : ℕ) (E : ℕ → ℕ → Type 0) (r : List (List Bool)) → Adds n n (mark (blank n)) E (mark r) → Shows n (mark r) E
 blank_shows n E r a = record {
-  at = λ i j hi hj. same_test (a.at i j hi hj)
+  at = λ i j hi hj. test-same (a.at i j hi hj)
       (⊎_elim (λ p. absurd (false≢true (sym (off i j hi hj) ∙ p))) (λ p. p)) (λ p. inr p);
 }
   where

@@ -1,5 +1,5 @@
--- Rows of sets as relations: a member put into a row, a row joined with another, one step of closing, transposing and packing.
-use Rattle.std.specs.Prelude.{ℕ, ◌≡◌, ◌≢◌, refl, ◌+◌, ◌-◌, ◌≤◌, ◌<◌, ◌↔◌, ◌⊎◌, ◌||◌, ◌&&◌, IsTrue, List, [], Bool, true, false, length}
+-- Rows of sets as relations: a member put into a row, a row joined with another, one step of closing, and packing.
+use Rattle.std.specs.Prelude.{ℕ, ◌≡◌, refl, ◌+◌, ◌-◌, ◌≤◌, ◌<◌, ◌↔◌, ◌⊎◌, ◌||◌, ◌&&◌, IsTrue, List, [], Bool, true, false, length}
 use Rattle.std.specs.Prelude.{get_or, set, replicate}
 use Rattle.std.proofs.Common.{sym, ◌∙◌, inl, inr, ⊎_elim, arith, rules, below_more, length-set, get_or-set_same, get_or-set_other}
 use Rattle.std.proofs.Math.Decide.{ℕ_discrete}
@@ -10,13 +10,14 @@ use Rattle.kinds.specs.Kinds.{number_of, concept_of, number-concept, base}
 use Rattle.laws.specs.Warshall.{Stepped, Done, none_done, step-done, Closes, closes}
 use Rattle.laws.specs.Fill.{Filling, one_more, all_done}
 use Rattle.laws.specs.Marks.{mark}
-use Rattle.sets.specs.Bits.{has, Has, Inserts, InsertsIf, IsUnion, IsRaised, TakesFirst, concept_width, role_width}
+use Rattle.laws.specs.Truth.{test-same}
+use Rattle.sets.specs.Bits.{has, Has, Inserts, InsertsIf, IsUnion, IsRaised, concept_width, role_width}
 use Rattle.sets.specs.Rows.{Adds, concept_marks, role_marks, no_concepts, no_roles}
 use Rattle.sets.specs.declared.concepts.ConceptSet.{ConceptSet}
 use Rattle.sets.specs.declared.roles.RoleSet.{RoleSet}
-use Rattle.orders.specs.Rows.{IsRoleOrder, IsTransposed}
+use Rattle.orders.specs.Rows.{IsRoleOrder}
 use Rattle.orders.specs.Marks.{Pair, Diagonal, Shows, Wide, Packs, PacksRows}
-use Rattle.sets.proofs.RowLaws.{same_test, has_fact}
+use Rattle.sets.proofs.RowLaws.{has_fact}
 
 -- the concept that is read from a number has that number
 pub read_number : (C : Concept) (n : ℕ) → C ≡ concept_of n → number_of C ≡ n
@@ -116,88 +117,6 @@ pub closing_end : (m₀ m : ℕ → ℕ → Bool) (k : ℕ) → Done concept_wid
     → Closes concept_width m₀ m
 closing_end m₀ m k d l h = closes concept_width m₀ m k l h d
 
--- ---- transposing
-
--- the rows below i are transposed
-pub record Below (rows out : List ConceptSet) (i : ℕ) : Type 0 where
-  pub long : length out ≡ concept_width
-  pub at : (j k : ℕ) → j < concept_width → k < concept_width → IsTrue (concept_marks out j k) ↔ ((k < i) × (concept_marks rows k j ≡ true))
-
--- and of row i all but the members of n
-pub record Partly (rows out : List ConceptSet) (i n : ℕ) : Type 0 where
-  pub long : length out ≡ concept_width
-  pub at : (j k : ℕ) → j < concept_width → k < concept_width
-      → IsTrue (concept_marks out j k) ↔
-      (((k < i) × (concept_marks rows k j ≡ true)) ⊎ ((k ≡ i) × (concept_marks rows i j ≡ true) × (Has n j → ⊥)))
-  pub left : (j : ℕ) → Has n j → concept_marks rows i j ≡ true
-
-module _ (rows out : List ConceptSet) (i : ℕ) where
-  pub partly_start : Below rows out i → (n : ℕ) → n ≡ (get_or rows i none).0 → Partly rows out i n
-  partly_start b n e =
-      record {
-        long = b.long;
-        at = λ j k hj hk.
-            same_test (b.at j k hj hk) (λ p. inl p)
-            (⊎_elim (λ p. p) (λ p. let f = (has_fact (get_or rows i none).0 j).0 p.1 in absurd (p.2 (rw e f))));
-        left = λ j p. (has_fact (get_or rows i none).0 j).1 (rw e at p);
-      }
-
-  pub partly_more : (n r d : ℕ) (x : ConceptSet) → Partly rows out i n → TakesFirst concept_width n d r → i < concept_width
-      → Inserts concept_width (get_or out d none).0 i x.0 → Partly rows (set out d x) i r
-  partly_more n r d x b t hi s =
-      let l = t.within in
-      let g = b.long in
-      let a = stored out d i x (omega arith) hi s in
-      record {
-        long = length-set out d x ∙ b.long;
-        at = λ j k hj hk.
-            let o = b.at j k hj hk in
-            let m = t.rest.member j in
-            same_test (a.at j k hj hk)
-            (⊎_elim (λ p. ⊎_elim (λ q. inl q) (λ q. inr (q.0, q.1, λ x. q.2 ((m.0 x).0))) (o.0 p))
-            (λ p. inr (p.1, rw p.0 (b.left d t.member), λ x. (m.0 x).1 p.0)))
-            (⊎_elim (λ p. inl (o.1 (inl p)))
-            (λ p. side (ℕ_discrete j d) p.0 (λ ne. o.1 (inr (p.0, p.1, λ x. p.2 (m.1 (x, ne)))))));
-        left = λ j p. b.left j ((t.rest.member j).0 p).0;
-      }
-    where
-      side : {j k : ℕ} {Q : Type 0} → Dec (j ≡ d) → k ≡ i → (j ≢ d → Q) → Q ⊎ Pair d i j k
-      side (yes e) f more = inr (e, f)
-      side (no ne) f more = inl (more ne)
-
-  pub partly_end : (n : ℕ) → Partly rows out i n → ((j : ℕ) → Has n j → ⊥) → Below rows out (i + 1)
-  partly_end n b h =
-      record {
-        long = b.long;
-        at = λ j k hj hk.
-            same_test (b.at j k hj hk) (⊎_elim (λ p. (let l = p.0 in omega arith, p.1)) (λ p. (let e = p.0 in omega arith, rw p.0 p.1)))
-            (λ p. side j k p.0 p.1 (ℕ_discrete k i));
-      }
-    where
-      side : (j k : ℕ) → k < i + 1 → concept_marks rows k j ≡ true → Dec (k ≡ i)
-          → ((k < i) × (concept_marks rows k j ≡ true)) ⊎ ((k ≡ i) × (concept_marks rows i j ≡ true) × (Has n j → ⊥))
-      side j k l p (yes e) = inr (e, rw e at p, h j)
-      side j k l p (no ne) = inl (omega arith, p)
-
-pub below_start : (rows : List ConceptSet) → Below rows (replicate concept_width none) 0
-below_start rows =
-    record {
-      long = length-replicate concept_width none;
-      at = λ j k hj hk.
-          rw (get_or-replicate concept_width j none none hj)
-          (let z = bit_at-zero k in (λ p. let q = (has_fact 0 k).0 p in absurd (omega arith), λ p. let l = p.0 in absurd (omega arith)));
-    }
-
-pub below_end : (rows out : List ConceptSet) (i : ℕ) → Below rows out i → concept_width ≤ i
-    → IsTransposed concept_width (concept_marks rows) (concept_marks out)
-below_end rows out i b h = record { at = λ j k hj hk. same (concept_marks out j k) (concept_marks rows k j) (b.at j k hj hk) (omega arith) }
-  where
-    same : (x y : Bool) {k : ℕ} → IsTrue x ↔ ((k < i) × (y ≡ true)) → k < i → x ≡ y
-    same true true e l = refl
-    same true false e l = sym ((e.0 refl).1)
-    same false true e l = e.1 (l, refl)
-    same false false e l = refl
-
 -- ---- the roles' marks among those of the concepts
 
 -- the rows below i are widened
@@ -233,11 +152,11 @@ module _ (roles : List RoleSet) where
           (λ p. let q = m.0 (y.0 p) in (omega arith, (l, q.0, z.1 q.1)), λ p. y.1 (m.1 (p.1.1, z.0 p.1.2))))
       by a j ha hj (no ne) =
           rw (get_or-set_other out i a x none ne)
-          (same_test (w.at a j ha hj) (λ p. (let k = p.0 in omega arith, p.1)) (λ p. (let k = p.0 in omega arith, p.1)))
+          (test-same (w.at a j ha hj) (λ p. (let k = p.0 in omega arith, p.1)) (λ p. (let k = p.0 in omega arith, p.1)))
 
   pub widened_end : (out : List ConceptSet) (i : ℕ) → Widened roles out i → concept_width ≤ i
       → Shows concept_width (concept_marks out) (Wide (role_marks roles))
-  widened_end out i w h = record { at = λ a j ha hj. same_test (w.at a j ha hj) (λ p. p.1) (λ p. (omega arith, p)) }
+  widened_end out i w h = record { at = λ a j ha hj. test-same (w.at a j ha hj) (λ p. p.1) (λ p. (omega arith, p)) }
 
 -- ---- packing
 

@@ -5,7 +5,7 @@ use Rattle.meaning.specs.Lent.{field, rule_width}
 use Rattle.laws.specs.Marks.{mark}
 use Rattle.laws.specs.Gains.{OneOf, Either}
 use Rattle.laws.specs.Warshall.{Star}
-use Rattle.sets.specs.Bits.{has, concept_width, role_width}
+use Rattle.sets.specs.Bits.{has, Has, concept_width, role_width}
 use Rattle.sets.specs.Rows.{role_marks}
 use Rattle.sets.specs.declared.roles.RoleSet.{RoleSet}
 
@@ -64,6 +64,19 @@ pub record Shows (n : ℕ) (m : ℕ → ℕ → Bool) (E : ℕ → ℕ → Type 
 pub record OrRow (n : ℕ) (a b r : List Bool) : Type 0 where
   pub at : (j : ℕ) → j < n
       → slice_index_or r j false ≡ (slice_index_or a j false || slice_index_or b j false)
+
+-- each member of the set n, with each number that has P
+abbrev pub Block : ℕ → (ℕ → Type 0) → ℕ → ℕ → Type 0
+Block n P i j = Has n i × P j
+
+-- of row i the members of rest are left; the others are in the shared set, and then i is one of the
+-- holders, each of which has all of that set in its row
+pub record LeavesRow (shared i row old rest new : ℕ) : Type 0 where
+  pub kept : (k : ℕ) → Has old k → Has new k
+  pub holds : (k : ℕ) → Has new k
+      → Has old k ⊎ ((k ≡ i) × ((j : ℕ) → Has shared j → Has row j))
+  pub part : (j : ℕ) → Has rest j → Has row j
+  pub all : (j : ℕ) → Has row j → Has rest j ⊎ (Has shared j × Has new i)
 
 -- n rows of n
 pub record Square (n : ℕ) (m : List (List Bool)) : Type 0 where

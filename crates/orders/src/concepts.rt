@@ -9,6 +9,7 @@ ghost use Rattle.orders.specs.Rows.{IsRoleOrder, IsConceptOrder, IsTransposed};
 ghost use Rattle.orders.specs.Marks.{Shows, Pair, Diagonal, Listed, Wide, IsClosedOver};
 
 use crate::roles::RoleOrder;
+use crate::transposed::transposed;
 use kinds::{Concept, SignedRole};
 use sets::{ConceptSet, RoleSet};
 use tables::{ConceptPair, Table};
@@ -126,18 +127,10 @@ impl ConceptOrder {
     }
 
     /// For each concept those below it. No contradiction needs them.
-    #[tactic(auto, using(crate::proofs::RowLaws::read_number, crate::proofs::RowLaws::below_end, crate::proofs::RowLaws::partly_start, crate::proofs::RowLaws::partly_end))]
     pub fn transposed(&self) -> ConceptRelation
         ensures { IsTransposed concept_width (concept_marks self.now.above)
             (concept_marks result) }
     {
-        let mut out = [ConceptSet::EMPTY; Concept::NUMBERS];
-        for (i, row) in self.above.iter().enumerate() {
-            let below = Concept::read(i as u16);
-            for above in row.iter() {
-                out[above.number()].insert(below);
-            }
-        }
-        out
+        transposed(&self.above)
     }
 }

@@ -4,6 +4,7 @@
 mod concepts;
 mod roles;
 pub mod theorems;
+mod transposed;
 
 pub use concepts::{ConceptOrder, ConceptRelation, mark_pairs};
 pub use roles::RoleOrder;

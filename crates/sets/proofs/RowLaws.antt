@@ -7,7 +7,6 @@ use Rattle.std.proofs.lemmas.List.{get_or-replicate}
 use Rattle.laws.specs.Gains.{Either, OneOf}
 use Rattle.laws.specs.Loops.{nothing_added, add_same, add_then}
 use Rattle.laws.specs.Truth.{test-false, test-fails}
-pub use Rattle.laws.specs.Truth.{test-same as same_test}
 use Rattle.sets.specs.Bits.{has, Has}
 use Rattle.sets.specs.Rows.{Adds, concept_marks, no_concepts}
 

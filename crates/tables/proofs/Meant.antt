@@ -5,7 +5,8 @@ use Rattle.kinds.specs.declared.Counts.{Counts}
 use Rattle.kinds.specs.Kinds.{StateDeclared}
 use Rattle.laws.specs.Numbers.{numbered-in, numbered-out}
 use Rattle.meaning.specs.Collection.{Each, ConceptsDeclared, RolesDeclared, ConceptFactDeclared, RoleFactDeclared, StepDeclared}
-use Rattle.meaning.specs.Lent.{records, field, rule_width, concept_fact_width, role_fact_width, step_width, final_width, concept_pair, role_pair, concept_fact, role_fact, letter_of, step_at, final_at, NumbersFit}
+use Rattle.meaning.specs.Lent.{records, field, rule_width, concept_fact_width, role_fact_width, step_width, final_width}
+use Rattle.meaning.specs.Lent.{concept_pair, role_pair, concept_fact, role_fact, letter_of, step_at, final_at, NumbersFit}
 use Rattle.tables.specs.declared.collection.Collection.{Collection}
 use Rattle.tables.specs.Every.{EachRecord}
 use Rattle.tables.specs.Letters.{read_letter, IsLetterDeclared}

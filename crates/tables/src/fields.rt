@@ -1,7 +1,7 @@
 // How a record is read from the numbers of its table. Only this crate can name it, and only a `Table` reads by it.
 ghost use Rattle.std.specs.Prelude.{◌≡◌, ◌<◌, ◌/◌, ℕ, List, length};
 
-// So many numbers, the fields in the order of docs/RULES.md (section 3).
+// A kind of record: `WIDTH` numbers, the fields in the order of docs/RULES.md (section 3).
 pub trait Fields: Sized {
     ghost WIDTH: { ℕ };
 

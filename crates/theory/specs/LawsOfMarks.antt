@@ -20,7 +20,8 @@ module _ (𝓚 : Kind) where
   abbrev pub most : ℕ
   most = length 𝓚.concepts * length 𝓚.states * (length 𝓚.states - 1)
 
-  -- one number of marks stands, a round adds one, and so the counts are one row
+  -- the sheet after n rounds has one number of marks, the round after them adds one number, and so
+  -- the counts of rounds 1 to n are one row
   abbrev pub StandsOnce : Type 0
   StandsOnce = (n : ℕ) → AtMostOne (Stands 𝓚 n)
 

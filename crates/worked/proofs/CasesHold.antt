@@ -245,6 +245,7 @@ module _ (area spare : List ℕ) (long : length area ≡ area_length) (long' : l
       }
 
   -- THEOREM: the cases worked on paper: for any two areas of the right length, whatever they hold, each row's call has the
-  -- outcome that the row says: its number, its count, and so many marks in the first area; and each round added so many
+  -- outcome that the row says: the answer has the row's number and count, in the first area stand as many marks as the row
+  -- says, and each round added as many as it says
   pub cases-hold : (k : Case) → k ∈ cases → Says area spare k
   cases-hold k m = says k (every-out cases holds (rw table-computes tt) m)

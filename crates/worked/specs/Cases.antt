@@ -188,7 +188,8 @@ cases =
     ∷ row (declares 2 2 2 1 0) (holding [] [] [] [] [] [] [] (0 ∷ [])) (from 1) 64 1 0 6 []
     ∷ []
 
--- after 0, 1 and 3 the rounds needed or allowed added so many marks each; after all else none is told
+-- after 0, 1 and 3 each of the rounds needed or allowed added the number of marks that stands here
+-- for it; after all else none is told
 abbrev pub RoundsAdd : Collection → Answer → List ℕ → Type 0
 RoundsAdd 𝓒 (No rounds) added = RoundCounts (lite 𝓒) rounds added
 RoundsAdd 𝓒 (Yes rounds) added = RoundCounts (lite 𝓒) rounds added
@@ -207,7 +208,8 @@ module _ (area spare : List ℕ) where
     spare = spare;
   }
 
-  -- after 0, 1 and 3 so many marks stand in the first area; after all else it is as it was lent
+  -- after 0, 1 and 3 as many marks stand in the first area as are given; after all else it is as it
+  -- was lent
   abbrev pub MarksStand : Answer → List ℕ → ℕ → Type 0
   MarksStand (No rounds) x m = Standing x m
   MarksStand (Yes rounds) x m = Standing x m

@@ -5,7 +5,8 @@ use Rattle.meaning.specs.Layout.{area_length}
 use Rattle.worked.specs.Cases.{Case, cases, Says}
 
 -- the cases worked on paper: whatever two areas of the right length hold, each row's call has the
--- outcome that the row says: its number, its count, and so many marks in the first area
+-- outcome that the row says: the answer has the row's number and count, and in the first area stand
+-- as many marks as the row says
 abbrev pub CasesHold : Type 0
 CasesHold = (area spare : List ℕ) → length area ≡ area_length → length spare ≡ area_length
     → (k : Case) → k ∈ cases → Says area spare k

@@ -1,6 +1,6 @@
 -- `gathered`: the set has what the rows below a have.
 use Rattle.sets.specs.Rows.{concept_marks}
-use Rattle.elements.specs.Steps.{Gathers}
+use Rattle.elements.specs.Concepts.{Gathers}
 use Rattle.elements.proofs.generating.gathered.Given as goal
 
 abbrev pub invariant-loop-row : goal.invariant-loop-row

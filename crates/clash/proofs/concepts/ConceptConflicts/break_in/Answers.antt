@@ -4,4 +4,4 @@ use Rattle.clash.proofs.ConceptLaws.{row_broken}
 use Rattle.clash.proofs.concepts.ConceptConflicts.break_in.Goals as goal
 
 pub returns : goal.returns
-returns c = row_broken _ _ _ _ _ _ c.requires c.intersection.ensures (search rules) c.some_meets.ensures
+returns c = row_broken _ _ _ _ _ _ _ c.requires.conflicts c.requires.part c.intersection.ensures (search rules) c.some_meets.ensures

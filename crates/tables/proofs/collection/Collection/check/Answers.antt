@@ -15,10 +15,12 @@ returns-then-not-tables_fit c =
 
 pub returns-then-not-records_fit : goal.returns-then-not-records_fit
 returns-then-not-records_fit c =
-    let w = no-number _ _ _ (c.fit.ensures.0 c.if-not-fit.false) (c.tables_fit.ensures.0 c.if-not-tables_fit.false) (λ h. fails c.records_fit.ensures c.if-not-records_fit.true ((numbers-meant c.args.self.now).1 h)) in
+    let w = no-number _ _ _ (c.fit.ensures.0 c.if-not-fit.false) (c.tables_fit.ensures.0 c.if-not-tables_fit.false)
+    (λ h. fails c.records_fit.ensures c.if-not-records_fit.true ((numbers-meant c.args.self.now).1 h)) in
     record { ok = w.ok; bad_count = w.bad_count; bad_table = w.bad_table; bad_number = w.bad_number }
 
 pub returns : goal.returns
 returns c =
-    let w = passed _ _ _ (c.fit.ensures.0 c.if-not-fit.false) (c.tables_fit.ensures.0 c.if-not-tables_fit.false) ((numbers-meant c.args.self.now).0 (c.records_fit.ensures.0 c.if-not-records_fit.false)) in
+    let w = passed _ _ _ (c.fit.ensures.0 c.if-not-fit.false) (c.tables_fit.ensures.0 c.if-not-tables_fit.false)
+    ((numbers-meant c.args.self.now).0 (c.records_fit.ensures.0 c.if-not-records_fit.false)) in
     record { ok = w.ok; bad_count = w.bad_count; bad_table = w.bad_table; bad_number = w.bad_number }
