@@ -1,5 +1,5 @@
 -- The members of a set, as a list.
-use Rattle.std.specs.Prelude.{◌≡◌, refl, Bool, true, false, ◌∷◌, ℕ, zero, suc, ◌+◌, ◌<◌, ◌≤◌, filter, cond}
+use Rattle.std.specs.Prelude.{◌≡◌, refl, Bool, true, false, ℕ, zero, suc, ◌+◌, ◌<◌, ◌≤◌, filter}
 use Rattle.std.specs.List.{range_with_len}
 use Rattle.std.proofs.Common.{sym, inl, inr, ⊎_elim, arith}
 use Rattle.std.proofs.Math.Decide.{ℕ_discrete}

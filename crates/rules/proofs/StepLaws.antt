@@ -1,5 +1,5 @@
 -- A step as a collection has it, and one step more among those of a table.
-use Rattle.std.specs.Prelude.{◌≡◌, refl, ◌⊎◌, List, ℕ, zero, suc, ◌+◌, ◌/◌, ◌<◌, ◌≤◌, length}
+use Rattle.std.specs.Prelude.{◌≡◌, refl, ◌⊎◌, List, ℕ, zero, suc, ◌+◌, ◌/◌, ◌≤◌, length}
 use Rattle.std.proofs.Common.{inl, inr, ◌∙◌, sym, arith, Bor}
 use Rattle.std.proofs.Math.Decide.{ℕ_discrete}
 use Rattle.laws.specs.Numbers.{numbered, numbered-in, numbered-out}

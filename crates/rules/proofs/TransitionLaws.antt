@@ -54,26 +54,32 @@ steps_more f k one e a b =
 
 -- ---- the transitions
 
-no_relation : (m n S s t : ℕ) → Relates (relation_at (replicate m (replicate n no_states)) S) s t → ⊥
-no_relation zero n S s t h = none_has t h
-no_relation (suc m) n zero s t h = none_has t (rw (filled_with no_states n s) at h)
-no_relation (suc m) n (suc S) s t h = no_relation m n S s t h
+pub no_rows : (n s t : ℕ) → Relates (replicate n no_states) s t → ⊥
+no_rows n s t h = none_has t (rw (filled_with no_states n s) at h)
+
+no_relation : (m : ℕ) (nowhere : List StateSet) → ((s t : ℕ) → Relates nowhere s t → ⊥) → (S s t : ℕ)
+    → Relates (relation_at (replicate m nowhere) S) s t
+    → ⊥
+no_relation zero nowhere none S s t h = none_has t h
+no_relation (suc m) nowhere none zero s t h = none s t h
+no_relation (suc m) nowhere none (suc S) s t h = no_relation m nowhere none S s t h
 
 pub joined_is : (own : List (List StateSet)) (roles n : ℕ) (way : List StateSet) → Gains (ByOne own roles) (replicate n no_states) way
     → IsJoined own roles way
-joined_is own roles n way g = record { at = λ s t. add_first (λ x. none_has t (rw (filled_with no_states n s) at x)) (g.at s t) }
+joined_is own roles n way g = record { at = λ s t. add_first (no_rows n s t) (g.at s t) }
 
 abbrev pub JoinedOf : List (List StateSet) → List RoleSet → ℕ → List StateSet → Type 0
 JoinedOf own above R way = IsJoined own (get_or above R no_roles).0 way
 
 -- THEOREM: so they are the transitions of the steps
-pub transitions_are : (steps : List Step) (above : List RoleSet) (m n : ℕ) (own transitions : List (List StateSet))
-    → GainsEach (StepBy (Among steps)) (replicate m (replicate n no_states)) own
+pub transitions_are : (steps : List Step) (above : List RoleSet) (m : ℕ) (nowhere : List StateSet)
+    (own transitions : List (List StateSet))
+    → ((s t : ℕ) → Relates nowhere s t → ⊥) → GainsEach (StepBy (Among steps)) (replicate m nowhere) own
     → ((R : ℕ) → R < most_edges → JoinedOf own above R (relation_at transitions R)) → AreTransitions steps above transitions
-transitions_are steps above m n own transitions o w = record { at = λ R s t h. (to R s t h, from R s t h) }
+transitions_are steps above m nowhere own transitions none o w = record { at = λ R s t h. (to R s t h, from R s t h) }
   where
     is : (S s t : ℕ) → Relates (relation_at own S) s t ↔ StepBy (Among steps) S s t
-    is S s t = add_first (no_relation m n S s t) (o.at S s t)
+    is S s t = add_first (no_relation m nowhere none S s t) (o.at S s t)
 
     to : (R s t : ℕ) → R < most_edges → Relates (relation_at transitions R) s t → Transition steps above R s t
     to R s t h x = let y = ((w R h).at s t).0 x in record { by = y.number; leads = (is y.number s t).0 y.holds.leads; follows = y.of }

@@ -79,7 +79,8 @@ puts k n bytes old e h = record { long = long; within = within; before = before 
         sym x ∙ rw front (y ∙ get_or-take k old i 0 l)
 
 pub going_more : (sheet : List ConceptSet) (area bytes : List ℕ) (q n : ℕ) → Going sheet area q → q < most_states * most_states
-    → IsBytesOf most_concepts (get_or sheet q no_concepts).0 bytes → n ≡ row_bytes → Going sheet (put_mid (row_bytes * q) n area bytes) (q + 1)
+    → IsBytesOf most_concepts (get_or sheet q no_concepts).0 bytes → n ≡ row_bytes
+    → Going sheet (put_mid (row_bytes * q) n area bytes) (q + 1)
 going_more sheet area bytes q n g h b e = record {
   long = w.long ∙ g.long;
   bytes = λ i h. byte i h (dec_lt i (row_bytes * q));
@@ -98,7 +99,8 @@ going_more sheet area bytes q n g h b e = record {
         let s : row_bytes * q + (i - row_bytes * q) ≡ i = omega arith in
         rw (rw s at (w.within (i - row_bytes * q) (omega (arith, b.long)))) (b.small (i - row_bytes * q))
 
-    mark : (p : ℕ) → p < most_concepts * (q + 1) → Dec (p < most_concepts * q) → (bit_in next p ≡ 1) ↔ At sheet (p / most_concepts) (p % most_concepts)
+    mark : (p : ℕ) → p < most_concepts * (q + 1) → Dec (p < most_concepts * q)
+        → (bit_in next p ≡ 1) ↔ At sheet (p / most_concepts) (p % most_concepts)
     mark p h (yes k) = rw (w.before (p / byte_bits) (omega arith)) (g.marks p k)
     mark p h (no k) =
         let d : p / most_concepts ≡ q = omega arith in
@@ -109,7 +111,11 @@ going_more sheet area bytes q n g h b e = record {
         rw (d, f) v
 
 pub going_end : (sheet : List ConceptSet) (area : List ℕ) (q : ℕ) → most_states * most_states ≤ q → Going sheet area q → LaysRows sheet area
-going_end sheet area q h g = record { long = g.long; bytes = λ i. byte i (dec_lt i area_length); marks = λ p. (to p (dec_lt p place_count), λ w. (g.marks p (omega (arith, w.0))).1 w.1) }
+going_end sheet area q h g = record {
+  long = g.long;
+  bytes = λ i. byte i (dec_lt i area_length);
+  marks = λ p. (to p (dec_lt p place_count), λ w. (g.marks p (omega (arith, w.0))).1 w.1);
+}
   where
     byte : (i : ℕ) → Dec (i < area_length) → get_or area i 0 < 2 ^ byte_bits
     byte i (yes l) = g.bytes i (omega arith)
@@ -121,7 +127,8 @@ going_end sheet area q h g = record { long = g.long; bytes = λ i. byte i (dec_l
 
 -- LAW: where rows hold the marks of f, the area has 1 at the place of each and at no other
 pub lays_marks : (f : ℕ → ℕ → ℕ → Type 0) (sheet : List ConceptSet) (area : List ℕ)
-    → ((s t B : ℕ) → f s t B → (s < most_states) × (t < most_states) × (B < most_concepts)) → Holds f sheet → LaysRows sheet area → LaysMarks f area
+    → ((s t B : ℕ) → f s t B → (s < most_states) × (t < most_states) × (B < most_concepts)) → Holds f sheet
+    → LaysRows sheet area → LaysMarks f area
 lays_marks f sheet area low h l = record { long = l.long; bytes = l.bytes; marks = λ p. (to p, from p) }
   where
     to : (p : ℕ) → bit_in area p ≡ 1 → IsPlaceOf f p
@@ -132,7 +139,8 @@ lays_marks f sheet area low h l = record { long = l.long; bytes = l.bytes; marks
           p / most_concepts / most_states,
           p / most_concepts % most_states,
           p % most_concepts,
-          (h.at (p / most_concepts / most_states) (p / most_concepts % most_states) (p % most_concepts) (omega arith) (omega arith) (omega arith)).0 (rw q at a.1),
+          (h.at (p / most_concepts / most_states) (p / most_concepts % most_states) (p % most_concepts) (omega arith) (omega arith)
+              (omega arith)).0 (rw q at a.1),
           omega arith,
         )
 

@@ -1,5 +1,6 @@
 -- The counts of rounds, one round more.
-use Rattle.std.specs.Prelude.{◌≡◌, refl, ◌↔◌, Result, Ok, Err, IfErr, Bool, false, IsTrue, suc, List, [], ◌∷◌, ◌++◌, ℕ, ◌+◌, ◌<◌, length, slice_index}
+use Rattle.std.specs.Prelude.{◌≡◌, refl, ◌↔◌, Result, Ok, Err, IfErr, Bool, false, IsTrue, suc, ℕ, ◌+◌, ◌<◌}
+use Rattle.std.specs.Prelude.{List, [], ◌∷◌, ◌++◌, length, slice_index}
 use Rattle.std.specs.Result.{IsErrAnd}
 use Rattle.std.proofs.Common.{arith, length-append, ◌∙◌}
 use Rattle.std.proofs.Math.ListN.{get_or-append}
@@ -23,7 +24,8 @@ module _ (rows : Rows) where
   no_rounds = record { long = refl; each = λ k l. absurd (omega arith) }
 
   -- a round that changes the sheet is allowed
-  pub going_on : (allowance n : ℕ) → Going rows allowance n → (b : Bool) → IsTrue b ↔ Unchanged (kind_of rows) n → b ≡ false → (n ≡ allowance → ⊥)
+  pub going_on : (allowance n : ℕ) → Going rows allowance n → (b : Bool) → IsTrue b ↔ Unchanged (kind_of rows) n
+      → b ≡ false → (n ≡ allowance → ⊥)
       → Going rows allowance (n + 1)
   going_on allowance n g b o e ne = record { within = omega (arith, g.within, ne); changing = changed rows n g.changing b o e }
 
@@ -46,8 +48,14 @@ module _ (rows : Rows) where
 
   -- what a listener failed at
   module _ {S E : Type 0} (hears : S → ℕ → ℕ → S → Type 0) (fails : S → ℕ → ℕ → E → S → Type 0) (from : S) where
-    pub failed_at : (allowance n : ℕ) (counts : List ℕ) (m : ℕ) (at to : S) (e : E) → Going rows allowance (n + 1) → RoundCounts (kind_of rows) n counts
+    pub failed_at : (allowance n : ℕ) (counts : List ℕ) (m : ℕ) (at to : S) (e : E) → Going rows allowance (n + 1)
+        → RoundCounts (kind_of rows) n counts
         → Adds (kind_of rows) n m → Told hears from counts at → fails at (n + 1) m e to
         → (k : ℕ) × (all : List ℕ) × Going rows allowance k × RoundCounts (kind_of rows) k all × Failed hears fails from all e to
-    failed_at allowance n counts m at to e g r a t f =
-        (n + 1, counts ++ m ∷ [], g, one_more n counts m r a, record { before = counts; last = m; all = refl; at = at; told = t; failed = rw (numbered n counts r) at f })
+    failed_at allowance n counts m at to e g r a t f = (
+      n + 1,
+      counts ++ m ∷ [],
+      g,
+      one_more n counts m r a,
+      record { before = counts; last = m; all = refl; at = at; told = t; failed = rw (numbered n counts r) at f },
+    )

@@ -1,5 +1,6 @@
 -- How many marks a round adds.
-use Rattle.std.specs.Prelude.{◌≡◌, refl, ◌↔◌, Bool, true, false, IsTrue, List, [], ◌∷◌, ℕ, zero, suc, ◌+◌, ◌*◌, ◌/◌, ◌%◌, ◌<◌, ◌≤◌, length, map, get_or, filter, nat_eq, cond, T, leb}
+use Rattle.std.specs.Prelude.{◌≡◌, refl, ◌↔◌, Bool, true, false, IsTrue, ℕ, zero, suc, ◌+◌, ◌*◌, ◌/◌, ◌%◌, ◌<◌, ◌≤◌}
+use Rattle.std.specs.Prelude.{List, [], ◌∷◌, length, map, get_or, filter, nat_eq, cond, T, leb}
 use Rattle.std.specs.List.{range_with_len}
 use Rattle.std.proofs.lemmas.List.{length-map}
 use Rattle.std.proofs.Common.{sym, ap, ◌∙◌, ⊎_elim, arith, rules}
@@ -96,7 +97,12 @@ some_then f (suc m) n a =
 some_same : (f g : ℕ → Bool) (m a b : ℕ) → ((i : ℕ) → i < m → f (a + i) ≡ g (b + i)) → some f a m ≡ some g b m
 some_same f g zero a b h = some_zero f a ∙ sym (some_zero g b)
 some_same f g (suc m) a b h =
-    rw (some_suc f a m, some_suc g b m, one (f a) (g b) first, some_same f g m (a + 1) (b + 1) (λ i l. let p : a + 1 + i ≡ a + (i + 1) = omega arith in let q : b + 1 + i ≡ b + (i + 1) = omega arith in rw (p, q) (h (i + 1) (omega arith)))) refl
+    let rest = some_same f g m (a + 1) (b + 1)
+    (λ i l.
+    let p : a + 1 + i ≡ a + (i + 1) = omega arith in
+    let q : b + 1 + i ≡ b + (i + 1) = omega arith in
+    rw (p, q) (h (i + 1) (omega arith))) in
+    rw (some_suc f a m, some_suc g b m, one (f a) (g b) first, rest) refl
   where
     first : f a ≡ g b
     first = let p : a + 0 ≡ a = omega arith in let q : b + 0 ≡ b = omega arith in let e = h 0 (omega arith) in rw (p, q) at e
@@ -110,7 +116,8 @@ unfolding rises_from
 rises f zero a low h = tt
 rises f (suc m) a low h = side (f a) (rises f m (a + 1) low (omega arith)) (rises f m (a + 1) (suc a) (omega arith))
   where
-    side : (b : Bool) → T (rises_from low (filter f (range_with_len (a + 1) m))) → T (rises_from (suc a) (filter f (range_with_len (a + 1) m)))
+    side : (b : Bool) → T (rises_from low (filter f (range_with_len (a + 1) m)))
+        → T (rises_from (suc a) (filter f (range_with_len (a + 1) m)))
         → T (rises_from low (cond b (a ∷ filter f (range_with_len (a + 1) m)) (filter f (range_with_len (a + 1) m))))
     side true p q = and_both (leb low a) (rises_from (suc a) (filter f (range_with_len (a + 1) m))) (search (rules, h)) q
     side false p q = p
@@ -141,7 +148,13 @@ line_many rows s zero = let e : most_concepts * 0 ≡ 0 = omega arith in rw e (s
 line_many rows s (suc t) =
     let e : most_concepts * suc t ≡ most_concepts * t + most_concepts = omega arith in
     let g : line_length * s + most_concepts * t ≡ most_concepts * pair s t = omega arith in
-    rw (e, some_then (marked rows) (most_concepts * t) most_concepts (line_length * s), line_many rows s t, g, row_many rows (pair s t)) refl
+    rw (
+      e,
+      some_then (marked rows) (most_concepts * t) most_concepts (line_length * s),
+      line_many rows s t,
+      g,
+      row_many rows (pair s t),
+    ) refl
 
 all_many : (rows : List ConceptSet) (s : ℕ) → some (marked rows) 0 (line_length * s) ≡ total rows s
 unfolding total
@@ -153,11 +166,15 @@ all_many rows (suc s) =
 
 in_places : (rows : List ConceptSet) (m p : ℕ) → p < m → At rows (p / most_concepts) (p % most_concepts) → p ∈ places_of rows m
 unfolding places_of
-in_places rows m p h a = in_from (marked rows) m 0 p (omega arith) (omega arith) (has_of (get_or rows (p / most_concepts) (record { 0 = 0 })).0 (p % most_concepts) a)
+in_places rows m p h a =
+    in_from (marked rows) m 0 p (omega arith) (omega arith)
+    (has_of (get_or rows (p / most_concepts) (record { 0 = 0 })).0 (p % most_concepts) a)
 
 out_places : (rows : List ConceptSet) (m p : ℕ) → p ∈ places_of rows m → (p < m) × At rows (p / most_concepts) (p % most_concepts)
 unfolding places_of
-out_places rows m p h = let w = out_from (marked rows) m 0 p h in (let l = w.1 in omega arith, has_is (get_or rows (p / most_concepts) (record { 0 = 0 })).0 (p % most_concepts) w.2)
+out_places rows m p h =
+    let w = out_from (marked rows) m 0 p h in
+    (let l = w.1 in omega arith, has_is (get_or rows (p / most_concepts) (record { 0 = 0 })).0 (p % most_concepts) w.2)
 
 rising_places : (rows : List ConceptSet) (m : ℕ) → Rising (places_of rows m)
 unfolding places_of
@@ -182,7 +199,8 @@ module _ (rows : Rows) (n : ℕ) (next : List ConceptSet) (h : Holds (Added (kin
   unfolding marks_of
   adds m e = record {
     marks = marks_of;
-    once = distinct-map mark_at (places_of next (line_length * most_states)) (λ p q i j g. one p q g) (rising-distinct _ (rising_places next (line_length * most_states)));
+    once = distinct-map mark_at (places_of next (line_length * most_states)) (λ p q i j g. one p q g)
+        (rising-distinct _ (rising_places next (line_length * most_states)));
     are = λ s t B. (to s t B, from s t B);
     many = length-map (places_of next (line_length * most_states)) mark_at ∙ (many_places next most_states ∙ sym e);
   }
@@ -203,7 +221,8 @@ module _ (rows : Rows) (n : ℕ) (next : List ConceptSet) (h : Holds (Added (kin
               let l = w.0 in
               let q : p / most_concepts ≡ pair (p / line_length) (p / most_concepts % most_states) = omega arith in
               let a = w.1 in
-              let x = (h.at (p / line_length) (p / most_concepts % most_states) (p % most_concepts) (omega arith) (omega arith) (omega arith)).0 (rw q at a) in
+              let x = (h.at (p / line_length) (p / most_concepts % most_states) (p % most_concepts) (omega arith) (omega arith)
+              (omega arith)).0 (rw q at a) in
               rw (ap (λ (x : Triple). x.0) e, ap (λ (x : Triple). x.1) e, ap (λ (x : Triple). x.2) e) x
 
       from : (s t B : ℕ) → Added (kind_of rows) n s t B → (s, t, B) ∈ marks_of
@@ -228,11 +247,21 @@ module _ (rows : Rows) (n : ℕ) (next : List ConceptSet) (h : Holds (Added (kin
         no : Added (kind_of rows) n s t B → ⊥
         no a =
             let l = low_of rows s t B (mark-markable (kind_of rows) (suc n) s t B m) in
-            some_member (members most_concepts (get_or next (pair s t) (record { 0 = 0 })).0) B (member_in most_concepts (get_or next (pair s t) (record { 0 = 0 })).0 B l.of ((h.at s t B l.from l.to l.of).1 a))
+            some_member (members most_concepts (get_or next (pair s t) (record { 0 = 0 })).0) B
+            (member_in most_concepts (get_or next (pair s t) (record { 0 = 0 })).0 B l.of ((h.at s t B l.from l.to l.of).1 a))
             (from_zero next s most_states t l.to (total_zero next most_states s l.from e))
 
     pub unchanged_none : Unchanged (kind_of rows) n → total next most_states ≡ 0
-    unchanged_none still = zero_total next most_states (λ s ls. zero_from next s most_states (λ t lt. no_member _ (λ B i. let w = member_out most_concepts _ B i in let a = (h.at s t B ls lt w.0).0 w.1 in a.before (still s t B a.then))))
+    unchanged_none still = zero_total next most_states
+        (λ s ls. zero_from next s most_states
+        (λ t lt. no_member _
+        (λ B i.
+        let w = member_out most_concepts _ B i in
+        let a = (h.at s t B ls lt w.0).0 w.1 in
+        a.before (still s t B a.then))))
 
     pub closed_is : (adds : ℕ) → adds ≡ total next most_states → IsTrue (nat_eq adds 0) ↔ Unchanged (kind_of rows) n
-    closed_is adds e = (λ t. none_unchanged (let q : adds ≡ 0 = search (rules, t) in sym e ∙ q), λ still. let q = e ∙ unchanged_none still in rw q (search rules))
+    closed_is adds e = (
+      λ t. none_unchanged (let q : adds ≡ 0 = search (rules, t) in sym e ∙ q),
+      λ still. let q = e ∙ unchanged_none still in rw q (search rules),
+    )

@@ -1,13 +1,14 @@
 -- The laws of a round's loops: one number more, and what the last one leaves.
-use Rattle.std.specs.Prelude.{◌≡◌, ◌≢◌, refl, ◌↔◌, ◌⊎◌, Bool, true, false, not, IsTrue, List, [], ℕ, zero, suc, ◌+◌, ◌*◌, ◌/◌, ◌%◌, ◌-◌}
+use Rattle.std.specs.Prelude.{◌≡◌, refl, ◌↔◌, ◌⊎◌, Bool, true, false, not, IsTrue, List, [], ℕ, zero, suc, ◌+◌, ◌*◌, ◌/◌, ◌%◌, ◌-◌}
 use Rattle.std.specs.Prelude.{◌<◌, ◌≤◌, length, get_or, set, replicate}
-use Rattle.std.proofs.Common.{sym, subst, ap, ◌∙◌, inl, inr, ⊎_elim, arith, length-set, get_or-set_same, get_or-set_other, add-one}
+use Rattle.std.proofs.Common.{sym, subst, ap, ◌∙◌, inl, inr, ⊎_elim, arith, length-set, add-one}
 use Rattle.std.proofs.Math.ListN.{get_or-eq_default}
 use Rattle.std.proofs.Math.Decide.{ℕ_discrete, dec_lt}
+use Rattle.std.specs.Int.{bit_at}
 use Rattle.std.proofs.lemmas.Bool.{false≢true}
 use Rattle.std.proofs.lemmas.List.{length-replicate}
 use Rattle.laws.specs.Fill.{stored, filled_with}
-use Rattle.laws.specs.Loops.{Witness, Extends, extends_below, add_none, add_first, add_same, add_more, add_all, witness_more, each_more}
+use Rattle.laws.specs.Loops.{Witness, Extends, extends_below, add_first, add_same, add_more, add_all, witness_more, each_more}
 use Rattle.kinds.specs.Kinds.{most_states, base}
 use Rattle.sets.specs.Bits.{Has, IsSetOf, IsEmpty, IsUnion, IsMinus, IsIntersection, IsLowered, IsLower, Inserts, TakesFirst, state_width}
 use Rattle.sets.specs.Rows.{no_concepts, no_states}
@@ -18,12 +19,13 @@ use Rattle.sets.proofs.Laws.{members_none, none_has}
 use Rattle.sets.proofs.Gathering.{no_row, Over, over_more, over_end}
 use Rattle.rules.specs.declared.rows.Edge.{Edge}
 use Rattle.rules.specs.declared.rows.Rows.{Rows}
-use Rattle.rules.specs.Rows.{most_concepts, most_edges, Gets, IsMarkable, edge}
-use Rattle.rules.specs.Transitions.{Gains, GainsEach, Pair}
+use Rattle.rules.specs.Rows.{most_concepts, Gets, IsMarkable, edge}
+use Rattle.rules.specs.Transitions.{GainsEach}
 use Rattle.rules.proofs.MadeLaws.{gets_none, gets_same}
 use Rattle.sheet.specs.Pairs.{Paired, Blank, By, ByState, Put, PutTo, Drops, IsPair, AnyOf, AnyPair, size, total_from, total}
 use Rattle.sheet.specs.declared.marks.Marks.{Marks}
-use Rattle.sheet.specs.Finds.{Join, RightFrom, Forgets, PutLoop, PutLoops, RowLoop, AllLoops, AreLoops, Trip, TripsFrom, ThroughChild}
+use Rattle.sheet.specs.Finds.{Join, RightFrom, Forgets, PutLoop, PutLoops, RowLoop, AllLoops, AreLoops}
+use Rattle.sheet.specs.Finds.{Trip, TripsFrom, HasTrips, IsPart, AddsNothing, ThroughChild}
 use Rattle.sheet.specs.Finds.{ThroughEdges, ThroughChildren, HasFrom, HasAll, NewAt, PutNew, NewFrom, AreNew, Own}
 
 -- ---- rows that get marks
@@ -293,6 +295,70 @@ edge_none loops edge l d u none down up =
     never : (b : Bool) → not b ≡ true → IsTrue b → ⊥
     never true e t = false≢true e
     never false e t = false≢true t
+
+-- ---- trips that were put last
+
+-- what a set has, the other has, or it is left over
+part_row : (small great row over x t : ℕ) → IsMinus small great row → IsUnion over row x → Has small t → Has great t ⊎ Has x t
+part_row small great row over x t m u h = elim (ℕ_discrete (bit_at great t) 1) [
+  | yes e ↦ inl e
+  | no ne ↦ inr ((u.member t).1 (inr ((m.member t).1 (h, ne))))
+]
+
+pub part_more : (small great : List StateSet) (n row over x : ℕ)
+    → ((s t : ℕ) → s < n → Relates small s t → Relates great s t ⊎ Has over t)
+    → IsMinus (states_at small n) (states_at great n) row → IsUnion over row x
+    → (s t : ℕ) → s < n + 1 → Relates small s t → Relates great s t ⊎ Has x t
+part_more small great n row over x before m u s t h r = elim (ℕ_discrete s n) [
+  | yes e ↦ rw (← e) at (part_row (states_at small n) (states_at great n) row over x t m u (rw e at r))
+  | no ne ↦ ⊎_elim inl (λ o. inr ((u.member t).1 (inl o))) (before s t (omega arith) r)
+]
+
+pub part_end : (small great : List StateSet) (n over : ℕ) (b : Bool) → length small ≤ n
+    → ((s t : ℕ) → s < n → Relates small s t → Relates great s t ⊎ Has over t) → IsTrue b ↔ IsEmpty over
+    → IsTrue b → IsPart small great
+part_end small great n over b h each o e = record {
+  leads = λ s t r. ⊎_elim (λ x. x) (λ x. absurd (o.0 e t x)) (each s t (low_start small n s t h r) r);
+}
+
+-- no trip goes along no loop
+pub no_trips : (n : ℕ) (edge : Edge) (l : List ConceptSet) → HasTrips (replicate n no_states) edge l
+no_trips n edge l = record { has = λ q k w. absurd (nowhere n _ _ w.holds.of.along) }
+
+pub trips_put : (loops : List StateSet) (edge : Edge) {l m : List ConceptSet} → Gets (ByState (TripsFrom loops edge)) l m
+    → HasTrips loops edge m
+trips_put loops edge g = record { has = λ q k w. (g.at q k).1 (inr w) }
+
+-- what is there already is not missed
+pub trips_done : (last_loops : List StateSet) (last : Edge) (loops : List StateSet) (edge : Edge) (l : List ConceptSet)
+    → HasTrips last_loops last l
+    → AddsNothing last_loops last loops edge → Gets (ByState (TripsFrom loops edge)) l l
+trips_done last_loops last loops edge l has a = record {
+  long = refl;
+  at = λ q k. (λ x. inl x, ⊎_elim (λ x. x) (λ w. has.has q k (old q k w)));
+}
+  where
+    old : (q k : ℕ) → ByState (TripsFrom loops edge) q k → ByState (TripsFrom last_loops last) q k
+    old q k w =
+        let v = w.holds in
+        let t = v.of in
+        let p = v.holds in
+        let e = a.parents in
+        record {
+          number = w.number;
+          of = w.of;
+          holds = record {
+            number = v.number;
+            of = record {
+              x = t.x;
+              y = t.y;
+              down = a.down.leads w.number t.x t.down;
+              along = a.along.leads t.x t.y t.along;
+              up = a.up.leads t.y v.number t.up;
+            };
+            holds = record { low = p.low; there = p.there; has = let h = p.has in rw e at h };
+          };
+        }
 
 pub concepts_more : (rows : List ConceptSet) (s i all x : ℕ) {D E : ℕ → Type 0} → Extends D i E → HasFrom rows D s all
     → IsUnion all (get_or rows (pair s i) no_concepts).0 x

@@ -92,7 +92,10 @@ module _ (𝓒 : Collection) (fit : CountsFit 𝓒.counts) (rows : Rows) (r : Ro
   added_back : (n : ℕ) (s t : State) (B : Concept) → Added L n s t B → Added K n s.0 t.0 (number_of B)
   added_back n s t B a =
       let c = concept-number 𝓒.counts fit.names B (concept-out 𝓒.counts B (mark-markable L (suc n) s t B a.then).of) in
-      record { then = mark_back (suc n) s t B a.then; before = λ m. let x = mark_to 𝓒 rows r n s.0 t.0 (number_of B) m in a.before (rw c at x) }
+      record {
+        then = mark_back (suc n) s t B a.then;
+        before = λ m. let x = mark_to 𝓒 rows r n s.0 t.0 (number_of B) m in a.before (rw c at x);
+      }
 
   same_adds : (n m : ℕ) → Adds K n m → Adds L n m
   same_adds n m a = record {
@@ -108,7 +111,11 @@ module _ (𝓒 : Collection) (fit : CountsFit 𝓒.counts) (rows : Rows) (r : Ro
           there : (p : ℕ × ℕ × ℕ) → p ∈ a.marks → (s, t, B) ≡ of_rows p → Added L n s t B
           there (s₁, t₁, B₁) i e =
               let x = added_to n s₁ t₁ B₁ ((a.are s₁ t₁ B₁).0 i) in
-              rw (ap (λ (x : State × State × Concept). x.0) e, ap (λ (x : State × State × Concept). x.1) e, ap (λ (x : State × State × Concept). x.2) e) x
+              rw (
+                ap (λ (x : State × State × Concept). x.0) e,
+                ap (λ (x : State × State × Concept). x.1) e,
+                ap (λ (x : State × State × Concept). x.2) e,
+              ) x
 
       from : (s t : State) (B : Concept) → Added L n s t B → (s, t, B) ∈ map of_rows a.marks
       from s t B x =

@@ -1,4 +1,5 @@
--- The contracts of `sheet` leave one answer each: the end of rounds, the sheet and what comes next, the count of a round, every byte of an area.
+-- The contracts of `sheet` leave one answer each: the end of rounds, the sheet and what comes next, the count of a round, every
+-- byte of an area.
 use Rattle.std.specs.Prelude.{◌≡◌, refl, ◌↔◌, Bool, true, false, List, ℕ, ◌*◌, ◌/◌, ◌%◌, ◌<◌}
 use Rattle.std.proofs.Common.{sym, ◌∙◌, ap, arith}
 use Rattle.kinds.specs.Kinds.{most_states}
@@ -35,9 +36,14 @@ same_test false false h = refl
 -- THEOREM: one sheet of rows holds some marks
 pub holds_once : (f : ℕ → ℕ → ℕ → Type 0) (v w : List ConceptSet) → Holds f v → Holds f w → IsSheet v → IsSheet w → v ≡ w
 holds_once f v w a b p q =
-    concept_rows_once (most_states * most_states) v w p q (λ i j hi hj. let x = at v a i j hi hj in let y = at w b i j hi hj in same_test _ _ (λ e. has_of _ j (y.1 (x.0 (has_is _ j e))), λ e. has_of _ j (x.1 (y.0 (has_is _ j e)))))
+    concept_rows_once (most_states * most_states) v w p q
+    (λ i j hi hj.
+    let x = at v a i j hi hj in
+    let y = at w b i j hi hj in
+    same_test _ _ (λ e. has_of _ j (y.1 (x.0 (has_is _ j e))), λ e. has_of _ j (x.1 (y.0 (has_is _ j e)))))
   where
-    at : (x : List ConceptSet) → Holds f x → (i j : ℕ) → i < most_states * most_states → j < most_concepts → At x i j ↔ f (i / most_states) (i % most_states) j
+    at : (x : List ConceptSet) → Holds f x → (i j : ℕ) → i < most_states * most_states → j < most_concepts
+        → At x i j ↔ f (i / most_states) (i % most_states) j
     at x h i j hi hj =
         let e : pair (i / most_states) (i % most_states) ≡ i = omega arith in
         rw e at (h.at (i / most_states) (i % most_states) j (omega arith) (omega arith) hj)

@@ -14,7 +14,7 @@ use Rattle.rules.specs.Rows.{most_concepts, kind_of, Gets}
 use Rattle.rules.proofs.Able.{Low, low_of, may_of, of_may}
 use Rattle.sheet.specs.declared.marks.Marks.{Marks}
 use Rattle.sheet.specs.Pairs.{RowAt}
-use Rattle.sheet.specs.Finds.{AllRows, EachRow, JoinedPair, Joins, ThroughChildren, Own, IsTurn, FirstTurn}
+use Rattle.sheet.specs.Finds.{AllRows, JoinedPair, Joins, ThroughChildren, Own, IsTurn, FirstTurn}
 use Rattle.theory.specs.Marks.{Added}
 use Rattle.sheet.specs.Sheets.{Holds}
 use Rattle.sheet.specs.Meant.{Uses, first, second, child_of, IsKnown, AddsByNew}

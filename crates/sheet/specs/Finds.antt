@@ -22,7 +22,7 @@ RowsFrom marks s = ByPair marks.pairs s (RowAt marks.rows s)
 abbrev pub AllRows : Marks → ℕ → ℕ → Type 0
 AllRows marks = ByState (RowsFrom marks)
 
--- the same, of any rows
+-- all rows of every state, whatever marks they have
 abbrev pub EachRow : List ConceptSet → ℕ → ℕ → Type 0
 EachRow rows = ByState (λ s. ByState (RowAt rows s))
 
@@ -113,7 +113,23 @@ PutParents edge = PutTo edge.parents.0
 abbrev pub TripsFrom : List StateSet → Edge → ℕ → ℕ → ℕ → Type 0
 TripsFrom loops edge s = By (Trip loops edge s) (PutParents edge s)
 
--- the same by the edges to a child that is known by "has a neighbour by" a role
+-- the rows have all that the trips of an edge put
+pub record HasTrips (loops : List StateSet) (edge : Edge) (rows : List ConceptSet) : Type 0 where
+  pub has : (q k : ℕ) → ByState (TripsFrom loops edge) q k → At rows q k
+
+-- a relation leads nowhere but where the other one does
+pub record IsPart (small great : List StateSet) : Type 0 where
+  pub leads : (s t : ℕ) → Relates small s t → Relates great s t
+
+-- after the trips of the last edge along its loops, those of an edge along others put nothing more
+pub record AddsNothing (last_loops : List StateSet) (last : Edge) (loops : List StateSet)
+    (edge : Edge) : Type 0 where
+  pub parents : edge.parents.0 ≡ last.parents.0
+  pub down : IsPart edge.down last.down
+  pub up : IsPart edge.up last.up
+  pub along : IsPart loops last_loops
+
+-- the parents of the edges to a child that is known by "has a neighbour by" a role, put after trips
 abbrev pub ThroughEdges : List (List StateSet) → Rows → ℕ → ℕ → ℕ → Type 0
 ThroughEdges loops rows R =
     By (Lists rows.edges_to R) (λ e. ByState (TripsFrom (relation_at loops R) (edge rows e)))

@@ -10,7 +10,7 @@ use Rattle.sets.specs.declared.concepts.ConceptSet.{ConceptSet}
 use Rattle.sets.specs.declared.states.StateSet.{StateSet}
 use Rattle.rules.specs.Rows.{most_concepts}
 
--- a pair of states that has a mark is among the pairs, and so are only states that have a row
+-- each pair of states that has a mark is among the pairs, and each pair leads to a state with a row
 pub record Paired (rows : List ConceptSet) (pairs : List StateSet) : Type 0 where
   pub has : (s t k : ℕ) → s < most_states → t < most_states → At rows (pair s t) k
       → Relates pairs s t
@@ -37,7 +37,7 @@ pub record Put (i row q k : ℕ) : Type 0 where
   pub there : q ≡ i
   pub has : Has row k
 
--- the same into the row of s and t, where t has one
+-- a row, put into the row of s and t, where t has one
 pub record PutTo (row s t q k : ℕ) : Type 0 where
   pub low : t < most_states
   pub there : q ≡ pair s t

@@ -8,9 +8,8 @@ ghost use Rattle.sheet.specs.Ends.{Ended, rounds_made};
 ghost use Rattle.sheet.specs.Heard.{ToldOf, FailedGoing};
 
 use crate::closing::Closing;
-use crate::through::NO_LOOPS;
-use kinds::{RoundListener, Rounds};
-use rules::Rows;
+use kinds::{RoundListener, Rounds, SignedRole};
+use rules::{Rows, nowhere};
 
 /// How rounds end: a sheet that no longer changes after so many, or an allowance spent before.
 #[derive(Clone, Copy)]
@@ -37,8 +36,8 @@ impl Closing {
         ensures failed { IfErr result (λ e.
             FailedGoing L.hears L.fails rows.now allowance listener.old e listener.new) }
     {
-        // Room for the rounds, zeroed once.
-        let mut loops = NO_LOOPS;
+        // Room for the rounds, made once.
+        let mut loops = [nowhere(); SignedRole::NUMBERS];
         self.start(&mut loops, rows);
         let mut n: Rounds = 0;
         loop {

@@ -21,7 +21,7 @@ fn left(candidates: &mut Marks, sheet: &Marks, row: ConceptSet, s: usize, u: usi
     }
 }
 
-// The same row, with the row of the sheet from r to s.
+// A row of (s, u), with the row of the sheet from r to s.
 fn right_from(candidates: &mut Marks, sheet: &Marks, row: ConceptSet, s: usize, u: State, r: usize)
     requires from { s < most_states }
     requires to { u.0 < most_states }
@@ -35,7 +35,7 @@ fn right_from(candidates: &mut Marks, sheet: &Marks, row: ConceptSet, s: usize, 
     candidates.put(r, u, both);
 }
 
-// The same, for each r.
+// A row of (s, u), with the row of the sheet from each r to s.
 fn right(candidates: &mut Marks, sheet: &Marks, row: ConceptSet, s: usize, u: State)
     requires from { s < most_states }
     requires to { u.0 < most_states }

@@ -42,7 +42,7 @@ impl Marks {
         put_row(&mut self.rows, &mut self.pairs, s, t, row);
     }
 
-    // The same, where the row is often empty: then (s, t) is not made a pair to look at.
+    // The concepts of a row that is often empty are added to those of (s, t). An empty row makes (s, t) no pair to look at.
     pub(crate) fn put_some(&mut self, s: usize, t: State, row: ConceptSet)
         requires from { s < most_states }
         requires to { t.0 < most_states }

@@ -7,7 +7,8 @@ ghost use Rattle.sets.specs.Relations.{Relates, states_at};
 ghost use Rattle.rules.specs.Rows.{most_edges, Gets};
 ghost use Rattle.rules.specs.Transitions.{Gains, GainsEach, Pair};
 ghost use Rattle.sheet.specs.Pairs.{By, ByState};
-ghost use Rattle.sheet.specs.Finds.{Forgets, PutLoop, PutLoops, LoopsFrom, AllLoops, AreLoops, HasFrom, HasAll, Trip, TripsFrom, ThroughEdges, ThroughChildren};
+ghost use Rattle.sheet.specs.Finds.{Forgets, PutLoop, PutLoops, LoopsFrom, AllLoops, AreLoops, HasFrom, HasAll};
+ghost use Rattle.sheet.specs.Finds.{Trip, TripsFrom, HasTrips, IsPart, AddsNothing, ThroughEdges, ThroughChildren};
 
 use crate::marks::Marks;
 use kinds::{SignedRole, State};
@@ -17,9 +18,15 @@ use sets::{ConceptSet, Relation, RoleSet, StateSet, image};
 /// For each signed role R the marks at "has a neighbour by R", as a relation between states.
 pub(crate) type Loops = [Relation; SignedRole::NUMBERS];
 
-const NOWHERE: Relation = [StateSet::EMPTY; State::NUMBERS];
+// The loops and the edge of the trips that were put last. Where roles include each other, many edges
+// have the same trips: those that were put last are not put again.
+#[derive(Clone, Copy)]
+struct Last {
+    loops: Relation,
+    edge: Edge,
+}
 
-pub(crate) const NO_LOOPS: Loops = [NOWHERE; SignedRole::NUMBERS];
+const NOWHERE: Relation = [StateSet::EMPTY; State::NUMBERS];
 
 // Nothing is left in the relations of a set of roles.
 fn clear_loops(loops: &mut Loops, roles: RoleSet)
@@ -39,7 +46,7 @@ fn put_loop(relation: &mut Relation, s: usize, t: State)
     relation[s].insert(t);
 }
 
-// The same, to the relation of one role.
+// One pair of states is added to the relation of one role.
 fn put_loop_of(loops: &mut Loops, role: SignedRole, s: usize, t: State)
     requires role { role.0 < most_edges }
     requires from { s < most_states }
@@ -49,7 +56,7 @@ fn put_loop_of(loops: &mut Loops, role: SignedRole, s: usize, t: State)
     put_loop(&mut loops[role.0 as usize], s, t);
 }
 
-// The same, to the relation of each role of a set.
+// One pair of states is added to the relation of each role of a set.
 fn put_loops(loops: &mut Loops, roles: RoleSet, s: usize, t: State)
     requires from { s < most_states }
     requires to { t.0 < most_states }
@@ -106,7 +113,7 @@ fn trips_from(candidates: &mut Marks, loops: &Relation, edge: &Edge, s: usize)
     candidates.put_each(s, trips(loops, edge, s), edge.parents);
 }
 
-// The same from every state.
+// The trips from every state are gone through.
 fn all_trips(candidates: &mut Marks, loops: &Relation, edge: &Edge)
     ensures { Gets (ByState (TripsFrom loops.now edge.now)) candidates.old.rows
         candidates.new.rows }
@@ -127,27 +134,83 @@ fn leads(relation: &Relation) -> bool
     !all.is_empty()
 }
 
+// Whether a relation leads nowhere but where the other one does. There is no branch on a row.
+fn is_part(small: &Relation, great: &Relation) -> bool
+    ensures { IsTrue result → IsPart small.now great.now }
+{
+    let mut over = StateSet::EMPTY;
+    for s in 0..State::NUMBERS {
+        let row = small[s].minus(great[s]);
+        over = over.union(row);
+    }
+    over.is_empty()
+}
+
+// Whether the trips that were put last are all that the edge has, with the same parents.
+fn is_done(last: &Last, loops: &Relation, edge: &Edge) -> bool
+    ensures { IsTrue result → AddsNothing last.now.loops last.now.edge loops.now edge.now }
+{
+    if edge.parents.0 != last.edge.parents.0 {
+        return false;
+    }
+    if !is_part(&edge.down, &last.edge.down) {
+        return false;
+    }
+    if !is_part(&edge.up, &last.edge.up) {
+        return false;
+    }
+    is_part(loops, &last.loops)
+}
+
+// The trips are put, unless they were put last.
+fn put_trips(candidates: &mut Marks, last: &mut Last, loops: &Relation, edge: &Edge)
+    requires { HasTrips last.old.loops last.old.edge candidates.old.rows }
+    ensures put { Gets (ByState (TripsFrom loops.now edge.now)) candidates.old.rows
+        candidates.new.rows }
+    ensures last { HasTrips last.new.loops last.new.edge candidates.new.rows }
+{
+    if is_done(last, loops, edge) {
+        return;
+    }
+    all_trips(candidates, loops, edge);
+    *last = Last {
+        loops: *loops,
+        edge: *edge,
+    };
+}
+
 // Most edges have no role step down or none up: then there is nothing to look for.
 #[tactic(auto, using(crate::proofs::Laws::edge_none))]
-fn through_edge(candidates: &mut Marks, loops: &Relation, edge: &Edge)
-    ensures { Gets (ByState (TripsFrom loops.now edge.now)) candidates.old.rows
+fn through_edge(candidates: &mut Marks, last: &mut Last, loops: &Relation, edge: &Edge)
+    requires { HasTrips last.old.loops last.old.edge candidates.old.rows }
+    ensures put { Gets (ByState (TripsFrom loops.now edge.now)) candidates.old.rows
         candidates.new.rows }
+    ensures last { HasTrips last.new.loops last.new.edge candidates.new.rows }
 {
     if !leads(&edge.down) || !leads(&edge.up) {
         return;
     }
-    all_trips(candidates, loops, edge);
+    put_trips(candidates, last, loops, edge);
 }
 
 // All edges to a child that is known by "has a neighbour by" the role are gone through.
-fn through_child(candidates: &mut Marks, loops: &Loops, rows: &Rows, role: SignedRole)
-    requires { role.0 < most_edges }
-    ensures { Gets (ThroughEdges loops.now rows.now role.0) candidates.old.rows
+fn through_child(
+    candidates: &mut Marks,
+    last: &mut Last,
+    loops: &Loops,
+    rows: &Rows,
+    role: SignedRole,
+)
+    requires role { role.0 < most_edges }
+    requires last { HasTrips last.old.loops last.old.edge candidates.old.rows }
+    ensures put { Gets (ThroughEdges loops.now rows.now role.0) candidates.old.rows
         candidates.new.rows }
+    ensures last { HasTrips last.new.loops last.new.edge candidates.new.rows }
 {
     for e in rows.edges_to[role.0 as usize].iter() {
         through_edge(
             candidates,
+            last,
             &loops[role.0 as usize],
             &rows.edges[e.0 as usize],
         );
@@ -182,8 +245,12 @@ fn through_roles(candidates: &mut Marks, loops: &Loops, rows: &Rows, roles: Role
     ensures { Gets (By (Has roles.0) (ThroughEdges loops.now rows.now)) candidates.old.rows
         candidates.new.rows }
 {
+    let mut last = Last {
+        loops: NOWHERE,
+        edge: Edge::NONE,
+    };
     for role in roles.iter() {
-        through_child(candidates, loops, rows, role);
+        through_child(candidates, &mut last, loops, rows, role);
     }
 }
 

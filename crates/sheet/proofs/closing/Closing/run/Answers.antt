@@ -42,5 +42,6 @@ returns-in_err-round_made-clause-failed g c =
     let v = c.loop-loops.invariant in
     let going = going_on c.args.rows.now _ _ v.going _ (c.is_closed.ensures _ _ v.round) c.if-is_closed.false c.if-n-allowance.false in
     let a = c.advance-added.ensures.added _ v.round in
-    let w = failed_at c.args.rows.now g.L.RoundListener.hears g.L.RoundListener.fails c.args.listener.now c.args.allowance c.loop-loops.n v.counts _ _ _ _ going v.are a v.told c.in_err-round_made.ensures.err in
+    let w = failed_at c.args.rows.now g.L.RoundListener.hears g.L.RoundListener.fails c.args.listener.now c.args.allowance
+    c.loop-loops.n v.counts _ _ _ _ going v.are a v.told c.in_err-round_made.ensures.err in
     passed_on c.from_residual.result _ _ c.from_residual.ensures.1 w

@@ -7,7 +7,9 @@ pub loop-t-init : goal.loop-t-init
 loop-t-init c = rw (c.into_iter-t-iterator.ensures.into_iter_gives, c.iter-t-items.ensures) (counted_start _ _ _)
 
 pub loop-t-preserved : goal.loop-t-preserved
-loop-t-preserved c = counted_more c.args.self.now _ c.requires _ _ _ _ _ c.loop-t.invariant c.in-Some.ensures.steps c.len.ensures.count c.len.ensures.few
+loop-t-preserved c =
+    counted_more c.args.self.now _ c.requires _ _ _ _ _ c.loop-t.invariant c.in-Some.ensures.steps c.len.ensures.count
+    c.len.ensures.few
 
 pub returns-clause-count : goal.returns-clause-count
 returns-clause-count c = counted_end c.args.self.now _ c.requires _ _ c.loop-t.invariant c.in-None.ensures.steps.0
