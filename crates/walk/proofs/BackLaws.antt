@@ -1,5 +1,5 @@
 -- A stride backward is a stride forward against it, so a walk backward from a node finds nodes that lead to it.
-use Rattle.std.specs.Prelude.{refl, List, ℕ}
+use Rattle.std.specs.Prelude.{◌≡◌, refl, Bool, Some, List, ℕ}
 use Rattle.kinds.specs.declared.Individual.{Individual}
 use Rattle.kinds.specs.declared.State.{State}
 use Rattle.kinds.specs.Kinds.{most_states, individual, inverse, inverse-forward, inverse-backward}
@@ -13,12 +13,13 @@ use Rattle.theory.specs.Run as run
 use Rattle.walk.specs.declared.direction.Direction.TheVariants.{Backward}
 use Rattle.walk.specs.declared.directed.Directed.{Directed}
 use Rattle.walk.specs.declared.strides.Strides.{Strides}
-use Rattle.sets.specs.Relations.{relation_at}
+use Rattle.sets.specs.Bits.{Has}
+use Rattle.sets.specs.Relations.{states_at, relation_at}
 use Rattle.walk.specs.Strides as strides
 use Rattle.walk.specs.Directions.{Move, along, loop}
 use Rattle.walk.specs.Guides.{IsBackward}
-use Rattle.walk.specs.Passes.{Found}
-use Rattle.walk.specs.Walks.{StrideBy, LeadTo}
+use Rattle.walk.specs.Passes.{AreOutside, StaysAmong, IsSound, Visited, Found}
+use Rattle.walk.specs.Walks.{StrideBy, WalkedBy, LeadTo, LeadToAmong}
 use Rattle.walk.proofs.SetLaws.{within_row}
 
 -- the edge that the same fact makes at the other end
@@ -49,6 +50,36 @@ module _ (s : Strides) (d : Directed) (back : IsBackward s.transitions.now d) wh
   run-back : {a u b t : ℕ} → Run Back a u b t → Run (StrideBy s) b t a u
   run-back stop = stop
   run-back (go m p) = run.join (run-back p) (one (move-back m))
+
+  -- the strides as the guide takes them
+  abbrev Steps : ℕ → ℕ → ℕ → ℕ → Type 0
+  Steps = Move d.direction s.loops.now.rows d.transitions s.edges.now.facts.numbers.now s.edges.now.roles.0
+
+  -- no stride backward leads from another node to one that is ahead of x in a state
+  pub stays_ahead : (x : Individual) (state : State) (ahead : List StateSet) → WalkedBy s x state ahead
+      → StaysAmong Steps (Some ahead)
+  stays_ahead x state ahead w =
+      rw back.direction
+      (record {
+        at = λ a u b t m p. (w.at a u).1
+            (let q = (w.at b t).0 p in
+            record { individual = q.individual; state = q.state; strides = run.join q.strides (one (move-back m)) });
+      })
+
+  -- so a walk backward that begins with x in the state, and with nodes that are not ahead of it, finds nodes that lead to it
+  pub lead_to_among : (x : Individual) (state : State) (ahead r f r' f' : List StateSet) (lo hi : ℕ) (again : Bool)
+      → WalkedBy s x state ahead → ((b t : ℕ) → Has (states_at r b) t → Has (states_at ahead b) t → (b ≡ x.0) × (t ≡ state.0))
+      → Visited Steps lo hi r f r' f' again
+      → LeadToAmong s ahead x state r'
+  lead_to_among x state ahead r f r' f' lo hi again w own v =
+      let among = stays_ahead x state ahead w in
+      let start : IsSound Steps (Some ahead) x.0 state.0 r = record { at = λ b t p c. let e = own b t p c in rw (e.0, e.1) stop } in
+      let found = rw back.direction at (v.sound (Some ahead) x.0 state.0 among start) in
+      record { leads = λ a u c p. run-back (found.at a u p c) }
+
+  -- and nodes that are not ahead of it are none that lead to it
+  pub among_none : (x : Individual) (state : State) (ahead r : List StateSet) → AreOutside ahead r → LeadToAmong s ahead x state r
+  among_none x state ahead r w = record { leads = λ a u p q. absurd (w.none a u q p) }
 
   pub walked_backward : (last : Individual) (state : State) (r : List StateSet)
       → Found (Move d.direction s.loops.now.rows d.transitions s.edges.now.facts.numbers.now s.edges.now.roles.0) last state r

@@ -14,7 +14,8 @@ use Rattle.theory.specs.Onward.{ends, around, deeper}
 use Rattle.walk.specs.declared.coreachable.PathsBelow.{PathsBelow}
 use Rattle.laws.specs.Loops.{Witness}
 use Rattle.sets.specs.Relations.{concepts_at, relation_at, Relates, Transposed, IsImage, pair}
-use Rattle.walk.specs.CoReachable.{Marked, LeadsOn, Goes, IsLive, AreLeading, Along, ByMark, ByMarks, StepBy, Further, PutAt, PutEach}
+use Rattle.walk.specs.CoReachable.{Marked, LeadsOn, Goes, IsLive, Along, ByMark, ByMarks, StepBy, Further, PutAt, PutEach}
+use Rattle.walk.specs.Covers.{Covers}
 use Rattle.walk.specs.CoReachable.{Small, Adds, AreCoReachable}
 use Rattle.walk.proofs.SetLaws.{none_has, as_number}
 
@@ -194,10 +195,10 @@ steps_put paths rows R live leads concepts h e l i s B low = (to, from)
     }
 
 -- the roles are all that lead anywhere
-pub steps_all : (paths : PathsBelow) (rows : List ConceptSet) (roles : ℕ) → AreLeading paths.transitions.now roles → (s B : ℕ)
+pub steps_all : (paths : PathsBelow) (rows : List ConceptSet) (roles : ℕ) → Covers paths.transitions.now roles → (s B : ℕ)
     → Further paths rows s B ↔ (ByMarks paths rows s B ⊎ Witness (Has roles) (λ R. StepBy paths rows R s B))
 steps_all paths rows roles lead s B = (
-  ⊎_elim (λ m. inl m) (λ w. inr (record { number = w.0; of = lead w.0 s w.1.to w.1.child.role w.1.down.leads; holds = w.1 })),
+  ⊎_elim (λ m. inl m) (λ w. inr (record { number = w.0; of = lead.at w.0 s w.1.to w.1.child.role w.1.down.leads; holds = w.1 })),
   ⊎_elim (λ m. inl m) (λ w. inr (w.number, w.holds)),
 )
 

@@ -15,12 +15,12 @@ use Rattle.walk.specs.declared.components.Component.{Component}
 use Rattle.walk.specs.declared.strides.Strides.{Strides}
 use Rattle.sets.specs.Relations.{states_at}
 use Rattle.walk.specs.Telling.{IsComponent, AreMembers}
-use Rattle.walk.specs.Walks.{WalkedBy, LeadTo}
+use Rattle.walk.specs.Walks.{WalkedBy, LeadToAmong}
 use Rattle.walk.proofs.SetLaws.{within_row}
 
 -- THEOREM: what x reaches is what f reaches, where x leads to f and f to x
 pub same_walk : (s : Strides) (x f : Individual) (start : State) (ahead behind : List StateSet) → WalkedBy s x start ahead
-    → LeadTo s x start behind → Has (states_at ahead f.0) start.0
+    → LeadToAmong s ahead x start behind → Has (states_at ahead f.0) start.0
     → Has (states_at behind f.0) start.0 → WalkedBy s f start ahead
 same_walk s x f start ahead behind w l forth back =
     record {
@@ -30,7 +30,7 @@ same_walk s x f start ahead behind w l forth back =
             record {
               individual = within_row most_individuals ahead f.0 start.0 w.long forth;
               state = q.state;
-              strides = run.join (l.leads f.0 start.0 back) q.strides;
+              strides = run.join (l.leads f.0 start.0 forth back) q.strides;
             },
         λ q. (w.at b t).1
             (let r = (w.at f.0 start.0).0 forth in
@@ -51,7 +51,7 @@ members_none s start ahead n = record { at = λ f e. absurd (none_marked n f.0 e
 
 -- the individual n is marked where both sets have it in the start state
 pub members_more : (s : Strides) (x : Individual) (start : State) (ahead behind : List StateSet) → WalkedBy s x start ahead
-    → LeadTo s x start behind → (n both : ℕ) (members : List Bool) (on : Bool)
+    → LeadToAmong s ahead x start behind → (n both : ℕ) (members : List Bool) (on : Bool)
     → AreMembers s start ahead members → n < length members → IsIntersection (states_at ahead n) (states_at behind n) both
     → IsTrue on ↔ Has both start.0 → AreMembers s start ahead (set members n on)
 members_more s x start ahead behind w l n both members on g h meet is = record { at = λ f e. side f e (ℕ_discrete f.0 n) }

@@ -24,9 +24,9 @@ use Rattle.walk.specs.Asks.{Hit, PairHit, FromHit, PairAsked, FromAsked, Asked, 
 use Rattle.walk.specs.Batches.{most_batch, size_of, ask_in}
 use Rattle.walk.specs.Meant.{AreAnswers}
 use Rattle.sets.specs.Relations.{states_at}
-use Rattle.walk.specs.Sources.{Marked, first_at, AreMarked}
+use Rattle.walk.specs.Sources.{Marked, first_at, AreMarked, InState, IsAt, InOne, IsIn}
 use Rattle.walk.specs.Strides.{Walked}
-use Rattle.walk.specs.Telling.{IsTold, Tells, Answering, InState, IsAt, InOne, IsOut, HitBy, IsHitBy, IsLow}
+use Rattle.walk.specs.Telling.{IsTold, Tells, Answering, HitBy, IsHitBy, IsLow}
 use Rattle.walk.specs.Walks.{ReachesBy}
 use Rattle.walk.proofs.SetLaws.{none_has}
 
@@ -108,11 +108,11 @@ module _ (states : ℕ) (words : List ℕ) where
 
 -- all individuals, one after another
 module _ (words : List (List ℕ)) (sets : List StateSet) where
-  pub out_none : IsOut words sets 0 0
+  pub out_none : IsIn words sets 0 0
   out_none = record { at = λ k. (λ p. absurd (none_has k p), λ p. absurd (let l = p.low in omega arith)) }
 
-  pub out_more : (n word own : ℕ) → IsOut words sets n word → IsAt (states_at sets n) (get_or words n []) own
-      → IsOut words sets (n + 1) (bit_or word own)
+  pub out_more : (n word own : ℕ) → IsIn words sets n word → IsAt (states_at sets n) (get_or words n []) own
+      → IsIn words sets (n + 1) (bit_or word own)
   out_more n word own g w = record { at = λ k. (to k, from k) }
     where
       to : (k : ℕ) → Has (bit_or word own) k → InOne words sets (n + 1) k
@@ -127,8 +127,8 @@ module _ (words : List (List ℕ)) (sets : List StateSet) where
           side (yes e) = let q = p.in_state in inr ((w.at k).1 (rw e at q))
           side (no ne) = let l = p.low in inl ((g.at k).1 (record { to = p.to; low = omega arith; in_state = p.in_state }))
 
-  pub out_end : (n word : ℕ) → IsOut words sets n word → most_individuals ≤ n → n ≤ most_individuals
-      → IsOut words sets most_individuals word
+  pub out_end : (n word : ℕ) → IsIn words sets n word → most_individuals ≤ n → n ≤ most_individuals
+      → IsIn words sets most_individuals word
   out_end n word g h l = let e : n ≡ most_individuals = omega arith in rw e at g
 
 module _ (s : Strides) (firsts : List Individual) (count : ℕ) (q : Question) (words : List (List ℕ))

@@ -5,7 +5,8 @@ use Rattle.kinds.specs.declared.Individual.{Individual}
 use Rattle.kinds.specs.declared.State.{State}
 use Rattle.sets.specs.declared.states.StateSet.{StateSet}
 use Rattle.edges.proofs.EdgeLaws.{edge-role}
-use Rattle.theory.specs.Run.{Run, stop, go}
+use Rattle.theory.specs.Run.{Run, stop, go, one}
+use Rattle.theory.specs.Run as run
 use Rattle.walk.specs.declared.direction.Direction.TheVariants.{Forward}
 use Rattle.walk.specs.declared.directed.Directed.{Directed}
 use Rattle.sets.specs.Rows.{no_states}
@@ -15,7 +16,7 @@ use Rattle.walk.specs.Strides as strides
 use Rattle.walk.specs.Covers.{Covers}
 use Rattle.walk.specs.Directions.{Move, along, loop}
 use Rattle.walk.specs.Guides.{IsForward}
-use Rattle.walk.specs.Passes.{Found}
+use Rattle.walk.specs.Passes.{Found, AreAhead}
 use Rattle.walk.proofs.SetLaws.{same_sets}
 
 -- an edge that leads anywhere is listed
@@ -53,6 +54,20 @@ module _ (loops transitions : List (List StateSet)) (facts : List ℕ) (roles : 
   pub walked_forward : (d : Directed) (first : Individual) (start : State) (r : List StateSet) → IsForward transitions d
       → Found (Move d.direction loops d.transitions facts roles) first start r → Walked loops transitions facts first start r
   walked_forward d first start r f w = found_walked first start r (rw (f.direction, f.same) at w)
+
+  -- what the walk from an individual reaches is ahead of it
+  pub ahead_of : (d : Directed) (first : Individual) (start : State) (r : List StateSet) → IsForward transitions d
+      → Walked loops transitions facts first start r
+      → AreAhead (Move d.direction loops d.transitions facts roles) first.0 start.0 r
+  ahead_of d first start r f w =
+      rw (f.direction, f.same)
+      (record {
+        long = w.long;
+        sound = λ b t p. run-from ((w.at b t).0 p).strides;
+        closed = λ b t c u p m. (w.at c u).1
+            (let q = (w.at b t).0 p in
+            record { individual = q.individual; state = q.state; strides = run.join q.strides (one (move→stride m)) });
+      })
 
 module _ (loops transitions : List (List StateSet)) (facts : List ℕ) where
   -- THEOREM: the contract of a walk leaves one row of sets

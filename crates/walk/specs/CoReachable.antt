@@ -57,11 +57,6 @@ pub record IsLive (finals : ℕ) (rows : List ConceptSet) (c t : ℕ) : Type 0 w
   pub low : t < most_states
   pub goes : Goes finals rows t c
 
--- the roles are at least those by which transitions lead from any state
-abbrev pub AreLeading : List (List StateSet) → ℕ → Type 0
-AreLeading transitions roles =
-    (R s t : ℕ) → R < role_width → Relates (relation_at transitions R) s t → Has roles R
-
 -- there is a mark from s to t, and the way leads on in t
 pub record Along (sheet : List ConceptSet) (finals : ℕ) (rows : List ConceptSet) (s t B : ℕ) : Type 0
   where

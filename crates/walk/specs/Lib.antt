@@ -15,6 +15,7 @@ pub mod Directions
 pub mod Transposed
 pub mod Images
 pub mod Guides
+pub mod Known
 pub mod Passes
 pub mod Sources
 pub mod MultiWalks

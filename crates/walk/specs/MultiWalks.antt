@@ -11,6 +11,7 @@ use Rattle.walk.specs.declared.multi.MultiWalk.{MultiWalk}
 use Rattle.walk.specs.declared.strides.Strides.{Strides}
 use Rattle.sets.specs.Relations.{states_at, relation_at}
 use Rattle.walk.specs.Sources.{most_sources, word_at, Marked, first_at}
+use Rattle.theory.specs.Run.{Run}
 use Rattle.walk.specs.Walks.{StrideBy, ReachesBy}
 
 -- the individuals are tested in groups of this size
@@ -82,6 +83,13 @@ pub record InStates (b m sources k y u : ℕ) : Type 0 where
   pub in_set : Has m u
   pub first : Has sources k
 
+-- at each individual below n, in each state of its set
+pub record InSets (sets : List StateSet) (n sources k y u : ℕ) : Type 0 where
+  pub there : y < n
+  pub low : u < most_states
+  pub in_set : Has (states_at sets y) u
+  pub first : Has sources k
+
 -- where one edge leads from the state t
 abbrev pub ByEdge : Strides → FactEdge → ℕ → ℕ → ℕ → ℕ → ℕ → Type 0
 ByEdge s edge t = InStates edge.to.0 (states_at (relation_at s.transitions.now edge.role.0) t)
@@ -125,6 +133,12 @@ pub record Kept (s : Strides) (old new : MultiWalk) : Type 0 where
   pub walks : (firsts : List Individual) (count start : ℕ) → Walking s firsts count start old
       → Walking s firsts count start new
 
+-- some nodes were led on, or none
+pub record Goes (s : Strides) (old new : MultiWalk) (led : Bool) : Type 0 where
+  pub kept : Kept s old new
+  pub most : left new ≤ left old
+  pub less : led ≡ true → left new < left old
+
 -- a node was led on
 pub record Leads (s : Strides) (old new : MultiWalk) : Type 0 where
   pub kept : Kept s old new
@@ -145,6 +159,11 @@ pub record Swept (s : Strides) (among lo hi : ℕ) (old new : MultiWalk) (led : 
   pub still : led ≡ false → new ≡ old
   pub clean : led ≡ false → IsClean among lo hi old
 
+-- walks go on; where it is not to go on, no individual is behind in a state among some
+pub record Tries (s : Strides) (among : ℕ) (old new : MultiWalk) (again : Bool) : Type 0 where
+  pub kept : Kept s old new
+  pub clean : again ≡ false → (y u : ℕ) → Has (states_at new.behind y) u → Has among u → ⊥
+
 -- no individual is behind in a state among some, or in any
 pub record Exhausts (s : Strides) (among : ℕ) (old new : MultiWalk) : Type 0 where
   pub kept : Kept s old new
@@ -153,6 +172,40 @@ pub record Exhausts (s : Strides) (among : ℕ) (old new : MultiWalk) : Type 0 w
 pub record ExhaustsAll (s : Strides) (old new : MultiWalk) : Type 0 where
   pub kept : Kept s old new
   pub clean : (y u : ℕ) → Has (states_at new.behind y) u → ⊥
+
+-- ---- a jump
+
+-- first k is marked at a node from which strides lead to b in t
+pub record MarkedBefore (s : Strides) (b t : ℕ) (words : List (List ℕ)) (k : ℕ) : Type 0 where
+  pub individual : ℕ
+  pub state : ℕ
+  pub marked : Marked words k individual state
+  pub leads : Run (StrideBy s) individual state b t
+
+-- so is each first of a word
+pub record LeadThere (s : Strides) (b t : ℕ) (words : List (List ℕ)) (word : ℕ) : Type 0 where
+  pub each : (k : ℕ) → Has word k → MarkedBefore s b t words k
+
+-- the state t of the individual b may be behind no longer
+pub record CatchesUp (b t : ℕ) (caught_up : Bool) (old new : List StateSet) : Type 0 where
+  pub many : length new ≡ length old
+  pub comes : (y u : ℕ) → Has (states_at new y) u → Has (states_at old y) u
+  pub stays : (y u : ℕ) → Has (states_at old y) u
+      → Has (states_at new y) u ⊎ ((y ≡ b) × (u ≡ t) × (caught_up ≡ true))
+
+-- first k was marked at the node, which is still behind if it was
+pub record Stays (old new : MultiWalk) (k y u : ℕ) : Type 0 where
+  pub marked : Marked old.words k y u
+  pub behind : Has (states_at old.behind y) u → Has (states_at new.behind y) u
+
+-- The marks of P are added, and each other mark stays. Only where all marks of a node are of P may
+-- it be behind no longer
+pub record Settled (P : ℕ → ℕ → ℕ → Type 0) (old new : MultiWalk) : Type 0 where
+  pub ready : Ready new
+  pub all : new.all ≡ old.all
+  pub keeps : (k y u : ℕ) → Marked old.words k y u → Marked new.words k y u
+  pub has : (k y u : ℕ) → P k y u → Marked new.words k y u
+  pub others : (k y u : ℕ) → Marked new.words k y u → P k y u ⊎ Stays old new k y u
 
 -- ---- the start
 

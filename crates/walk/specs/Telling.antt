@@ -17,7 +17,7 @@ use Rattle.walk.specs.declared.strides.Strides.{Strides}
 use Rattle.walk.specs.Asks.{IsAnswer}
 use Rattle.walk.specs.Batches.{most_batch, size_of, ask_in}
 use Rattle.sets.specs.Relations.{states_at}
-use Rattle.walk.specs.Sources.{most_sources, first_at, AreMarked}
+use Rattle.walk.specs.Sources.{most_sources, first_at, AreMarked, InState, InOne, IsIn}
 use Rattle.walk.specs.Walks.{WalkedBy}
 
 -- the number of the first individual of ask j
@@ -93,27 +93,9 @@ IsPicked g p k j = (j ≡ k) × HasPlace g p j
 abbrev pub OfPicked : Asking → Picked → ℕ → ℕ → Type 0
 OfPicked g p n j = (j < n) × HasPlace g p j
 
--- first k is in a state of the set
-pub record InState (states : ℕ) (words : List ℕ) (k : ℕ) : Type 0 where
-  pub state : ℕ
-  pub has : Has states state
-  pub first : Has (slice_index words state) k
-
-pub record IsAt (states : ℕ) (words : List ℕ) (word : ℕ) : Type 0 where
-  pub at : (k : ℕ) → Has word k ↔ InState states words k
-
 -- at an individual
 pub record IsAtSecond (words : List (List ℕ)) (states second word : ℕ) : Type 0 where
   pub at : (k : ℕ) → Has word k ↔ InState states (slice_index_or words second []) k
-
--- first k is at one of the individuals below n, in a state of its set
-pub record InOne (words : List (List ℕ)) (sets : List StateSet) (n k : ℕ) : Type 0 where
-  pub to : ℕ
-  pub low : to < n
-  pub in_state : InState (states_at sets to) (slice_index_or words to []) k
-
-pub record IsOut (words : List (List ℕ)) (sets : List StateSet) (n word : ℕ) : Type 0 where
-  pub at : (k : ℕ) → Has word k ↔ InOne words sets n k
 
 -- the marks make the answer to an ask of first k yes
 abbrev pub HitBy : List (List ℕ) → Question → ℕ → Ask → Type 0
@@ -135,4 +117,4 @@ pub record AreMarksOf (g : Asking) (m : Marks) : Type 0 where
   pub low : IsLow g.question
   pub marked : AreMarked g.strides m.picked.now.firsts m.picked.now.count g.question.start
       m.walk.now.words
-  pub out : IsOut m.walk.now.words g.question.accepting.now.rows most_individuals m.out
+  pub out : IsIn m.walk.now.words g.question.accepting.now.rows most_individuals m.out

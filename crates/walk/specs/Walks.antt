@@ -33,3 +33,9 @@ pub record LeadTo (s : Strides) (last : Individual) (state : State) (r : List St
   where
     pub long : length r ≡ most_individuals
     pub leads : (a u : ℕ) → Has (states_at r a) u → Run (StrideBy s) a u last.0 state.0
+
+-- those nodes of r that are ahead lead to the last individual in a state
+pub record LeadToAmong (s : Strides) (ahead : List StateSet) (last : Individual) (state : State)
+    (r : List StateSet) : Type 0 where
+  pub leads : (a u : ℕ) → Has (states_at ahead a) u → Has (states_at r a) u
+      → Run (StrideBy s) a u last.0 state.0

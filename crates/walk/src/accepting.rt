@@ -57,7 +57,8 @@ fn leads_on(onward: &CoReachable, s: State, concepts: ConceptSet) -> bool
     onward[s.0 as usize].intersects(concepts)
 }
 
-// The same of an individual, by what all accept that have a concept, and by tests in the states that are left. One with no concept accepts the least.
+// The states in which a path may end at an individual or below it, by what all accept that have a concept, and by tests in the states that are
+// left. One with no concept accepts the least.
 fn accepting_beside(
     least: StateSet,
     shared: StateSet,

@@ -6,19 +6,21 @@ ghost use Rattle.kinds.specs.Kinds.{most_individuals};
 ghost use Rattle.sets.specs.Bits.{Has};
 ghost use Rattle.walk.specs.Asks.{Hit, FromHit};
 ghost use Rattle.walk.specs.Guides.{IsBackward};
+ghost use Rattle.walk.specs.Known.{AreKnown};
 ghost use Rattle.walk.specs.Batches.{most_batch, size_of, ask_in};
-ghost use Rattle.walk.specs.Sources.{most_sources, AreMarked};
+ghost use Rattle.walk.specs.Sources.{most_sources, AreMarked, IsIn};
 ghost use Rattle.walk.specs.Telling.{Tells, Answering, IsComponent, OfMember, OfMembers};
 ghost use Rattle.walk.specs.Telling.{Picks, IsPicked, OfPicked, AreMarksOf};
-ghost use Rattle.walk.specs.Telling.{IsAt, IsAtSecond, IsOut, IsHitBy, IsLow};
+ghost use Rattle.walk.specs.Telling.{IsAtSecond, IsHitBy, IsLow};
 
 use crate::Sets;
 use crate::asking::Asking;
 use crate::batch::{Answers, BATCH, Batch};
 use crate::components::Component;
 use crate::directed::Directed;
-use crate::hints::{FEW, Search, graph, is_on_cycle, levels};
-use crate::multi::{Firsts, Levels, MultiWalk, SOURCES, Sources, word_of};
+use crate::hints::{FEW, Find, Search, graph, is_on_cycle, levels};
+use crate::known::Known;
+use crate::multi::{Firsts, Levels, MultiWalk, SOURCES, Sources, at};
 use crate::question::Question;
 use kinds::{Ask, Individual, State};
 use sets::StateSet;
@@ -26,14 +28,17 @@ use sets::StateSet;
 // The number after that of the set of all states that a collection may declare.
 const LOW_END: u32 = 1 << State::NUMBERS;
 
+/// A place among first individuals that walk together, of which there are 128.
+pub type Place = u8;
+
 /// First individuals that walk together, those in the places below the count, each mostly once; and for each individual, and for each ask
 /// of the batch, the place in which it may be found there, which is a hint.
 #[derive(Clone, Copy)]
 pub struct Picked {
     pub firsts: Firsts,
     pub count: usize,
-    pub places: [usize; BATCH],
-    place_of: [usize; Individual::NUMBERS],
+    pub places: [Place; BATCH],
+    place_of: [Place; Individual::NUMBERS],
 }
 
 // How many asks of the batch have no answer: a hint.
@@ -113,31 +118,47 @@ fn answer_each(answers: &mut Answers, asking: &Asking)
     }
 }
 
-// The asks of the component of ask k; how many were answered, which is a hint.
-fn answer_component(answers: &mut Answers, asking: &Asking, against: &Directed, k: usize) -> usize
+// The asks of the component of ask k, which is known from then on. What the search found there is a hint.
+fn answer_component(
+    answers: &mut Answers,
+    asking: &Asking,
+    against: &Directed,
+    known: &mut Known,
+    k: usize,
+) -> Find
     requires against { IsBackward asking.now.strides.transitions.now against.now }
+    requires known { AreKnown asking.now.strides asking.now.question.start known.old }
     requires before { Answering asking.now 0 answers.old }
-    ensures { Answering asking.now 0 answers.new }
+    ensures known { AreKnown asking.now.strides asking.now.question.start known.new }
+    ensures after { Answering asking.now 0 answers.new }
 {
     let Some(ask) = asking.batch.get(k) else {
-        return 0;
+        return Find::NONE;
     };
     let open = open_count(answers, &asking.batch);
-    let component = Component::of(asking, against, ask.first());
+    let component = Component::of(asking, against, known, ask.first());
+    let met = known.is_met(&component.reached, asking.question.start);
+    known.keep(&component);
     tell_members(answers, asking, &component);
-    open.saturating_sub(open_count(answers, &asking.batch))
+    Find {
+        answered: open.saturating_sub(open_count(answers, &asking.batch)),
+        met,
+    }
 }
 
-// The asks of some components, while enough are answered by each.
+// The asks of some components, while enough are answered by each. It is never put into its caller, so that what is known of components is on
+// the stack at no other time.
+#[inline(never)]
 fn answer_components(answers: &mut Answers, asking: &Asking)
     requires { Answering asking.now 0 answers.old }
     ensures { Answering asking.now 0 answers.new }
 {
     let against = Directed::backward(asking.strides.transitions);
+    let mut known = Known::new();
     let mut search = Search::new();
     for k in 0..asking.batch.len() {
         if answers[k].is_none() && search.goes_on() {
-            search.note(answer_component(answers, asking, &against, k));
+            search.note(answer_component(answers, asking, &against, &mut known, k));
         }
     }
 }
@@ -163,16 +184,17 @@ impl Picked {
     }
 
     // A place in which the individual may have been picked; whether it was is tested where asks are told.
-    fn place_of(&self, first: Individual) -> usize {
+    fn place_of(&self, first: Individual) -> Place {
         if first.0 >= Individual::MOST {
-            return SOURCES;
+            return SOURCES as Place;
         }
         self.place_of[first.0 as usize]
     }
 
     // Whether the individual was picked in a place.
-    fn has_at(&self, place: usize, first: Individual) -> bool {
-        place < self.count && place < SOURCES && self.firsts[place] == first
+    fn has_at(&self, place: Place, first: Individual) -> bool {
+        let at = place as usize;
+        at < self.count && at < SOURCES && self.firsts[at] == first
     }
 
     // The individual is picked in the next place, if there is room; those that were picked stay.
@@ -185,7 +207,7 @@ impl Picked {
             return;
         }
         if first.0 < Individual::MOST {
-            self.place_of[first.0 as usize] = at;
+            self.place_of[first.0 as usize] = at as Place;
         }
         self.firsts[at] = first;
         self.count = at + 1;
@@ -224,31 +246,9 @@ fn pick(answers: &Answers, asking: &Asking, ask: Ask, k: usize) -> Picked
     picked
 }
 
-// The firsts in the states of a set.
-fn at(words: &[Sources; State::NUMBERS], states: StateSet) -> Sources
-    ensures { IsAt states.0 words.now result }
-{
-    let mut out = 0;
-    for s in states.iter() {
-        out |= word_of(words, s);
-    }
-    out
-}
-
-// The firsts that reach an individual in an accepts of it.
-fn at_accepting(walk: &MultiWalk, accepting: &Sets) -> Sources
-    ensures { IsOut walk.now.words accepting.now most_individuals result }
-{
-    let mut out = 0;
-    for b in 0..Individual::NUMBERS {
-        out |= at(&walk.words[b], accepting[b]);
-    }
-    out
-}
-
 // The firsts for which the answer to the ask is yes; out are those that reach an accepts.
 fn hit_by(walk: &MultiWalk, question: Question, ask: Ask, out: Sources) -> Sources
-    requires { IsOut walk.now.words question.accepting.now.rows most_individuals out }
+    requires { IsIn walk.now.words question.accepting.now.rows most_individuals out }
     ensures { IsHitBy walk.now.words question.entry ask result }
 {
     match ask {
@@ -286,12 +286,13 @@ struct Marks<'r> {
 // The answer to ask j, where the walk in its place begins at its first.
 fn tell_picked(answers: &mut Answers, asking: &Asking, marks: &Marks, j: usize)
     requires { AreMarksOf asking.now marks.now }
-    ensures { Tells asking.now (IsPicked asking.now marks.now.picked.now j) answers.old answers.new }
+    ensures { Tells asking.now
+        (IsPicked asking.now marks.now.picked.now j) answers.old answers.new }
 {
     let Some(ask) = asking.batch.get(j) else {
         return;
     };
-    let i = marks.picked.places[j];
+    let i = marks.picked.places[j] as usize;
     if i >= marks.picked.count || ask.first() != marks.picked.firsts[i] {
         return;
     }
@@ -311,7 +312,7 @@ fn tell_all_picked(answers: &mut Answers, asking: &Asking, picked: &Picked, walk
     let marks = Marks {
         picked,
         walk,
-        out: at_accepting(walk, &asking.question.accepting.rows),
+        out: walk.marked_in(&asking.question.accepting.rows),
     };
     for j in 0..asking.batch.len() {
         tell_picked(answers, asking, &marks, j);
@@ -334,13 +335,7 @@ fn answer_together(answers: &mut Answers, asking: &Asking, levels: &Levels, k: u
     }
     let picked = pick(answers, asking, ask, k);
     let mut walk = MultiWalk::new();
-    walk.walk(
-        &asking.strides,
-        &picked.firsts,
-        picked.count,
-        asking.question.start,
-        levels,
-    );
+    walk.walk(asking, &picked.firsts, picked.count, levels);
     tell_all_picked(answers, asking, &picked, &walk);
 }
 

@@ -1,13 +1,14 @@
 // Components: first individuals that lead to each other in the start state reach the same nodes, so one walk tells the answers of all of them.
 
 ghost use Rattle.walk.specs.Telling.{AreMembers};
-ghost use Rattle.walk.specs.Walks.{WalkedBy, LeadTo};
+ghost use Rattle.walk.specs.Walks.{WalkedBy, LeadToAmong};
 
 use crate::Sets;
 use crate::asking::Asking;
 use crate::directed::Directed;
+use crate::known::Known;
 use crate::strides::Strides;
-use crate::walk::{backward, forward};
+use crate::walk::{backward_among, forward, forward_by_known};
 use kinds::{Individual, State};
 
 /// Of each individual whether it is a member.
@@ -24,7 +25,7 @@ pub struct Component {
 // The individuals that x reaches in the start state, and that reach x in it.
 fn members(strides: &Strides, x: Individual, start: State, ahead: &Sets, behind: &Sets) -> Members
     requires ahead { WalkedBy strides.now x start ahead.now }
-    requires behind { LeadTo strides.now x start behind.now }
+    requires behind { LeadToAmong strides.now ahead.now x start behind.now }
     ensures { AreMembers strides.now start ahead.now result }
 {
     let mut members = [false; Individual::NUMBERS];
@@ -37,6 +38,7 @@ fn members(strides: &Strides, x: Individual, start: State, ahead: &Sets, behind:
 impl Component {
     ghost use Rattle.std.specs.Prelude.{◌≡◌, ◌↔◌, IsTrue};
     ghost use Rattle.walk.specs.Guides.{IsBackward};
+    ghost use Rattle.walk.specs.Known.{AreKnown};
     ghost use Rattle.walk.specs.Telling.{IsMember, IsComponent};
 
     /// The first individual alone.
@@ -57,15 +59,22 @@ impl Component {
     }
 
     /// The first individual, and all others that lead to it and to which it leads.
-    pub(crate) fn of(asking: &Asking, against: &Directed, first: Individual) -> Component
-        requires { IsBackward asking.now.strides.transitions.now against.now }
+    pub(crate) fn of(
+        asking: &Asking,
+        against: &Directed,
+        known: &Known,
+        first: Individual,
+    ) -> Component
+        requires against { IsBackward asking.now.strides.transitions.now against.now }
+        requires known { AreKnown asking.now.strides asking.now.question.start known.now }
         ensures first { result.first ≡ first }
         ensures component { IsComponent asking.now.strides asking.now.question.start result }
     {
+        let strides = &asking.strides;
         let start = asking.question.start;
-        let reached = forward(&asking.strides, asking.forward, first, start);
-        let behind = backward(&asking.strides, against, first, start);
-        let others = members(&asking.strides, first, start, &reached, &behind);
+        let reached = forward_by_known(strides, asking.forward, known, first, start);
+        let behind = backward_among(strides, against, &reached, first, start);
+        let others = members(strides, first, start, &reached, &behind);
         Component {
             first,
             others,

@@ -4,10 +4,11 @@ ghost use Rattle.std.specs.Prelude.{◌≡◌, ◌≢◌, ◌↔◌, ◌+◌, �
 ghost use Rattle.kinds.specs.Kinds.{most_states, base, flip};
 ghost use Rattle.sets.specs.Bits.{Has, IsSetOf, concept_width, role_width};
 ghost use Rattle.sets.specs.Relations.{concepts_at, relation_at, Relates};
-ghost use Rattle.walk.specs.CoReachable.{Goes, IsLive, AreLeading, Along, ByMarks, PutAt, PutEach, StepBy, Further, Adds, AreCoReachable};
+ghost use Rattle.walk.specs.CoReachable.{Goes, IsLive, Along, ByMarks, PutAt, PutEach, StepBy, Further, Adds, AreCoReachable};
+ghost use Rattle.walk.specs.Covers.{Covers};
 
-use crate::directed::ends_of;
 use crate::question::final_states;
+use crate::strides::leading_roles;
 use kinds::{Concept, SignedRole, State};
 use sets::{ConceptSet, RoleSet, Sheet, StateSet, Transitions, preimage};
 use tables::Table;
@@ -76,18 +77,6 @@ fn live_to(paths: &PathsBelow, now: &CoReachable, back: SignedRole) -> StateSet
     out
 }
 
-// The roles by which transitions lead from any state.
-fn leading_roles(transitions: &Transitions) -> RoleSet
-    ensures { AreLeading transitions.now result.0 }
-{
-    let mut out = RoleSet::EMPTY;
-    for r in 0..SignedRole::NUMBERS {
-        let ends = ends_of(&transitions[r]);
-        out.insert_if(SignedRole(r as u16), !ends.is_empty());
-    }
-    out
-}
-
 // The concepts with a mark from s to t, from which the way leads on in t.
 fn along(paths: &PathsBelow, now: &CoReachable, s: usize, t: usize) -> ConceptSet
     requires from { s < most_states }
@@ -101,7 +90,7 @@ fn along(paths: &PathsBelow, now: &CoReachable, s: usize, t: usize) -> ConceptSe
     marked.intersection(now[t])
 }
 
-// The same for marks from s to any state.
+// The concepts with a mark from s to some state, from which the way leads on there.
 fn by_marks(paths: &PathsBelow, now: &CoReachable, s: usize) -> ConceptSet
     requires { s < most_states }
     ensures { IsSetOf (ByMarks paths.now now.now s) result.0 }
@@ -135,7 +124,7 @@ fn put_at(next: &mut CoReachable, s: State, concepts: ConceptSet)
     next[at] = next[at].union(concepts);
 }
 
-// The same for each of some states.
+// The concepts are put into the set of each of some states.
 fn put_each(next: &mut CoReachable, states: StateSet, concepts: ConceptSet)
     ensures { Adds (PutEach (Has states.0) concepts.0) next.old next.new }
 {
@@ -158,7 +147,7 @@ fn put_steps(paths: &PathsBelow, now: &CoReachable, next: &mut CoReachable, role
 
 // What one mark or one step down adds.
 fn further(paths: &PathsBelow, roles: RoleSet, now: &CoReachable) -> CoReachable
-    requires { AreLeading paths.now.transitions.now roles.0 }
+    requires { Covers paths.now.transitions.now roles.0 }
     ensures { Adds (Further paths.now now.now) now.now result }
 {
     let mut next = with_marks(paths, now);

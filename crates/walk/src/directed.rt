@@ -31,7 +31,7 @@ pub(crate) fn ends_of(relation: &Relation) -> StateSet
     out
 }
 
-// The same of each role.
+// For each role all states to which its transitions lead.
 fn ends_of_each(transitions: &Transitions) -> [StateSet; SignedRole::NUMBERS]
     ensures { AreEnds transitions.now result }
 {
@@ -63,15 +63,13 @@ fn inverse(role: usize) -> usize
     SignedRole(role as u16).inverse().0 as usize
 }
 
-// For each role the transitions of its inverse, transposed.
-fn transposed(transitions: &Transitions) -> Transitions
-    ensures { AreTransposed transitions.now result }
+// For each role the transitions of its inverse, transposed. They are made where they stand: as a result they would be copied, on the stack.
+fn transpose_all(out: &mut Transitions, transitions: &Transitions)
+    ensures { AreTransposed transitions.now out.new }
 {
-    let mut out = [[StateSet::EMPTY; State::NUMBERS]; SignedRole::NUMBERS];
     for r in 0..SignedRole::NUMBERS {
         out[r] = transpose(&transitions[inverse(r)]);
     }
-    out
 }
 
 impl Directed {
@@ -94,11 +92,12 @@ impl Directed {
     pub(crate) fn backward(transitions: &Transitions) -> Directed
         ensures { IsBackward transitions.now result }
     {
-        let transitions = transposed(transitions);
-        let ends = ends_of_each(&transitions);
+        let mut transposed = [[StateSet::EMPTY; State::NUMBERS]; SignedRole::NUMBERS];
+        transpose_all(&mut transposed, transitions);
+        let ends = ends_of_each(&transposed);
         Directed {
             direction: Direction::Backward,
-            transitions,
+            transitions: transposed,
             ends,
         }
     }

@@ -12,13 +12,20 @@ use sets::{Relation, StateSet, Transitions};
 /// With fewer open asks than this each first individual is walked from alone.
 pub const FEW: usize = 24;
 
-// A component is worth its two walks where it answers so many asks.
-const WORTH: usize = 5;
+// A component is worth its two walks where it answers so many asks, or where the first of them meets one that is known, so that it is short.
+const WORTH: usize = 3;
 
 // The search for components ends after so many misses, and one more for each so many asks that were answered.
 const MISSES: usize = 2;
 
 const SHARE: usize = 24;
+
+/// What was found in one component: how many asks it answered, and whether the walk from its first met one that is known.
+#[derive(Clone, Copy)]
+pub struct Find {
+    pub answered: usize,
+    pub met: bool,
+}
 
 /// How the search for components goes.
 #[derive(Clone, Copy)]
@@ -34,7 +41,7 @@ fn join_row(graph: &mut Relation, row: &Relation) {
     }
 }
 
-// The same, but for what leads from a state back to itself.
+// Adds each set of a row but for its own state.
 fn join_onward(graph: &mut Relation, row: &Relation) {
     for s in 0..State::NUMBERS {
         let own = StateSet::only(State(s as u16));
@@ -150,6 +157,13 @@ pub(crate) fn is_on_cycle(graph: &Relation, s: State) -> bool {
     s.0 < State::MOST && graph[s.0 as usize].contains(s)
 }
 
+impl Find {
+    pub(crate) const NONE: Find = Find {
+        answered: 0,
+        met: false,
+    };
+}
+
 impl Search {
     pub(crate) fn new() -> Search {
         Search {
@@ -163,12 +177,12 @@ impl Search {
         self.misses < MISSES + self.found / SHARE
     }
 
-    /// A component answered so many asks.
-    pub(crate) fn note(&mut self, answered: usize) {
-        if answered < WORTH {
-            self.misses = self.misses.saturating_add(1);
+    /// One component was looked through.
+    pub(crate) fn note(&mut self, find: Find) {
+        if find.met || find.answered >= WORTH {
+            self.found = self.found.saturating_add(find.answered);
         } else {
-            self.found = self.found.saturating_add(answered);
+            self.misses = self.misses.saturating_add(1);
         }
     }
 }

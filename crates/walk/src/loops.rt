@@ -38,7 +38,7 @@ fn loops_from(sheet: &Sheet, s: usize, concepts: ConceptSet) -> StateSet
     out
 }
 
-// The same from each state.
+// For each state the states to which loops lead from it by the concepts.
 fn loops_by(sheet: &Sheet, concepts: ConceptSet) -> Relation
     ensures { IsLoopRow sheet.now concepts.0 result }
 {

@@ -4,11 +4,15 @@ ghost use Rattle.std.specs.Prelude.{◌≡◌, ◌<◌, ◌≤◌, ℕ, length, 
 ghost use Rattle.kinds.specs.Kinds.{most_individuals, most_states};
 ghost use Rattle.sets.specs.Bits.{state_width, Has, Inserts};
 ghost use Rattle.sets.specs.Relations.{states_at};
-ghost use Rattle.walk.specs.Sources.{most_sources};
-ghost use Rattle.walk.specs.MultiWalks.{Fills, AreRows};
+ghost use Rattle.walk.specs.Sources.{most_sources, IsAt};
+ghost use Rattle.walk.specs.MultiWalks.{Fills, CatchesUp, AreRows};
 
 use crate::Sets;
+use crate::asking::Asking;
+use crate::directed::Directed;
+use crate::order::Order;
 use crate::strides::Strides;
+use crate::walk::{backward, forward};
 use edges::FactEdge;
 use kinds::{Individual, SignedRole, State};
 use sets::{Relation, StateSet};
@@ -32,6 +36,12 @@ const GROUPS: usize = Individual::NUMBERS / GROUP;
 
 const EVERY_STATE: StateSet = StateSet(u32::MAX);
 
+// Before a class of more states than this is swept, a jump is tried: a hint.
+const FEW_STATES: u32 = 4;
+
+// So many sweeps of a class are made before an order of the individuals is: a hint.
+const FEW_SWEEPS: usize = 2;
+
 /// Walks of many firsts under way. A node is behind where it was marked since its strides were followed; it is full where all firsts
 /// reach it, so that nothing can be new there.
 #[derive(Clone, Copy)]
@@ -42,14 +52,33 @@ pub struct MultiWalk {
     all: Sources,
 }
 
+// A node, and how many firsts reach it: none where no node was found.
+#[derive(Clone, Copy)]
+struct Hub {
+    individual: Individual,
+    state: State,
+    firsts: u32,
+}
+
 // The word of the state s; a state past the last has none.
-pub(crate) fn word_of(words: &[Sources; State::NUMBERS], s: State) -> Sources
+fn word_of(words: &[Sources; State::NUMBERS], s: State) -> Sources
     ensures { result ≡ slice_index words.now s.0 }
 {
     if s.0 >= State::MOST {
         return 0;
     }
     words[s.0 as usize]
+}
+
+// The firsts in the states of a set.
+pub(crate) fn at(words: &[Sources; State::NUMBERS], states: StateSet) -> Sources
+    ensures { IsAt states.0 words.now result }
+{
+    let mut out = 0;
+    for s in states.iter() {
+        out |= word_of(words, s);
+    }
+    out
 }
 
 // The states to which s leads; a state past the last leads to none.
@@ -80,6 +109,17 @@ fn fill(full: &mut Sets, b: usize, t: State, all_reach: bool)
         return;
     }
     full[b].insert(t);
+}
+
+// The node of b in t is no longer behind, where it has caught up.
+fn catch_up(behind: &mut Sets, b: usize, t: State, caught_up: bool)
+    requires { b < most_individuals }
+    ensures { CatchesUp b t.0 caught_up behind.old behind.new }
+{
+    if !caught_up {
+        return;
+    }
+    behind[b] = behind[b].minus(StateSet::only(t));
 }
 
 // A row has a set for each state, as its type says. Nothing is done.
@@ -116,10 +156,11 @@ impl MultiWalk {
     ghost use Rattle.kinds.specs.Kinds.{most_individuals, most_roles};
     ghost use Rattle.sets.specs.Bits.{Has};
     ghost use Rattle.sets.specs.Relations.{states_at};
-    ghost use Rattle.walk.specs.Sources.{most_sources, AreMarked};
+    ghost use Rattle.walk.specs.Sources.{most_sources, AreMarked, IsIn};
     ghost use Rattle.walk.specs.Walks.{EdgeOf};
-    ghost use Rattle.walk.specs.MultiWalks.{group, Within, Ready, Grown, At, InStates, ByEdge, ByEdges};
-    ghost use Rattle.walk.specs.MultiWalks.{Leads, Behind, Swept, Exhausts, ExhaustsAll, IsUnmarked, StartsAt, Begun};
+    ghost use Rattle.walk.specs.MultiWalks.{group, Within, Ready, Grown, At, InStates, InSets, ByEdge, ByEdges};
+    ghost use Rattle.walk.specs.MultiWalks.{Kept, Leads, Behind, Swept, Goes, Tries, Exhausts, ExhaustsAll};
+    ghost use Rattle.walk.specs.MultiWalks.{LeadThere, Settled, IsUnmarked, StartsAt, Begun};
 
     const NONE: MultiWalk = MultiWalk {
         words: [[0; State::NUMBERS]; Individual::NUMBERS],
@@ -264,26 +305,189 @@ impl MultiWalk {
         led
     }
 
+    // Sweeps, until no individual is behind in a state among some, or a few were made; whether one may still be behind.
+    fn sweep_a_few(&mut self, strides: &Strides, among: StateSet) -> bool
+        requires ready { Ready self.old }
+        ensures { Tries strides.now among.0 self.old self.new result }
+    {
+        for _ in 0..FEW_SWEEPS {
+            if !self.sweep(strides, among) {
+                return false;
+            }
+        }
+        true
+    }
+
+    // One individual is visited, if it has a row.
+    fn visit_one(&mut self, strides: &Strides, a: Individual, among: StateSet) -> bool
+        requires ready { Ready self.old }
+        ensures { Goes strides.now self.old self.new result }
+    {
+        if a.0 >= Individual::MOST {
+            return false;
+        }
+        self.visit(strides, a.0 as usize, among)
+    }
+
+    // The individuals are visited along an order, and back.
+    fn sweep_along(&mut self, strides: &Strides, order: &Order, among: StateSet) -> bool
+        requires ready { Ready self.old }
+        ensures { Goes strides.now self.old self.new result }
+    {
+        let mut led = false;
+        for turn in 0..Order::TURNS {
+            led |= self.visit_one(strides, order.at(turn), among);
+        }
+        led
+    }
+
+    // Sweeps along an order, until none leads on. An order is a hint: where the numbers of neighbours are far apart, fewer sweeps along it
+    // are needed. It is never put into its caller, so that the order is on the stack while it is used, and at no other time.
+    #[inline(never)]
+    fn go_along(&mut self, strides: &Strides, among: StateSet)
+        requires ready { Ready self.old }
+        ensures { Kept strides.now self.old self.new }
+    {
+        let order = Order::new(strides);
+        while self.sweep_along(strides, &order, among) {}
+    }
+
     // Sweeps, until no individual is behind in a state among some.
     fn exhaust(&mut self, strides: &Strides, among: StateSet)
         requires ready { Ready self.old }
         ensures { Exhausts strides.now among.0 self.old self.new }
     {
-        if among.is_empty() {
+        if among.is_empty() || !self.sweep_a_few(strides, among) {
             return;
         }
+        self.go_along(strides, among);
         while self.sweep(strides, among) {}
     }
 
-    // Sweeps level by level, and last over every state: so whatever the levels are, no node is behind at the end.
-    fn exhaust_all(&mut self, strides: &Strides, levels: &Levels)
+    // The hub, or a node of the individual a that is behind in a state among some, where more firsts reach it.
+    fn better_hub(&self, hub: Hub, a: usize, among: StateSet) -> Hub
+        requires { a < most_individuals }
+    {
+        let mut best = hub;
+        for state in self.behind[a].intersection(among).iter() {
+            let firsts = word_of(&self.words[a], state).count_ones();
+            if firsts > best.firsts {
+                best = Hub {
+                    individual: Individual(a as u16),
+                    state,
+                    firsts,
+                };
+            }
+        }
+        best
+    }
+
+    // Of the nodes that are behind in a state among some, one that most firsts reach: a hint.
+    fn hub(&self, among: StateSet) -> Hub {
+        let mut best = Hub {
+            individual: Individual(0),
+            state: State(0),
+            firsts: 0,
+        };
+        for a in 0..Individual::NUMBERS {
+            best = self.better_hub(best, a, among);
+        }
+        best
+    }
+
+    // The firsts that are marked at some individual in a state of its set.
+    pub(crate) fn marked_in(&self, sets: &Sets) -> Sources
+        ensures { IsIn self.now.words sets.now most_individuals result }
+    {
+        let mut out = 0;
+        for b in 0..Individual::NUMBERS {
+            out |= at(&self.words[b], sets[b]);
+        }
+        out
+    }
+
+    // The firsts that are marked at nodes which lead to the hub. It is never put into its caller, so that what a walk backward goes by is on
+    // the stack while it is needed, and at no other time.
+    #[inline(never)]
+    fn leading_to(&self, strides: &Strides, hub: Hub) -> Sources
+        ensures { LeadThere strides.now hub.individual.0 hub.state.0 self.now.words result }
+    {
+        let against = Directed::backward(strides.transitions);
+        let behind = backward(strides, &against, hub.individual, hub.state);
+        self.marked_in(&behind)
+    }
+
+    // Some firsts reach the node of b in t, and all nodes to which it leads: so it does not become behind. Where no other first reaches it, it
+    // is behind no longer.
+    fn settle(&mut self, b: usize, t: State, sources: Sources)
+        requires row { b < most_individuals }
         requires ready { Ready self.old }
-        ensures { ExhaustsAll strides.now self.old self.new }
+        requires part { Within sources self.old.all }
+        ensures { Settled (At b t.0 sources) self.old self.new }
+    {
+        if t.0 >= State::MOST {
+            return;
+        }
+        let s = t.0 as usize;
+        let new = self.words[b][s] | sources;
+        self.words[b][s] = new;
+        let caught_up = new == sources;
+        catch_up(&mut self.behind, b, t, caught_up);
+        let all_reach = self.all == new;
+        fill(&mut self.full, b, t, all_reach);
+    }
+
+    // Some firsts reach the individual b in each state of a set, and all nodes to which these lead.
+    fn settle_at(&mut self, b: usize, states: StateSet, sources: Sources)
+        requires row { b < most_individuals }
+        requires ready { Ready self.old }
+        requires part { Within sources self.old.all }
+        ensures { Settled (InStates b states.0 sources) self.old self.new }
+    {
+        for t in states.iter() {
+            self.settle(b, t, sources);
+        }
+    }
+
+    // Some firsts reach each individual in each state of its set, and all nodes to which these lead.
+    fn settle_all(&mut self, reached: &Sets, sources: Sources)
+        requires ready { Ready self.old }
+        requires part { Within sources self.old.all }
+        ensures { Settled (InSets reached.now most_individuals sources) self.old self.new }
+    {
+        for b in 0..Individual::NUMBERS {
+            self.settle_at(b, reached[b], sources);
+        }
+    }
+
+    // Where the states among some are many, all firsts that lead to one hub are put at all nodes that it reaches, by two walks of one node
+    // in place of many sweeps. What it reaches is closed under strides, so no node becomes behind by that.
+    fn jump(&mut self, asking: &Asking, among: StateSet)
+        requires ready { Ready self.old }
+        ensures { Kept asking.now.strides self.old self.new }
+    {
+        if among.len() <= FEW_STATES {
+            return;
+        }
+        let hub = self.hub(among);
+        if hub.firsts == 0 {
+            return;
+        }
+        let sources = self.leading_to(&asking.strides, hub);
+        let reached = forward(&asking.strides, asking.forward, hub.individual, hub.state);
+        self.settle_all(&reached, sources);
+    }
+
+    // Sweeps level by level, and last over every state: so whatever the levels are, no node is behind at the end.
+    fn exhaust_all(&mut self, asking: &Asking, levels: &Levels)
+        requires ready { Ready self.old }
+        ensures { ExhaustsAll asking.now.strides self.old self.new }
     {
         for i in 0..State::NUMBERS {
-            self.exhaust(strides, levels[i]);
+            self.jump(asking, levels[i]);
+            self.exhaust(&asking.strides, levels[i]);
         }
-        self.exhaust(strides, EVERY_STATE);
+        self.exhaust(&asking.strides, EVERY_STATE);
     }
 
     // First k is marked in the start state, if both have a row.
@@ -313,20 +517,14 @@ impl MultiWalk {
     }
 
     /// Which of the firsts below the count reach each node from the start state.
-    pub(crate) fn walk(
-        &mut self,
-        strides: &Strides,
-        firsts: &Firsts,
-        count: usize,
-        start: State,
-        levels: &Levels,
-    )
+    pub(crate) fn walk(&mut self, asking: &Asking, firsts: &Firsts, count: usize, levels: &Levels)
         requires few { count ≤ most_sources }
         requires none { IsUnmarked self.old }
-        ensures { AreMarked strides.now firsts.now count start self.new.words }
+        ensures { AreMarked asking.now.strides firsts.now count asking.now.question.start
+            self.new.words }
     {
-        rows_are_long(strides);
-        self.begin(firsts, count, start);
-        self.exhaust_all(strides, levels);
+        rows_are_long(&asking.strides);
+        self.begin(firsts, count, asking.question.start);
+        self.exhaust_all(asking, levels);
     }
 }
