@@ -1,4 +1,5 @@
 pub mod Worth
+pub mod Lanes
 pub mod Bytes
 pub mod Lengths
 pub mod ReaderLaws

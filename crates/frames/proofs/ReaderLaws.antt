@@ -6,7 +6,8 @@ use Rattle.std.proofs.Math.Decide.{ℕ_discrete, dec_lt}
 use Rattle.std.proofs.lemmas.Nat.{or_lt, le_or_l, le_or_r}
 use Rattle.frames.specs.Digits.{digit_of, bytes}
 use Rattle.frames.specs.Frames.{marks_of}
-use Rattle.frames.specs.Reader.{worth, byte_read, Digits, Gathered, Advanced, ReadsWhole}
+use Rattle.frames.specs.Pairs.{worth, byte_read, common_read, Digits}
+use Rattle.frames.specs.Reader.{Gathered, Advanced, ReadsWhole}
 use Rattle.frames.specs.declared.reader.Reader.{Reader}
 use Rattle.frames.proofs.Worth.{worth_small}
 use Rattle.frames.proofs.Lengths.{marks_more}
@@ -50,7 +51,7 @@ module _ (line : List ℕ) (n : ℕ) where
       )
 
 pub advanced : (r : Reader) → Gathered r
-    → Advanced r (record r { at = r.at + 1; wrong = bit_or r.wrong (bit_or (high r.line.now r.at) (low r.line.now r.at)) })
+    → Advanced r (record r { at = r.at + 1; wrong = bit_or r.wrong (common_read r.line.now r.at) })
 advanced r g = record { line = refl; at = refl; gathered = record { digits = gathered-more r.line.now r.at r.wrong g.digits } }
 
 -- the marks so far are those of the bytes so far

@@ -3,7 +3,7 @@ use Rattle.std.specs.Prelude.{ℕ, ◌<◌, ◌≡◌, ◌↔◌}
 use Rattle.std.proofs.Common.{arith}
 use Rattle.std.proofs.lemmas.Bool.Decides.{nat_tests}
 use Rattle.frames.specs.Digits.{digit_of}
-use Rattle.frames.specs.Reader.{worth}
+use Rattle.frames.specs.Pairs.{worth}
 
 pub worth_small : (c : ℕ) → (worth c < 16) ↔ (digit_of c < 16)
 unfolding worth digit_of

@@ -1,23 +1,18 @@
 -- A line with its end at the front of some characters, and its frame.
-use Rattle.std.specs.Prelude.{ℕ, ◌≡◌, ◌==◌, ◌+◌, ◌<◌, List, Some, Ok, length, take, position, slice_index}
+use Rattle.std.specs.Prelude.{ℕ, ◌≡◌, ◌==◌, ◌+◌, ◌<◌, ◌≤◌, List, Some, Ok, length, take, position, slice_index}
 use Rattle.streams.specs.declared.TheConstants.{LINE}
 use Rattle.frames.specs.Digits.{bytes}
 use Rattle.frames.specs.Frames.{FrameOf}
-use Rattle.frames.specs.Kinds.{kind_of, HasLength}
-use Rattle.frames.specs.Reader.{byte_read, Digits}
+use Rattle.frames.specs.Kinds.{HasLength}
 use Rattle.frames.specs.Measured.{IsMeasured}
 use Rattle.frames.specs.declared.Front.{Front}
 use Rattle.frames.specs.declared.kind.Kind.{Kind}
-
--- the first two characters are digits, and their byte names a kind
-pub record NamesKind (held : List ℕ) (kind : Kind) : Type 0 where
-  pub digits : Digits held 2
-  pub named : kind_of (byte_read held 0) ≡ Some kind
 
 -- a line of the length of a kind's frame is the first characters, and an end stands behind it
 pub record BeginsLine (kind : Kind) (held line : List ℕ) : Type 0 where
   pub is : line ≡ take (length line) held
   pub within : length line < length held
+  pub near : length line ≤ 12
   pub end : slice_index held (length line) ≡ 0x0A
   pub measured : IsMeasured line
   pub long : HasLength kind (bytes line)

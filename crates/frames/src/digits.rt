@@ -2,14 +2,14 @@
 ghost use Rattle.std.specs.Prelude.{◌≡◌, ◌↔◌, IsTrue};
 ghost use Rattle.frames.specs.Digits.{LineOk};
 ghost use Rattle.frames.specs.Measured.{IsMeasured};
-ghost use Rattle.frames.specs.Reader.{worth};
+ghost use Rattle.frames.specs.Pairs.{worth};
 
 use crate::BASE;
 use streams::LINE;
 
 // A digit is worked out and not looked up, so that no table of characters is needed. What is no digit is worth `BASE` or more.
 #[inline(always)]
-#[tactic(auto, unfolding(crate::specs::Reader::worth))]
+#[tactic(auto, unfolding(crate::specs::Pairs::worth))]
 pub(crate) fn digit(x: u8) -> u8
     ensures { result ≡ worth x }
 {

@@ -1,7 +1,8 @@
 // The kinds of frame: the byte that names each, and how many bytes its frame has.
-ghost use Rattle.std.specs.Prelude.{◌≡◌, ◌↔◌, IsTrue, IfSome};
+ghost use Rattle.std.specs.Prelude.{◌≡◌, ◌↔◌, IsTrue, IfSome, Some};
+ghost use Rattle.std.specs.Bool.{OnTrue};
 ghost use Rattle.frames.specs.Kinds.{kind_of, frame_length, HasLength};
-ghost use Rattle.frames.specs.Front.{BeginsLine, NamesKind};
+ghost use Rattle.frames.specs.Front.{BeginsLine};
 
 // The bytes of a deed number.
 const DEED: usize = 2;
@@ -9,7 +10,7 @@ const DEED: usize = 2;
 // The characters of the longest line of a known length.
 const LONGEST: usize = 12;
 
-#[derive(Clone, Copy)]
+#[derive(Clone, Copy, PartialEq, Eq)]
 pub enum Kind {
     Declared,
     ConceptRule,
@@ -54,18 +55,14 @@ impl Kind {
         Some(kind)
     }
 
-    // The kind that the first two of some characters name. The first is 0 for every kind, so that the second alone is worked out.
+    // Whether a frame's first byte names this kind.
     #[inline(always)]
-    pub(crate) fn named(held: &[u8]) -> Option<Kind>
-        ensures { IfSome result (NamesKind held.now) }
+    pub(crate) fn is_named(self, byte: u8) -> bool
+        ensures { OnTrue result (kind_of byte ≡ Some self) }
     {
-        if held.len() < 2 || held[0] != b'0' {
-            return None;
-        }
-        match held[1] {
-            x @ b'0'..=b'9' => Kind::of(x - b'0'),
-            x @ b'A'..=b'F' => Kind::of(x - b'A' + 10),
-            _ => None,
+        match Kind::of(byte) {
+            Some(kind) => kind == self,
+            None => false,
         }
     }
 

@@ -1,13 +1,13 @@
 // A line of the desk's input becomes a frame: one named kind with its own numbers, each of its kind from here on.
 #![tactic(auto)]
 
-ghost use Rattle.std.specs.Prelude.{◌≡◌, IfSome};
+ghost use Rattle.std.specs.Prelude.{◌≡◌};
 ghost use Rattle.frames.specs.Digits.{bytes};
-ghost use Rattle.frames.specs.Front.{BeginsFrame};
 ghost use Rattle.frames.specs.Frames.{frame_by, FrameOf};
 ghost use Rattle.frames.specs.Kinds.{HasLength};
 ghost use Rattle.frames.specs.Measured.{IsMeasured};
-ghost use Rattle.frames.specs.Reader.{byte_read, IsAt, ReadsWhole};
+ghost use Rattle.frames.specs.Pairs.{byte_read};
+ghost use Rattle.frames.specs.Reader.{IsAt, ReadsWhole};
 
 use digits::is_sound;
 use kind::Kind;
@@ -18,8 +18,10 @@ use marks::Marks;
 use reader::Reader;
 
 mod digits;
-mod kind;
+pub mod held;
+pub mod kind;
 pub mod marks;
+mod pairs;
 mod reader;
 pub mod theorems;
 
@@ -61,7 +63,7 @@ pub struct Front {
 
 // The frame of a kind, by a reader behind the byte that names it.
 #[inline(always)]
-fn frame_of(kind: Kind, reader: &mut Reader) -> Frame
+pub(crate) fn frame_of(kind: Kind, reader: &mut Reader) -> Frame
     requires behind { IsAt 1 reader.old }
     requires measured { IsMeasured reader.old.line.now }
     requires length { HasLength kind (bytes reader.old.line.now) }
@@ -113,23 +115,4 @@ pub fn read(line: &[u8]) -> Result<Frame, Misread>
         return Err(Misread::BadFrame);
     }
     Ok(frame_of(kind, &mut reader))
-}
-
-// The frame at the front of some characters, read where it stands: its line and the end behind it are not searched for, and
-// all its digits are tested at once. `None` decides nothing: there may be a frame, an expression say, or a fault.
-#[inline(always)]
-pub fn read_front(held: &[u8]) -> Option<Front>
-    ensures { IfSome result (BeginsFrame held.now) }
-{
-    let kind = Kind::named(held)?;
-    let line = kind.line_of(held)?;
-    let mut reader = Reader::behind_kind(line);
-    let frame = frame_of(kind, &mut reader);
-    if !reader.is_sound() {
-        return None;
-    }
-    Some(Front {
-        frame,
-        length: line.len(),
-    })
 }

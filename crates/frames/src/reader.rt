@@ -1,30 +1,34 @@
 // A line read byte by byte where it stands: one pass, and what is no digit is gathered on the way.
-ghost use Rattle.std.specs.Prelude.{ℕ, ◌+◌, ◌-◌, ◌/◌, ◌<◌, ◌≤◌, ◌≡◌, ◌↔◌, ◌⊎◌, IsTrue, length};
+ghost use Rattle.std.specs.Prelude.{ℕ, ◌+◌, ◌-◌, ◌/◌, ◌<◌, ◌≤◌, ◌≡◌, ◌↔◌, ◌⊎◌, IsTrue, length, min};
 ghost use Rattle.kinds.specs.Kinds.{concept_name, role_name, individual, state, signed, deed_number, concept_of};
 ghost use Rattle.frames.specs.Digits.{bytes, line_length};
 ghost use Rattle.frames.specs.Frames.{two_bytes, marks_of};
-ghost use Rattle.frames.specs.Reader.{byte_read, Digits, Gathered, Advanced, IsAt, ReadsWhole};
+ghost use Rattle.frames.specs.Pairs.{HoldsPairs, byte_read};
 
 use crate::BASE;
 use crate::digits::digit;
 use crate::marks::Marks;
+use crate::pairs::{Pairs, one_by_one};
 use kinds::{Concept, ConceptName, DeedNumber, Individual, RoleName, SignedRole, State};
 
 // Bytes are below it.
 const BYTE: u16 = 256;
 
 // A line's slice, a place in it counted in bytes, and what the digits before that place have in common: it is below `BASE`
-// exactly where each character before the place is a digit.
+// exactly where each character before the place is a digit. The bytes at the line's front are worked out already.
 #[derive(Drop)]
 pub(crate) struct Reader<'a> {
     line: &'a [u8],
     at: usize,
     wrong: u8,
+    front: Pairs,
+    ghost made: { HoldsPairs (min 8 (length line.now / 2)) line.now front.bytes front.common },
 }
 
 impl<'a> Reader<'a> {
+    ghost use Rattle.frames.specs.Reader.{Gathered, Advanced, IsAt, ReadsWhole};
+
     // A reader at a line's first byte.
-    #[inline(always)]
     pub(crate) fn opened(line: &'a [u8]) -> Reader<'a>
         ensures line { result.line ≡ line.entry }
         ensures opened { IsAt 0 result }
@@ -33,27 +37,45 @@ impl<'a> Reader<'a> {
             line,
             at: 0,
             wrong: 0,
+            front: one_by_one(line),
         }
     }
 
-    // A reader behind the two characters that name a line's kind.
+    // A reader at the first byte of a line whose front is worked out already.
     #[inline(always)]
-    pub(crate) fn behind_kind(line: &'a [u8]) -> Reader<'a>
-        requires { Digits line.now 2 }
+    pub(crate) fn prepared(line: &'a [u8], front: Pairs) -> Reader<'a>
+        requires { HoldsPairs (min 8 (length line.now / 2)) line.now front.bytes front.common }
         ensures line { result.line ≡ line.entry }
-        ensures behind { IsAt 1 result }
+        ensures opened { IsAt 0 result }
     {
         Reader {
             line,
-            at: 1,
+            at: 0,
             wrong: 0,
+            front,
         }
     }
 
-    // The byte at the reader's place, after which the reader is at the next. It is some byte where a character is no digit.
+    // The byte at the reader's place, which is at the line's front, after which the reader is at the next. It is some byte where a
+    // character is no digit.
     #[inline(always)]
-    #[tactic(auto, using(crate::proofs::ReaderLaws::advanced, crate::proofs::Bytes::byte_within))]
+    #[tactic(auto, using(crate::proofs::ReaderLaws::advanced))]
     pub(crate) fn byte(&mut self) -> u8
+        requires gathered { Gathered self.old }
+        requires inside { self.old.at < length self.old.line.now / 2 }
+        requires front { self.old.at < 8 }
+        ensures value { result ≡ byte_read self.old.line.now self.old.at }
+        ensures next { Advanced self.old self.new }
+    {
+        let at = self.at;
+        self.at = at + 1;
+        self.wrong |= self.front.common[at];
+        self.front.bytes[at]
+    }
+
+    // The byte at the reader's place, wherever it is, digit by digit.
+    #[tactic(auto, using(crate::proofs::ReaderLaws::advanced))]
+    fn far_byte(&mut self) -> u8
         requires gathered { Gathered self.old }
         requires inside { self.old.at < length self.old.line.now / 2 }
         ensures value { result ≡ byte_read self.old.line.now self.old.at }
@@ -71,6 +93,7 @@ impl<'a> Reader<'a> {
     pub(crate) fn number(&mut self) -> u16
         requires gathered { Gathered self.old }
         requires inside { self.old.at + 1 < length self.old.line.now / 2 }
+        requires front { self.old.at + 1 < 8 }
         ensures value { result ≡ two_bytes (byte_read self.old.line.now) self.old.at }
         ensures line { self.new.line ≡ self.old.line }
         ensures at { self.new.at ≡ self.old.at + 2 }
@@ -86,7 +109,9 @@ impl<'a> Reader<'a> {
         requires gathered { Gathered self.old }
         requires inside { let bytes = length self.old.line.now / 2 in
             (self.old.at ≡ bytes) ⊎ (self.old.at + 2 ≡ bytes) }
-        ensures value { result ≡ deed_number (two_bytes (byte_read self.old.line.now) self.old.at) }
+        requires front { self.old.at + 1 < 8 }
+        ensures value { let line = self.old.line.now in
+            result ≡ deed_number (two_bytes (byte_read line) self.old.at) }
         ensures whole { ReadsWhole self.old self.new }
     {
         if self.at == self.line.len() / 2 {
@@ -100,6 +125,7 @@ impl<'a> Reader<'a> {
     pub(crate) fn field<F: Field>(&mut self) -> F
         requires gathered { Gathered self.old }
         requires inside { self.old.at < length self.old.line.now / 2 }
+        requires front { self.old.at < 8 }
         ensures value { result ≡ F.of (byte_read self.old.line.now self.old.at) }
         ensures next { Advanced self.old self.new }
     {
@@ -118,7 +144,7 @@ impl<'a> Reader<'a> {
     {
         let mut marks = Marks::new();
         'marks: while self.at < self.line.len() / 2 {
-            marks.push(self.byte());
+            marks.push(self.far_byte());
         }
         marks
     }

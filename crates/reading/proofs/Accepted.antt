@@ -57,7 +57,8 @@ abbrev FramePasses : Counts → Frame → Kind → List ℕ → Type 0
 FramePasses c f kind l = IfSome (record_in kind f) (λ r. Passes c (numbers (r ++ l)) kind)
 
 -- a declared concept is read back from its number
-concepts-pass : (c : Counts) → CountsFit c → (C D : Concept) → ConceptsDeclared c (C, D) → ConceptsDeclared c (concept_of (number_of C), concept_of (number_of D))
+concepts-pass : (c : Counts) → CountsFit c → (C D : Concept) → ConceptsDeclared c (C, D)
+    → ConceptsDeclared c (concept_of (number_of C), concept_of (number_of D))
 concepts-pass c k C D h = rw (concept-number c k.names C h.0, concept-number c k.names D h.1) h
 
 module _ (before : List Frame) (t : Taken before) (l : List ℕ) where
@@ -90,7 +91,8 @@ passing-more before f t p h g m kind l = side (Memᴰ.append_cases before m)
     later : before ≢ [] → FramePasses (declared_by (before ++ f ∷ [])) f kind l
     later n = rw (declared-later before f n) (taken-passes before t l kind f p)
 
-    new : (o : Frame) → Passed before o → (before ≢ [] → FramePasses (declared_by (before ++ o ∷ [])) o kind l) → FramePasses (declared_by (before ++ o ∷ [])) o kind l
+    new : (o : Frame) → Passed before o → (before ≢ [] → FramePasses (declared_by (before ++ o ∷ [])) o kind l)
+        → FramePasses (declared_by (before ++ o ∷ [])) o kind l
     new (Declared c) q go = none-of kind
       where
         none-of : (k : Kind) → FramePasses (declared_by (before ++ Declared c ∷ [])) (Declared c) k l
@@ -132,9 +134,11 @@ record RecordLeads (kind : Kind) (fs : List Frame) (l : List ℕ) : Type 0 where
 
 module _ (kind : Kind) where
   leads-still : (f : Frame) {fs : List Frame} {l m : List ℕ} → m ≡ l → RecordLeads kind fs l → RecordLeads kind (f ∷ fs) m
-  leads-still f e w = record { frame = w.frame; among = Memᴰ.tail w.among; record-of = w.record-of; of = w.of; rest = w.rest; is = e ∙ w.is }
+  leads-still f e w =
+      record { frame = w.frame; among = Memᴰ.tail w.among; record-of = w.record-of; of = w.of; rest = w.rest; is = e ∙ w.is }
 
-  leads-more : (f : Frame) (fs : List Frame) (o : Option (List ℕ)) → record_in kind f ≡ o → (k : ℕ) → k < cond (is_some o) 1 0 + entries kind fs
+  leads-more : (f : Frame) (fs : List Frame) (o : Option (List ℕ)) → record_in kind f ≡ o → (k : ℕ)
+      → k < cond (is_some o) 1 0 + entries kind fs
       → ((i : ℕ) → i < entries kind fs → RecordLeads kind fs (drop (width kind * i) (table kind fs)))
       → RecordLeads kind (f ∷ fs) (drop (width kind * k) (unwrap_or o [] ++ table kind fs))
   leads-more f fs (Some r) e zero h on =
@@ -157,7 +161,8 @@ module _ {fs : List Frame} (t : Taken fs) where
   record-passes kind k h =
       let w = leads kind fs k h in
       let l = w.record-of ++ w.rest in
-      let at : (j : ℕ) → get_or l j 0 ≡ field (width kind) (table kind fs) j k = λ j. ap (λ (x : List ℕ). get_or x j 0) (sym w.is) ∙ get_or-drop (width kind * k) (table kind fs) j 0 in
+      let at : (j : ℕ) → get_or l j 0 ≡ field (width kind) (table kind fs) j k =
+      λ j. ap (λ (x : List ℕ). get_or x j 0) (sym w.is) ∙ get_or-drop (width kind * k) (table kind fs) j 0 in
       let e : numbers l ≡ (λ j. field (width kind) (table kind fs) j k) = λ i j. at j i in
       let r = rw w.of at (passing fs t w.frame w.among kind w.rest) in
       subst (λ (n : ℕ → ℕ). Passes (declared_by fs) n kind) e r
@@ -174,7 +179,8 @@ module _ {fs : List Frame} (t : Taken fs) where
           few = rw record-count (few kind fs t);
         }
 
-    each : {A : Type 0} (read : List ℕ → ℕ → A) (P : A → Type 0) → ((k : ℕ) → k < entries kind fs → P (read (table kind fs) k)) → Each (records (width kind) read (table kind fs)) P
+    each : {A : Type 0} (read : List ℕ → ℕ → A) (P : A → Type 0) → ((k : ℕ) → k < entries kind fs → P (read (table kind fs) k))
+        → Each (records (width kind) read (table kind fs)) P
     each read P h = each_in (width kind) read P (table kind fs) (λ k l. h k (rw record-count at l))
 
   -- the question's own records, as they are typed
@@ -192,7 +198,8 @@ module _ {fs : List Frame} (t : Taken fs) where
   }
 
   -- and as those of an expression's automaton
-  expressed-declared : (row : List ℕ) → expression_given fs ≡ Some row → (q : Listed) → IsAutomatonOf row q → RecordsDeclared (declared_by fs) q
+  expressed-declared : (row : List ℕ) → expression_given fs ≡ Some row → (q : Listed) → IsAutomatonOf row q
+      → RecordsDeclared (declared_by fs) q
   expressed-declared row e q x =
       let r = row-taken fs t row e in
       let s = r.shaped in
@@ -235,7 +242,8 @@ module _ {fs : List Frame} (t : Taken fs) where
     numbers-ok = record {
       declared = record {
         concept-rules = each concept_rules (omega arith) concept_pair (ConceptsDeclared (declared_by fs)) (record-passes concept_rules);
-        concept-exclusions = each concept_exclusions (omega arith) concept_pair (ConceptsDeclared (declared_by fs)) (record-passes concept_exclusions);
+        concept-exclusions =
+            each concept_exclusions (omega arith) concept_pair (ConceptsDeclared (declared_by fs)) (record-passes concept_exclusions);
         role-rules = each role_rules (omega arith) role_pair (RolesDeclared (declared_by fs)) (record-passes role_rules);
         role-exclusions = each role_exclusions (omega arith) role_pair (RolesDeclared (declared_by fs)) (record-passes role_exclusions);
         concept-facts = each concept_facts (omega arith) concept_fact (ConceptFactDeclared (declared_by fs)) (record-passes concept_facts);
@@ -253,7 +261,8 @@ some-begun kind k [] h e = omega arith
 some-begun kind k (f ∷ fs) h e = cc
 
 -- THEOREM: where frames are taken, the call of each ask among them passes the library's tests 4, 5, 6 and 8
-pub accepted : (fs : List Frame) → Taken fs → (q : Listed) → IsQuestion (file_of fs) q → (k : ℕ) → k < entries asks fs → Sound (asked fs q k)
+pub accepted : (fs : List Frame) → Taken fs → (q : Listed) → IsQuestion (file_of fs) q → (k : ℕ) → k < entries asks fs
+    → Sound (asked fs q k)
 accepted fs t q is k h =
     record {
       counts = fitting fs t (some-begun asks k fs h);
@@ -270,5 +279,6 @@ reading-taken (stopped before l ls r h) t = t
 reading-taken (onward before l ls f v h rest) t = reading-taken rest (more before f t (judged_ok h))
 
 -- THEOREM: a file that is read whole is accepted
-pub whole-accepted : (input : List ℕ) (fs : List Frame) → Reading [] (lines input) (sound fs) → (q : Listed) → IsQuestion (file_of fs) q → (k : ℕ) → k < entries asks fs → Sound (asked fs q k)
+pub whole-accepted : (input : List ℕ) (fs : List Frame) → Reading [] (lines input) (sound fs) → (q : Listed) → IsQuestion (file_of fs) q
+    → (k : ℕ) → k < entries asks fs → Sound (asked fs q k)
 whole-accepted input fs r = accepted fs (reading-taken r none)

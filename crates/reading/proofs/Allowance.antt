@@ -25,7 +25,8 @@ capped-mul a b m = by (dec_lt m a)
     by (no n) = let e : min a m ≡ a = omega (arith, n) in rw e refl
 
 -- names + 2 × roles, times states, times one fewer, stopped at each turn
-pub stopped : (c : Counts) (m : ℕ) → min (min (min (c.names + min (c.roles * 2) m) m * c.states) m * (c.states - 1)) m ≡ min (most_rounds c) m
+pub stopped : (c : Counts) (m : ℕ)
+    → min (min (min (c.names + min (c.roles * 2) m) m * c.states) m * (c.states - 1)) m ≡ min (most_rounds c) m
 stopped c m =
     let e : min (c.names + min (c.roles * 2) m) m ≡ min (c.names + 2 * c.roles) m = omega arith in
     let f = capped-mul (c.names + 2 * c.roles) c.states m in

@@ -17,11 +17,13 @@ no_entries kind = omega arith
 pub few : (kind : Kind) (fs : List Frame) → Taken fs → entries kind fs ≤ most kind
 few kind = taken-keeps (λ fs. entries kind fs ≤ most kind) (no_entries kind) step
   where
-    by : (before : List Frame) (f : Frame) → Passed before f → entries kind before ≤ most kind → (b : Bool) → is_some (record_in kind f) ≡ b → entries kind (before ++ f ∷ []) ≤ most kind
+    by : (before : List Frame) (f : Frame) → Passed before f → entries kind before ≤ most kind → (b : Bool)
+        → is_some (record_in kind f) ≡ b → entries kind (before ++ f ∷ []) ≤ most kind
     by before f p h true e = let r = p.room kind e in rw (entries-more kind before f, e) (omega arith)
     by before f p h false e = rw (entries-more kind before f, e) (omega arith)
 
-    step : (before : List Frame) (f : Frame) → Taken before → Passed before f → entries kind before ≤ most kind → entries kind (before ++ f ∷ []) ≤ most kind
+    step : (before : List Frame) (f : Frame) → Taken before → Passed before f → entries kind before ≤ most kind
+        → entries kind (before ++ f ∷ []) ≤ most kind
     step before f t p h = by before f p h (is_some (record_in kind f)) refl
 
 -- what is given once, and another after it
@@ -34,12 +36,14 @@ module _ {A : Type 0} where
   or_else-none None = refl
   or_else-none (Some n) = refl
 
-pub allowance-more : (fs : List Frame) (f : Frame) → allowance_given (fs ++ f ∷ []) ≡ or_else (allowance_given fs) (allowance_given (f ∷ []))
+pub allowance-more : (fs : List Frame) (f : Frame)
+    → allowance_given (fs ++ f ∷ []) ≡ or_else (allowance_given fs) (allowance_given (f ∷ []))
 allowance-more [] f = refl
 allowance-more (Allowance n ∷ fs) f = refl
 allowance-more (g ∷ fs) f = allowance-more fs f
 
-pub expression-more : (fs : List Frame) (f : Frame) → expression_given (fs ++ f ∷ []) ≡ or_else (expression_given fs) (expression_given (f ∷ []))
+pub expression-more : (fs : List Frame) (f : Frame)
+    → expression_given (fs ++ f ∷ []) ≡ or_else (expression_given fs) (expression_given (f ∷ []))
 expression-more [] f = refl
 expression-more (Expression row ∷ fs) f = refl
 expression-more (g ∷ fs) f = expression-more fs f
@@ -69,19 +73,23 @@ no_steps fs e = omega (arith, table-length steps fs, ap (λ (l : List ℕ). leng
 
 -- each is kept by one frame more
 module _ (before : List Frame) where
-  declared-more : (f : Frame) → Taken before → Passed before f → count_by is_declared before ≤ 1 → count_by is_declared (before ++ f ∷ []) ≤ 1
+  declared-more : (f : Frame) → Taken before → Passed before f → count_by is_declared before ≤ 1
+      → count_by is_declared (before ++ f ∷ []) ≤ 1
   declared-more (Declared c) t p h = omega (arith, count-more is_declared before (Declared c), none-declared before p.in_place)
   declared-more f t p h = omega (arith, count-more is_declared before f)
 
-  allowed-more : (f : Frame) → Taken before → Passed before f → count_by is_allowance before ≤ 1 → count_by is_allowance (before ++ f ∷ []) ≤ 1
+  allowed-more : (f : Frame) → Taken before → Passed before f → count_by is_allowance before ≤ 1
+      → count_by is_allowance (before ++ f ∷ []) ≤ 1
   allowed-more (Allowance n) t p h = omega (arith, count-more is_allowance before (Allowance n), none-allowed before p.in_place.1)
   allowed-more f t p h = omega (arith, count-more is_allowance before f)
 
   abbrev Shared : List Frame → Type 0
   Shared fs = count_by is_expression fs + entries steps fs ≤ most steps
 
-  shared-step : (f : Frame) → is_expression f ≡ false → added steps f ≡ 1 → expression_given before ≡ None → entries steps before < most steps → Shared (before ++ f ∷ [])
-  shared-step f x one e room = rw (count-more is_expression before f, x, entries-more steps before f, one, none-expressed before e) (omega arith)
+  shared-step : (f : Frame) → is_expression f ≡ false → added steps f ≡ 1 → expression_given before ≡ None
+      → entries steps before < most steps → Shared (before ++ f ∷ [])
+  shared-step f x one e room =
+      rw (count-more is_expression before f, x, entries-more steps before f, one, none-expressed before e) (omega arith)
 
   shared-more : (f : Frame) → Taken before → Passed before f → Shared before → Shared (before ++ f ∷ [])
   shared-more (RoleStep s R u) t p h = shared-step (RoleStep s R u) refl refl p.in_place.1 (p.room steps refl)

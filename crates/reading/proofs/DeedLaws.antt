@@ -111,7 +111,8 @@ module _ (width : ℕ) (step : (n k : ℕ) → suc k < (width + n) / width → k
           let p : width * suc k + j ≡ length r + (width * k + j) = omega (arith, mul-suc width k) in
           let q : width * suc k + j ≡ length s + (width * k + j) = omega (arith, mul-suc width k) in
           let m : k < length t / width = step (length t) k (rw (length-append r t, e) at l) in
-          ap (λ x. get_or (r ++ t) x 0) p ∙ get_or-append-add r t (width * k + j) 0 ∙ h.fields j k i m ∙ sym (get_or-append-add s u (width * k + j) 0) ∙ sym (ap (λ x. get_or (s ++ u) x 0) q)
+          ap (λ x. get_or (r ++ t) x 0) p ∙ get_or-append-add r t (width * k + j) 0 ∙ h.fields j k i m
+          ∙ sym (get_or-append-add s u (width * k + j) 0) ∙ sym (ap (λ x. get_or (s ++ u) x 0) q)
 
 -- the records of the two kinds of fact
 module _ (kind : Kind) (step : (n k : ℕ) → suc k < (width kind + n) / width kind → k < n / width kind) where
@@ -293,7 +294,8 @@ module _ {before after : List Frame} (s : Alike before after) where
       (g, rw i d, taken g y (judged-same d (rw i at j)))
 
 -- reading on after frames that differ only so
-reading-same : {ls ms : List (List ℕ)} {before after : List Frame} {v : Verdict} → InStep SameLine ls ms → Alike before after → Reading before ls v
+reading-same : {ls ms : List (List ℕ)} {before after : List Frame} {v : Verdict} → InStep SameLine ls ms → Alike before after
+    → Reading before ls v
     → (w : Verdict) × SameVerdict v w × Reading after ms w
 reading-same ended ended empty = (faulty [] OutOfPlace, both-faulty OutOfPlace ended, empty)
 reading-same ended (next {y = g} {ys = gs} d s) (whole f fs) = (sound (g ∷ gs), both-sound (next d s), whole g gs)
@@ -305,7 +307,8 @@ reading-same {after = after} (next {y = m} {ys = ms} a rest) s (onward before l 
     (u.0, u.1, onward after m ms w.0 u.0 w.2 u.2)
 
 -- THEOREM: lines that differ only in deed numbers are found to be what differs only so
-pub reads-without-deeds : (ls ms : List (List ℕ)) → InStep SameLine ls ms → (v : Verdict) → Reading [] ls v → (w : Verdict) × SameVerdict v w × Reading [] ms w
+pub reads-without-deeds : (ls ms : List (List ℕ)) → InStep SameLine ls ms → (v : Verdict) → Reading [] ls v
+    → (w : Verdict) × SameVerdict v w × Reading [] ms w
 reads-without-deeds ls ms s v h = reading-same s ended h
 
 -- THEOREM: two facts that differ only so are both kept and counted, wherever they stand

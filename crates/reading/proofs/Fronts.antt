@@ -34,6 +34,10 @@ one_taken {old} {new} {held} {front} b t = record {
       rw e (record { within = b.within; first = b.first; taken = t });
 }
 
+pub at_front : (old : File) (held other : List ℕ) (n : ℕ) (new : File) → TakesFront old other n new → other ≡ held
+    → TakesFront old held n new
+at_front old held other n new t e = rw (sym e) t
+
 -- what is left of some bytes
 pub left : (at : ℕ) (held : List ℕ) → take (length held - at) (drop at held) ≡ drop at held
 left at held = take_all (length held - at) (drop at held) (omega (arith, length-drop at held))

@@ -28,13 +28,15 @@ GoesOn (Some xs) (Some ys) before = (v : Verdict) → Reading before (lines ys) 
 abbrev pub ReadingOf : Option (List ℕ) → Verdict → Type 0
 ReadingOf input v = IfSome input (λ xs. Reading [] (lines xs) v)
 
-goes_line : (a b c : Option (List ℕ)) (before : List Frame) (line : List ℕ) (f : Frame) → GoesOn a b before → TakesLine b c line → Finds before line (Ok f) → GoesOn a c (before ++ f ∷ [])
+goes_line : (a b c : Option (List ℕ)) (before : List Frame) (line : List ℕ) (f : Frame) → GoesOn a b before → TakesLine b c line
+    → Finds before line (Ok f) → GoesOn a c (before ++ f ∷ [])
 goes_line None b c before line f g t h = tt
 goes_line (Some x) None c before line f g t h = absurd g
 goes_line (Some x) (Some y) None before line f g t h = absurd t
 goes_line (Some x) (Some y) (Some z) before line f g t h = λ v r. g v (rw t (onward before line (lines z) f v h r))
 
-goes_stop : (a b c : Option (List ℕ)) (before : List Frame) (line : List ℕ) (r : Refusal) → GoesOn a b before → TakesLine b c line → Finds before line (Err r) → ReadingOf a (faulty before r)
+goes_stop : (a b c : Option (List ℕ)) (before : List Frame) (line : List ℕ) (r : Refusal) → GoesOn a b before → TakesLine b c line
+    → Finds before line (Err r) → ReadingOf a (faulty before r)
 goes_stop None b c before line r g t h = tt
 goes_stop (Some x) None c before line r g t h = absurd g
 goes_stop (Some x) (Some y) None before line r g t h = absurd t
@@ -44,11 +46,13 @@ goes_stop (Some x) (Some y) (Some z) before line r g t h = g (faulty before r) (
 pub long_line : (line : List ℕ) (n : ℕ) → 64 ≤ n → n < length line → FrameOf line (Err misread.BadLine)
 long_line line n m h = fails (λ (ok : LineOk line). omega (arith, ok.short))
 
-reading_long : (before : List Frame) (n : ℕ) → 64 ≤ n → (ls : List (List ℕ)) → IsSomeAnd (slice_get ls 0) (λ line. n < length line) → Reading before ls (faulty before BadLine)
+reading_long : (before : List Frame) (n : ℕ) → 64 ≤ n → (ls : List (List ℕ)) → IsSomeAnd (slice_get ls 0) (λ line. n < length line)
+    → Reading before ls (faulty before BadLine)
 reading_long before n m [] h = absurd h
 reading_long before n m (line ∷ ls) h = stopped before line ls BadLine (unread misread.BadLine (long_line line n m h))
 
-goes_long : (a b : Option (List ℕ)) (before : List Frame) (n : ℕ) → 64 ≤ n → GoesOn a b before → BeginsLonger b n → ReadingOf a (faulty before BadLine)
+goes_long : (a b : Option (List ℕ)) (before : List Frame) (n : ℕ) → 64 ≤ n → GoesOn a b before → BeginsLonger b n
+    → ReadingOf a (faulty before BadLine)
 goes_long None b before n m g h = tt
 goes_long (Some x) None before n m g h = absurd g
 goes_long (Some x) (Some y) before n m g h = g (faulty before BadLine) (reading_long before n m (lines y) h)
@@ -71,7 +75,8 @@ ends-some : (n : ℕ) → (if suc n == 0 then Err (record { line = 1; refusal = 
 ends-some n = let e : (suc n == 0) ≡ false = grind (arith, nat_tests) in rw e refl
 
 -- what reading comes to is what is told and held
-reads : (a : Option (List ℕ)) (v : Verdict) {found : Result (Unit {0}) Fault} {file : File} → ReadingOf a v → found ≡ told_of v → file ≡ file_of (frames_of v)
+reads : (a : Option (List ℕ)) (v : Verdict) {found : Result (Unit {0}) Fault} {file : File} → ReadingOf a v → found ≡ told_of v
+    → file ≡ file_of (frames_of v)
     → IfSome a (λ xs. ReadsFile (lines xs) found file)
 reads None v r t k = tt
 reads (Some xs) v r t k = record { verdict = v; reading = r; told = t; kept = k }
@@ -114,12 +119,15 @@ module _ {input left : Option (List ℕ)} {file : File} (w : Begun input left fi
         by new (turns.taken f h) =
             record { before = w.before ++ f ∷ []; taken = more w.before f w.taken (judged_ok h); kept = refl; goes = goes_line input left next w.before line f w.goes t h }
 
-    pub stops : {new : File} {r : Refusal} {fault : Fault} → turns.TakesLine file line (Err r) new → fault ≡ record { line = new.lines + 1; refusal = r }
+    pub stops : {new : File} {r : Refusal} {fault : Fault} → turns.TakesLine file line (Err r) new
+        → fault ≡ record { line = new.lines + 1; refusal = r }
         → IfSome input (λ xs. ReadsFile (lines xs) (Err fault) new)
     stops {new} {r} {fault} h e = by new (h.by w.before w.taken w.kept) e
       where
-        by : (new : File) → turns.Turn w.before line (Err r) new → fault ≡ record { line = new.lines + 1; refusal = r } → IfSome input (λ xs. ReadsFile (lines xs) (Err fault) new)
-        by new (turns.refused r i) e = reads input (faulty w.before r) (goes_stop input left next w.before line r w.goes t i) (ap Err e) refl
+        by : (new : File) → turns.Turn w.before line (Err r) new → fault ≡ record { line = new.lines + 1; refusal = r }
+            → IfSome input (λ xs. ReadsFile (lines xs) (Err fault) new)
+        by new (turns.refused r i) e =
+            reads input (faulty w.before r) (goes_stop input left next w.before line r w.goes t i) (ap Err e) refl
 
   pub stops_long : {n : ℕ} {fault : Fault} → 64 ≤ n → BeginsLonger left n → fault ≡ record { line = file.lines + 1; refusal = BadLine }
       → IfSome input (λ xs. ReadsFile (lines xs) (Err fault) file)
@@ -127,7 +135,8 @@ module _ {input left : Option (List ℕ)} {file : File} (w : Begun input left fi
       reads input (faulty w.before BadLine) (goes_long input left w.before n m w.goes h)
       (ap Err (e ∙ ap (λ (f : File). record { line = f.lines + 1; refusal = BadLine }) w.kept)) w.kept
 
-  pub ends : {found : Result (Unit {0}) Fault} → IsAtEnd left → found ≡ told_at_end file → IfSome input (λ xs. ReadsFile (lines xs) found file)
+  pub ends : {found : Result (Unit {0}) Fault} → IsAtEnd left → found ≡ told_at_end file
+      → IfSome input (λ xs. ReadsFile (lines xs) found file)
   ends {found} h e = by w.before (goes_end input left w.before w.goes h) w.kept
     where
       by : (fs : List Frame) → ReadingOf input (ended fs) → file ≡ file_of fs → IfSome input (λ xs. ReadsFile (lines xs) found file)

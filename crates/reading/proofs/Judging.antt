@@ -9,7 +9,7 @@ use Rattle.reading.specs.declared.File.{File}
 use Rattle.reading.specs.declared.Refusal.{Refusal}
 use Rattle.reading.specs.Tables.{Kind, concept_rules, concept_exclusions, role_rules, role_exclusions, concept_facts, role_facts, steps, finals, asks, record_in, most, entries, table}
 use Rattle.reading.specs.File.{file_of, IsInPlace, HasShelfRoom, RoomIn}
-use Rattle.reading.specs.Judged.{InPlace, CountsOk, HasRoom, NumbersOk, AskOk, Judged}
+use Rattle.reading.specs.Judged.{InPlace, HasRoom, Judged}
 use Rattle.reading.specs.Turns.{FrameJudged, ExpressionJudged, Passes}
 use Rattle.reading.proofs.TableLaws.{table-length}
 
@@ -40,9 +40,11 @@ module _ (before : List Frame) where
 
   room-in : (kind : Kind) → RoomIn kind (table kind before) ↔ Room kind
   room-in concept_rules = (λ h. omega (arith, table-length concept_rules before), λ h. omega (arith, table-length concept_rules before))
-  room-in concept_exclusions = (λ h. omega (arith, table-length concept_exclusions before), λ h. omega (arith, table-length concept_exclusions before))
+  room-in concept_exclusions =
+      (λ h. omega (arith, table-length concept_exclusions before), λ h. omega (arith, table-length concept_exclusions before))
   room-in role_rules = (λ h. omega (arith, table-length role_rules before), λ h. omega (arith, table-length role_rules before))
-  room-in role_exclusions = (λ h. omega (arith, table-length role_exclusions before), λ h. omega (arith, table-length role_exclusions before))
+  room-in role_exclusions =
+      (λ h. omega (arith, table-length role_exclusions before), λ h. omega (arith, table-length role_exclusions before))
   room-in concept_facts = (λ h. omega (arith, table-length concept_facts before), λ h. omega (arith, table-length concept_facts before))
   room-in role_facts = (λ h. omega (arith, table-length role_facts before), λ h. omega (arith, table-length role_facts before))
   room-in steps = (λ h. omega (arith, table-length steps before), λ h. omega (arith, table-length steps before))
@@ -81,7 +83,8 @@ module _ (before : List Frame) where
   room f = (λ h kind. room-to kind f h, room-from f)
 
 -- a row of conditions of which one is put in other words
-pub first-same : {A : Type 0} {P Q : Type 0} {answer : A} {Rest Other : A → Type 0} {r : A} → P ↔ Q → (Rest r → Other r) → tests.First P answer Rest r → tests.First Q answer Other r
+pub first-same : {A : Type 0} {P Q : Type 0} {answer : A} {Rest Other : A → Type 0} {r : A} → P ↔ Q → (Rest r → Other r)
+    → tests.First P answer Rest r → tests.First Q answer Other r
 first-same w go (fails n) = fails (λ q. n (w.1 q))
 first-same w go (holds p h) = holds (w.0 p) (go h)
 
@@ -108,7 +111,8 @@ module _ (file : File) (f : Frame) where
   passed_first p = holds p.in_place (holds p.counts (holds p.room (holds p.numbers (holds p.ask refl))))
 
   -- and one that has passed them, by its last
-  pub judged_last : {q : Result (Unit {0}) Refusal} → FrameJudged file f (Ok tt) → ExpressionJudged file.counts f q → (before : List Frame) → file ≡ file_of before → Judged before f q
+  pub judged_last : {q : Result (Unit {0}) Refusal} → FrameJudged file f (Ok tt) → ExpressionJudged file.counts f q → (before : List Frame)
+      → file ≡ file_of before → Judged before f q
   judged_last h x before e =
       let p = first h in
       holds ((in_place before f).0 (rw e at p.in_place))

@@ -38,7 +38,8 @@ module _ (before : List Frame) (f : Frame) where
     lines = length before + 1;
   }
 
-  file_of-more : {c : Counts} {a : Option ℕ} {x : Option (List ℕ)} → declared_by (before ++ f ∷ []) ≡ c → allowance_given (before ++ f ∷ []) ≡ a → expression_given (before ++ f ∷ []) ≡ x
+  file_of-more : {c : Counts} {a : Option ℕ} {x : Option (List ℕ)} → declared_by (before ++ f ∷ []) ≡ c
+      → allowance_given (before ++ f ∷ []) ≡ a → expression_given (before ++ f ∷ []) ≡ x
       → held_after c a x ≡ file_of (before ++ f ∷ [])
   file_of-more d e g =
       rw (d, e, g, table-more concept_rules before f, table-more concept_exclusions before f, table-more role_rules before f, table-more role_exclusions before f, table-more concept_facts before f, table-more role_facts before f, table-more steps before f, table-more finals before f, table-more asks before f, length-append before (f ∷ [])) refl

@@ -14,7 +14,8 @@ use Rattle.reading.specs.Reads.{ReadsFile, told_of}
 
 -- THEOREM: a frame is refused for one reason, or taken
 pub judged-once : (before : List Frame) (f : Frame) (r q : Result (Unit {0}) Refusal) → Judged before f r → Judged before f q → r ≡ q
-judged-once before f = first-once (first-once (first-once (first-once (first-once (first-once (first-once (first-once (λ r q h k. h ∙ sym k))))))))
+judged-once before f =
+    first-once (first-once (first-once (first-once (first-once (first-once (first-once (first-once (λ r q h k. h ∙ sym k))))))))
 
 -- THEOREM: a line is found to be one thing
 pub finds-once : {before : List Frame} {line : List ℕ} {r q : Result Frame Refusal} → Finds before line r → Finds before line q → r ≡ q

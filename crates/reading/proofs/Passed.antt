@@ -31,7 +31,8 @@ passed before f j =
 pub judged_ok : {before : List Frame} {line : List ℕ} {f : Frame} → Finds before line (Ok f) → Judged before f (Ok tt)
 judged_ok (taken f o j) = j
 
-pub taken-keeps : (P : List Frame → Type 0) → P [] → ((before : List Frame) (f : Frame) → Taken before → Passed before f → P before → P (before ++ f ∷ []))
+pub taken-keeps : (P : List Frame → Type 0) → P []
+    → ((before : List Frame) (f : Frame) → Taken before → Passed before f → P before → P (before ++ f ∷ []))
     → (fs : List Frame) → Taken fs → P fs
 taken-keeps P start step fs none = start
 taken-keeps P start step fs (more before f t j) = step before f t (passed before f j) (taken-keeps P start step before t)

@@ -32,7 +32,8 @@ alike-back (long l m h k) = long m l k h
 finds_long : (before : List Frame) (l : List ℕ) → 64 < length l → Finds before l (Err BadLine)
 finds_long before l h = unread misread.BadLine (long_line l 64 (omega arith) h)
 
-pub reading-alike : {r : ℕ} {ls ms : List (List ℕ)} {before : List Frame} {v : Verdict} → Alike r ls ms → Taken before → most_lines < r + length before
+pub reading-alike : {r : ℕ} {ls ms : List (List ℕ)} {before : List Frame} {v : Verdict} → Alike r ls ms → Taken before
+    → most_lines < r + length before
     → Reading before ls v → Reading before ms v
 reading-alike far t h x = absurd (omega (arith, within-lines _ t))
 reading-alike ended t h x = x
@@ -139,7 +140,8 @@ pub lines-alike : (r : ℕ) (x : List ℕ) (n : ℕ) → r * line_bytes ≤ n �
 lines-alike zero x n h = far
 lines-alike (suc r) x n h = by (scan line_bytes x) (λ y m. lines-alike r y m)
   where
-    by : Scanned line_bytes x → ((y : List ℕ) (m : ℕ) → r * line_bytes ≤ m → Alike r (lines y) (lines (take m y))) → Alike (suc r) (lines x) (lines (take n x))
+    by : Scanned line_bytes x → ((y : List ℕ) (m : ℕ) → r * line_bytes ≤ m → Alike r (lines y) (lines (take m y)))
+        → Alike (suc r) (lines x) (lines (take n x))
     by (at-end l rest p g e) on =
         let m = n - suc (length l) in
         let d : n ≡ length l + suc m = omega arith in

@@ -47,12 +47,14 @@ pub record RowTaken (c : Counts) (row : List ℕ) : Type 0 where
 abbrev pub Expressing : List Frame → Type 0
 Expressing fs = IfSome (expression_given fs) (RowTaken (declared_by fs))
 
-expressing-later : (before : List Frame) (f : Frame) → before ≢ [] → expression_given (f ∷ []) ≡ None → Expressing before → Expressing (before ++ f ∷ [])
+expressing-later : (before : List Frame) (f : Frame) → before ≢ [] → expression_given (f ∷ []) ≡ None → Expressing before
+    → Expressing (before ++ f ∷ [])
 expressing-later before f n e h = rw (declared-later before f n, same-expression before f e) h
 
 expressing-more : (before : List Frame) (f : Frame) → Taken before → Passed before f → Expressing before → Expressing (before ++ f ∷ [])
 expressing-more before (Declared c) t p h =
-    let e : expression_given (before ++ Declared c ∷ []) ≡ None = ap (λ (l : List Frame). expression_given (l ++ Declared c ∷ [])) p.in_place in
+    let e : expression_given (before ++ Declared c ∷ []) ≡ None =
+    ap (λ (l : List Frame). expression_given (l ++ Declared c ∷ [])) p.in_place in
     rw e tt
 expressing-more before (Expression row) t p h =
     let e = expression-more before (Expression row) ∙ ap (λ o. or_else o (Some row)) p.in_place.1 in

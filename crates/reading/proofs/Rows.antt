@@ -32,7 +32,8 @@ module _ (row : List ℕ) (counts : Counts) where
         holds x.marks.shallow (holds (n, x.marks) (fails (λ v. let g = one-count v.1 x.marks in omega (arith, v.2, g, x.more))))
 
     -- a row that has no automaton, with why as its refusal
-    pub row-refused : {A : Type 0} {u : expression.Refusal} (q : Result A Refusal) → r ≡ Err u → IsErrAnd q (λ e. e ≡ refusal_of_row u) → IfErr q (λ e. RowJudged counts row (Err e))
+    pub row-refused : {A : Type 0} {u : expression.Refusal} (q : Result A Refusal) → r ≡ Err u → IsErrAnd q (λ e. e ≡ refusal_of_row u)
+        → IfErr q (λ e. RowJudged counts row (Err e))
     row-refused {u} (Ok x) e h = absurd h
     row-refused {u} (Err x) e h = rw h (refused u e)
 
@@ -46,4 +47,5 @@ module _ (row : List ℕ) (counts : Counts) where
         (fails (λ v. let g = one-count v.1 has-marks in not-so (record { states = omega (arith, v.2, g, x.states); start = v.3 }))))
 
     pub row-shaped : IsShapedBy counts a → RowJudged counts row (Ok tt)
-    row-shaped k = holds has-marks.shallow (holds (x.marks, has-marks) (holds (x.marks, has-marks, omega (arith, k.states, x.states), k.start) refl))
+    row-shaped k =
+        holds has-marks.shallow (holds (x.marks, has-marks) (holds (x.marks, has-marks, omega (arith, k.states, x.states), k.start) refl))

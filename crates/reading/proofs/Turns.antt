@@ -81,15 +81,18 @@ module _ (file : File) (f : Frame) where
     small_numbers = small_passed (first file f j)
 
 module _ {file : File} {line : List ℕ} where
-  pub turn_unread : {m : Misread} {r : Result (Unit {0}) Refusal} → FrameOf line (Err m) → IsErrAnd r (λ e. e ≡ refusal_of m) → TakesLine file line r file
+  pub turn_unread : {m : Misread} {r : Result (Unit {0}) Refusal} → FrameOf line (Err m) → IsErrAnd r (λ e. e ≡ refusal_of m)
+      → TakesLine file line r file
   turn_unread {r = Ok u} h k = absurd k
   turn_unread {m} {r = Err e} h k = record { by = λ before t d. rw (k, d) (turned (refusal_of m) (unread m h)) }
 
   -- a frame that is refused, and one that is taken
-  turn-refused : {f : Frame} {q : Refusal} → FrameOf line (Ok f) → ((before : List Frame) → file ≡ file_of before → Judged before f (Err q)) → TakesLine file line (Err q) file
+  turn-refused : {f : Frame} {q : Refusal} → FrameOf line (Ok f)
+      → ((before : List Frame) → file ≡ file_of before → Judged before f (Err q)) → TakesLine file line (Err q) file
   turn-refused {f} {q} h j = record { by = λ before t d. rw d (turned q (refused f q h (j before d))) }
 
-  turn-taken : {f : Frame} {new : File} → FrameOf line (Ok f) → ((before : List Frame) → file ≡ file_of before → Judged before f (Ok tt)) → new ≡ file_with f file → TakesLine file line (Ok tt) new
+  turn-taken : {f : Frame} {new : File} → FrameOf line (Ok f) → ((before : List Frame) → file ≡ file_of before → Judged before f (Ok tt))
+      → new ≡ file_with f file → TakesLine file line (Ok tt) new
   turn-taken {f} h j k =
       record {
         by = λ before t d.
@@ -98,11 +101,13 @@ module _ {file : File} {line : List ℕ} where
             rw e (turned_on f (taken f h i));
       }
 
-  pub turn_refused : {f : Frame} {q : Refusal} {r : Result (Unit {0}) Refusal} → FrameOf line (Ok f) → FrameJudged file f (Err q) → IsErrAnd r (λ e. e ≡ q) → TakesLine file line r file
+  pub turn_refused : {f : Frame} {q : Refusal} {r : Result (Unit {0}) Refusal} → FrameOf line (Ok f) → FrameJudged file f (Err q)
+      → IsErrAnd r (λ e. e ≡ q) → TakesLine file line r file
   turn_refused {r = Ok u} h j k = absurd k
   turn_refused {f} {r = Err e} h j k = rw k (turn-refused h (judged_refused file f j))
 
-  pub turn_kept : {f : Frame} {r : Result (Unit {0}) Refusal} {new : File} → FrameOf line (Ok f) → FrameJudged file f (Ok tt) → ExpressionJudged file.counts f r → OnOk r (new ≡ file_with f file) → OnErr r (new ≡ file)
+  pub turn_kept : {f : Frame} {r : Result (Unit {0}) Refusal} {new : File} → FrameOf line (Ok f) → FrameJudged file f (Ok tt)
+      → ExpressionJudged file.counts f r → OnOk r (new ≡ file_with f file) → OnErr r (new ≡ file)
       → TakesLine file line r new
   turn_kept {f} {r = Ok u} h j x k n = turn-taken h (judged_last file f j x) k
   turn_kept {f} {r = Err q} h j x k n = rw n (turn-refused h (judged_last file f j x))

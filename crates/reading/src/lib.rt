@@ -14,6 +14,8 @@ ghost use Rattle.reading.specs.Reads.{IsRead, ReadsFile, told_at_end};
 ghost use Rattle.reading.specs.Turns.{ExpressionJudged, RowJudged, TakesLine};
 
 use expressed::Expression;
+use frames::held::Held;
+use frames::kind::Kind;
 use frames::marks::Marks;
 use frames::{Frame, Front, Misread};
 use kinds::{Ask, Concept, Counts, Rounds, State};
@@ -282,11 +284,40 @@ impl File {
     // The line at the front of what is held, taken where it stands: how many characters it has with its end. 0 where that is
     // not decided here, and then nothing changes.
     #[inline(always)]
+    #[tactic(auto, using(crate::proofs::Fronts::at_front))]
     fn take_front(&mut self, held: &[u8]) -> usize
         requires { IsRead self.old }
         ensures { TakesFront self.old held.now result self.new }
     {
-        let Some(Front { frame, length }) = frames::read_front(held) else {
+        let Some(front) = Held::at(held) else {
+            return 0;
+        };
+        let Some(kind) = front.kind() else {
+            return 0;
+        };
+        match kind {
+            Kind::ConceptRule => self.take_kind(Kind::ConceptRule, &front),
+            Kind::ConceptExclusion => self.take_kind(Kind::ConceptExclusion, &front),
+            Kind::RoleRule => self.take_kind(Kind::RoleRule, &front),
+            Kind::RoleExclusion => self.take_kind(Kind::RoleExclusion, &front),
+            Kind::ConceptFact => self.take_kind(Kind::ConceptFact, &front),
+            Kind::RoleFact => self.take_kind(Kind::RoleFact, &front),
+            Kind::RoleStep => self.take_kind(Kind::RoleStep, &front),
+            Kind::TestStep => self.take_kind(Kind::TestStep, &front),
+            Kind::Final => self.take_kind(Kind::Final, &front),
+            Kind::Ask => self.take_kind(Kind::Ask, &front),
+            Kind::AskFrom => self.take_kind(Kind::AskFrom, &front),
+            Kind::Declared | Kind::Allowance | Kind::Expression => 0,
+        }
+    }
+
+    // A line of a kind, taken so. Each kind that adds a record has code of its own, in which nothing asks for the kind again.
+    #[inline(always)]
+    fn take_kind(&mut self, kind: Kind, held: &Held) -> usize
+        requires { IsRead self.old }
+        ensures { TakesFront self.old held.now.characters.now result self.new }
+    {
+        let Some(Front { frame, length }) = held.frame(kind) else {
             return 0;
         };
         if !self.passes(&frame) {

@@ -120,7 +120,8 @@ found_end held n e =
 found_parts : (held : List ℕ) (n : ℕ) → end_of held ≡ Some n → held ≡ (take n held ++ 0x0A ∷ []) ++ drop 1 (drop n held)
 found_parts held n e =
     let w = found_within held n e in
-    let here : drop n held ≡ 0x0A ∷ drop (n + 1) held = drop_more held n 0 w.1 ∙ ap (λ (b : ℕ). b ∷ drop (n + 1) held) (found_end held n e) in
+    let here : drop n held ≡ 0x0A ∷ drop (n + 1) held =
+    drop_more held n 0 w.1 ∙ ap (λ (b : ℕ). b ∷ drop (n + 1) held) (found_end held n e) in
     sym (take-append-drop n held) ∙ ap (λ (r : List ℕ). take n held ++ r) (here ∙ ap (λ (r : List ℕ). 0x0A ∷ r) (sym (ap (drop 1) here)))
     ∙ sym (append_assoc (take n held) (0x0A ∷ []) (drop 1 (drop n held)))
 

@@ -54,7 +54,8 @@ rest-once xs line ys zs (inr (p, y)) (inr (q, z)) = y ∙ sym z
 
 module _ (xs ys zs : List ℕ) where
   -- THEOREM: two outcomes of asking for the next line are equal
-  pub next-once : (n m : Next) → Gives (Some xs) (Some ys) n → ConsumesNext (Some xs) (Some ys) n → Gives (Some xs) (Some zs) m → ConsumesNext (Some xs) (Some zs) m
+  pub next-once : (n m : Next) → Gives (Some xs) (Some ys) n → ConsumesNext (Some xs) (Some ys) n → Gives (Some xs) (Some zs) m
+      → ConsumesNext (Some xs) (Some zs) m
       → (n ≡ m) × (ys ≡ zs)
   next-once (Line a) (Line b) g c h d =
       let e = same-first (lines xs) a b _ _ g.0 h.0 in

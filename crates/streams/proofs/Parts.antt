@@ -25,7 +25,8 @@ starts_with_taken a b c bs at p k = record {
 }
 
 -- all of some bytes, and then all but the rest of the next
-pub takes_after : (a b c : Option (List ℕ)) (front bs rest : List ℕ) → Appends a b front → TakesBut rest b c bs → TakesBut rest a c (front ++ bs)
+pub takes_after : (a b c : Option (List ℕ)) (front bs rest : List ℕ) → Appends a b front → TakesBut rest b c bs
+    → TakesBut rest a c (front ++ bs)
 takes_after a b c front bs rest p t = record {
   start = front ++ t.start;
   parts = ap (λ l. front ++ l) t.parts ∙ sym (append_assoc front t.start rest);
@@ -33,7 +34,8 @@ takes_after a b c front bs rest p t = record {
 }
 
 -- all of some bytes, and all of the next
-pub takes_both : (a b c : Option (List ℕ)) (front bs rest : List ℕ) → Appends a b front → Appends b c bs → rest ≡ [] → TakesBut rest a c (front ++ bs)
+pub takes_both : (a b c : Option (List ℕ)) (front bs rest : List ℕ) → Appends a b front → Appends b c bs → rest ≡ []
+    → TakesBut rest a c (front ++ bs)
 takes_both a b c front bs rest p q none = record {
   start = front ++ bs;
   parts = sym (append-nil (front ++ bs)) ∙ ap (λ l. (front ++ bs) ++ l) (sym none);

@@ -1,9 +1,9 @@
 -- The line is taken where its frame passes the tests and is kept.
 use Rattle.std.proofs.Common.{Ok, arith}
-use Rattle.reading.proofs.Fronts.{none_taken, one_taken}
+use Rattle.reading.proofs.Fronts.{one_taken}
 use Rattle.reading.proofs.Judging.{passed_first}
 use Rattle.reading.proofs.Turns.{few_lines, few_states, small_passed, turn_kept}
-use Rattle.reading.proofs.File.take_front.Goals as goal
+use Rattle.reading.proofs.File.take_kind.Goals as goal
 
 pub keep-requires-clause-small : goal.keep-requires-clause-small
 keep-requires-clause-small c = small_passed _ _ c.if-not-passes.ensures c.requires
