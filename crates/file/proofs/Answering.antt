@@ -15,6 +15,7 @@ use Rattle.reading.specs.File.{lent_tables, allowance_in, held_ask, held_call, I
 use Rattle.reading.specs.Reads.{IsRead}
 use Rattle.index.specs.Preparation.{Preparation, preparation, Fits}
 use Rattle.index.specs.Marks.{MarksTold}
+use Rattle.index.specs.Works.{Passes}
 use Rattle.index.specs.Asked as index
 use Rattle.index.specs.Row as row
 use Rattle.file.specs.Rounds as told
@@ -33,11 +34,13 @@ own file q = record {
   spare = area_length;
 }
 
-pub is_own : (file : File) (q : Listed) (c : Collection) (allowed area spare : ℕ) → c.counts ≡ file.counts → lists c ≡ lent_tables file q → allowed ≡ allowance_in file
+pub is_own : (file : File) (q : Listed) (c : Collection) (allowed area spare : ℕ) → c.counts ≡ file.counts → lists c ≡ lent_tables file q
+    → allowed ≡ allowance_in file
     → area ≡ area_length → spare ≡ area_length → preparation (record { collection = c; allowance = allowed }) area spare ≡ own file q
 is_own file q c allowed area spare a b d e f = rw (a, b, d, e, f) refl
 
-answer_in : (file : File) (q : Listed) (k : ℕ) (o : Option Answer) → IfSome o (index.IsAnswer (own file q) (held_ask file k)) → IfSome o (IsAnswer file q k)
+answer_in : (file : File) (q : Listed) (k : ℕ) (o : Option Answer) → IfSome o (index.IsAnswer (own file q) (held_ask file k))
+    → IfSome o (IsAnswer file q k)
 answer_in file q k None h = tt
 answer_in file q k (Some r) h = h zeros zeros (length-replicate {A = ℕ} area_length 0) (length-replicate {A = ℕ} area_length 0)
 
@@ -48,19 +51,32 @@ module _ (file : File) (P : List ℕ → Type 0) where
   nothing-asked q is e so = record { question = q; is = is; counts = []; told = told.no-ask e; text = []; answered = rw e refl; so = so }
 
   -- THEOREM: replies from a file's own preparation are its answers
-  pub replies-answer : (r : RoundsAll file P) (answers : List Answer) → row.AnswersEach (own file r.question) file.asks answers → AnswersEach file answers P
+  pub replies-answer : (r : RoundsAll file P) (answers : List Answer) → row.AnswersEach (own file r.question) file.asks answers
+      → AnswersEach file answers P
   replies-answer r answers h = record { rounds = r; each = λ k l. answer_in file r.question k (slice_get answers k) (h k l) }
 
 module _ (file : File) (read : IsRead file) (q : Listed) (is : IsQuestion file q) (some : 0 < ask_count file) where
   sound : Sound (held_call file q 0)
   sound = call_sound file read q is 0 some
 
+  -- THEOREM: what is lent of a file that was read passes the library's tests
+  pub own-passes : (c : Collection) → c.counts ≡ file.counts → lists c ≡ lent_tables file q → Passes c
+  own-passes c a b = record {
+    counts = rw a sound.counts;
+    tables = rw b sound.tables.tables;
+    numbers = rw (a, b) sound.numbers;
+  }
+
   -- THEOREM: the counts that are told of the preparation are those that are told of the file
   pub counts-told : (counts : List ℕ) → MarksTold (own file q) counts → HeldRounds file q counts
   counts-told counts marks = by (outcome-exists (held_call file q 0))
     where
       fits : Fits (own file q)
-      fits = record { counts = sound.counts; tables = record { tables = sound.tables.tables; area = refl; spare = refl }; numbers = sound.numbers }
+      fits = record {
+        counts = sound.counts;
+        tables = record { tables = sound.tables.tables; area = refl; spare = refl };
+        numbers = sound.numbers;
+      }
 
       by : {r : Answer} {x y : List ℕ} → Outcome (held_call file q 0) r x y → HeldRounds file q counts
       by (bad-count h) = absurd (h sound.counts)
@@ -69,5 +85,7 @@ module _ (file : File) (read : IsRead file) (q : Listed) (is : IsQuestion file q
       by (bad-ask k t n h) = absurd (h sound.ask)
       by (contradiction w h) = subst (HeldRounds file q) (sym (marks.none (λ s. s.sane h))) (told.contradiction h)
       by (spent {n = n} w sane need h lays) = told.rounds some sane need (marks.rounds (record { fits = fits; sane = sane }) n need)
-      by (says-yes {n = n} w sane need h lays reached) = told.rounds some sane need (marks.rounds (record { fits = fits; sane = sane }) n need)
-      by (says-no {n = n} w sane need h lays missed) = told.rounds some sane need (marks.rounds (record { fits = fits; sane = sane }) n need)
+      by (says-yes {n = n} w sane need h lays reached) =
+          told.rounds some sane need (marks.rounds (record { fits = fits; sane = sane }) n need)
+      by (says-no {n = n} w sane need h lays missed) =
+          told.rounds some sane need (marks.rounds (record { fits = fits; sane = sane }) n need)

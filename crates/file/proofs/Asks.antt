@@ -36,7 +36,8 @@ module _ (file : File) (read : IsRead file) where
   -- none of the library's tests refuses the call of an ask
   pub call_sound : (q : Listed) → IsQuestion file q → (k : ℕ) → k < ask_count file → Sound (held_call file q k)
   call_sound q is k h =
-      let s : Sound (held_call (file_of read.frames) q k) = accepted read.frames read.taken q (rw read.kept at is) k (omega (arith, count_is)) in
+      let s : Sound (held_call (file_of read.frames) q k) =
+      accepted read.frames read.taken q (rw read.kept at is) k (omega (arith, count_is)) in
       subst (λ (f : File). Sound (held_call f q k)) (sym read.kept) s
 
   pub in_bytes : (q : Listed) → IsQuestion file q → (k : ℕ) → k < ask_count file → IsInBytes (held_ask file k)

@@ -12,8 +12,10 @@ use Rattle.reading.specs.Refusal.{refusal_number}
 use Rattle.reading.specs.Tables.{asks, entries}
 use Rattle.reading.specs.File.{tables_of, asked}
 use Rattle.reading.specs.Reading.{Verdict, faulty, sound, Reading}
-use Rattle.reading.specs.Deeds.{SameButDeed, same, concept, role, SameLine, same-line, same-facts, InStep, ended, next, SameVerdict, both-faulty, both-sound}
-use Rattle.reading.proofs.DeedLaws.{Alike, alike-length, entries-same, table-same, declared-same, allowance-same, question-same, tables-alike, reads-without-deeds}
+use Rattle.reading.specs.Deeds.{SameButDeed, same, concept, role, SameLine, same-line, same-facts, InStep, ended, next}
+use Rattle.reading.specs.Deeds.{SameVerdict, both-faulty, both-sound}
+use Rattle.reading.proofs.DeedLaws.{Alike, alike-length, entries-same, table-same, declared-same, allowance-same}
+use Rattle.reading.proofs.DeedLaws.{question-same, tables-alike, reads-without-deeds}
 use Rattle.file.specs.Text.{fault_line}
 use Rattle.file.specs.Writes.{Answers, Answered, collection_read, FileRounds, Writes, fault, answers}
 
@@ -83,5 +85,6 @@ module _ (input other : List ℕ) (s : InStep SameLine (lines input) (lines othe
       (rw (entries-same asks d) at (answered-same d q (entries asks fs) out a))
 
 -- THEOREM: what is written does not depend on deed numbers
-pub writes-without-deeds : (input other : List ℕ) → InStep SameLine (lines input) (lines other) → (text : List ℕ) → Writes input text ↔ Writes other text
+pub writes-without-deeds : (input other : List ℕ) → InStep SameLine (lines input) (lines other) → (text : List ℕ)
+    → Writes input text ↔ Writes other text
 writes-without-deeds input other s text = (writes-same input other s, writes-same other input (lines-turned s))

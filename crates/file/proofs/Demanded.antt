@@ -36,7 +36,8 @@ lines-say-as-model input text w fs q s k h enough =
     record { contradiction = rw n m.contradiction; yes = rw n m.yes; no = rw n m.no }
 
 -- a question typed as an expression asks for the expression's words
-module _ (input : List ℕ) (fs : List Frame) (q : Listed) (s : IsAsking input fs q) (row : List ℕ) (given : expression_given fs ≡ Some row) where
+module _ (input : List ℕ) (fs : List Frame) (q : Listed) (s : IsAsking input fs q) (row : List ℕ)
+    (given : expression_given fs ≡ Some row) where
   automaton-is : IsAutomatonOf row q
   automaton-is = let x = s.question.expressed in rw given at x
 

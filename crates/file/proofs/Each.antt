@@ -23,7 +23,8 @@ pub record IsLeft (file : File) (q : Listed) (s : Records Ask) (left : List Answ
   pub long : ask_count file ≤ s.next + length left
   pub answers : (j : ℕ) → s.next + j < ask_count file → IfSome (slice_get left j) (IsAnswer file q (s.next + j))
 
-pub all_left : (file : File) (s : Records Ask) (left answers : List Answer) (P : List ℕ → Type 0) → IsRead file → s.table.numbers.now ≡ file.asks → s.next ≡ 0
+pub all_left : (file : File) (s : Records Ask) (left answers : List Answer) (P : List ℕ → Type 0) → IsRead file
+    → s.table.numbers.now ≡ file.asks → s.next ≡ 0
     → left ≡ answers → most asks ≤ length answers → (h : AnswersEach file answers P) → IsLeft file h.rounds.question s left
 all_left file s left answers P read n first e long h = record {
   numbers = n;
@@ -35,7 +36,8 @@ all_left file s left answers P read n first e long h = record {
 }
 
 module _ (file : File) (q : Listed) (s t : Records Ask) (ask : Ask) (r : Answer) (left rest : List Answer) (w : IsLeft file q s left)
-    (g : GivesNext ask_width read_ask s.table.numbers.now s.next (Some ask) t.next) (same : t.table.numbers ≡ s.table.numbers) (e : left ≡ r ∷ rest) where
+    (g : GivesNext ask_width read_ask s.table.numbers.now s.next (Some ask) t.next)
+    (same : t.table.numbers ≡ s.table.numbers) (e : left ≡ r ∷ rest) where
   inside : s.next < ask_count file
   inside = rw w.numbers at g.inside
 
@@ -66,4 +68,6 @@ module _ (file : File) (q : Listed) (s t : Records Ask) (ask : Ask) (r : Answer)
 -- where either is at its end, so is the other
 pub none_left : (file : File) (q : Listed) (s : Records Ask) (left : List Answer) → IsLeft file q s left
     → (length s.table.numbers.now / ask_width ≤ s.next) ⊎ (length left ≡ 0) → s.next ≡ ask_count file
-none_left file q s left w = ⊎_elim (λ h. let n = ap (λ (l : List ℕ). length l / ask_width) w.numbers in omega (arith, w.within)) (λ h. omega (arith, w.within, w.long))
+none_left file q s left w =
+    ⊎_elim (λ h. let n = ap (λ (l : List ℕ). length l / ask_width) w.numbers in omega (arith, w.within))
+    (λ h. omega (arith, w.within, w.long))

@@ -1,5 +1,6 @@
 -- A text of whole lines: how many there are, and each at its place.
-use Rattle.std.specs.Prelude.{ℕ, zero, suc, ◌+◌, ◌/◌, ◌%◌, ◌<◌, ◌≤◌, ◌≡◌, refl, Bool, true, false, nat_lt, ◌==◌, List, [], ◌∷◌, ◌++◌, if◌then◌else◌, length, slice_index, slice_index_or}
+use Rattle.std.specs.Prelude.{ℕ, zero, suc, ◌+◌, ◌/◌, ◌%◌, ◌<◌, ◌≤◌, ◌≡◌, refl, Bool, true, false, nat_lt, ◌==◌, List, []}
+use Rattle.std.specs.Prelude.{◌∷◌, ◌++◌, if◌then◌else◌, length, slice_index, slice_index_or}
 use Rattle.std.specs.List.{flat_map}
 use Rattle.std.proofs.Common.{sym, ap, ◌∙◌, subst, append_assoc, append-nil, length-append, arith}
 use Rattle.std.proofs.lemmas.Bool.Decides.{nat_tests}
@@ -79,7 +80,10 @@ unfolding lines
 lone {line} l = ap lines (sym (append-nil line)) ∙ l.first []
 
 one_line : {line : List ℕ} → IsLine line → AreLines line 1
-one_line l = record { many = ap (λ (ls : List (List ℕ)). length ls) (lone l); before = λ rest. l.first rest ∙ ap (λ (ls : List (List ℕ)). ls ++ lines rest) (sym (lone l)) }
+one_line l = record {
+  many = ap (λ (ls : List (List ℕ)). length ls) (lone l);
+  before = λ rest. l.first rest ∙ ap (λ (ls : List (List ℕ)). ls ++ lines rest) (sym (lone l));
+}
 
 pub both_lines : {x y : List ℕ} {n m : ℕ} → AreLines x n → AreLines y m → AreLines (x ++ y) (n + m)
 both_lines {x} {y} {n} {m} a b = record {
@@ -114,7 +118,8 @@ rounds_lined before (m ∷ counts) =
     subst (AreLines (round_line (suc before) m ++ round_lines (suc before) counts)) n
     (both_lines (one_line (round_is_line (suc before) m)) (rounds_lined (suc before) counts))
 
-pub round-is : (before : ℕ) (counts : List ℕ) (k : ℕ) → k < length counts → line_in (round_lines before counts) k ≡ round_line (before + k + 1) (slice_index counts k)
+pub round-is : (before : ℕ) (counts : List ℕ) (k : ℕ) → k < length counts
+    → line_in (round_lines before counts) k ≡ round_line (before + k + 1) (slice_index counts k)
 unfolding round_lines
 round-is before [] k h = absurd (omega arith)
 round-is before (m ∷ counts) zero h =

@@ -1,5 +1,5 @@
--- The answers that the desk writes are the listed ones, 0 to 3: what the library's tests 4, 5, 6 and 8 refuse, reading has refused before. And their
--- counts go into two bytes.
+-- The answers that the desk writes are the listed ones, 0 to 3: what the library's tests 4, 5, 6 and 8 refuse, reading has refused before.
+-- And their counts go into two bytes.
 use Rattle.std.specs.Prelude.{ℕ, ◌^◌, ◌<◌, ◌≤◌, List}
 use Rattle.std.proofs.Common.{arith}
 use Rattle.kinds.specs.declared.Answer.{Answer}

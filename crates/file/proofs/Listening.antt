@@ -14,9 +14,11 @@ module _ {L S E : Type 0} (name : L → ℕ) (to : L → S) (takes : S → List 
   abbrev pub Fails : L → ℕ → ℕ → E → L → Type 0
   Fails old round marks e new = (name new ≡ name old) × fails (to old) (round_line round marks) e (to new)
 
-  module _ (nothing : (a : S) → takes a [] a) (more : (a b c : S) (x y : List ℕ) → takes a x b → takes b y c → takes a (x ++ y) c) (from : L) where
+  module _ (nothing : (a : S) → takes a [] a) (more : (a b c : S) (x y : List ℕ) → takes a x b → takes b y c → takes a (x ++ y) c)
+      (from : L) where
     -- THEOREM: the lines of the rounds told were put
-    pub rounds-put : {counts : List ℕ} {l : L} → Told Hears from counts l → (name l ≡ name from) × takes (to from) (round_lines 0 counts) (to l)
+    pub rounds-put : {counts : List ℕ} {l : L} → Told Hears from counts l
+        → (name l ≡ name from) × takes (to from) (round_lines 0 counts) (to l)
     unfolding round_lines
     rounds-put none = (refl, nothing (to from))
     rounds-put (next {counts = counts} {to = l} {m = m} t h) =
@@ -32,5 +34,9 @@ module _ {L S E : Type 0} (name : L → ℕ) (to : L → S) (takes : S → List 
           let put = rounds-put f.told in
           let here : fails (to from) (round_lines 0 (f.before ++ f.last ∷ [])) e (to l) =
           subst (λ (out : List ℕ). fails (to from) out e (to l)) (sym (rounds-last f.before f.last)) (after _ _ _ _ _ _ put.1 f.failed.1) in
-          let all : fails (to from) (round_lines 0 counts) e (to l) = subst (λ (c : List ℕ). fails (to from) (round_lines 0 c) e (to l)) (sym f.all) here in
-          (f.failed.0 ∙ put.0, subst (λ (out : List ℕ). fails (to from) out e (to l)) (sym (rounds-append 0 counts rest)) (before _ _ _ _ _ all))
+          let all : fails (to from) (round_lines 0 counts) e (to l) =
+          subst (λ (c : List ℕ). fails (to from) (round_lines 0 c) e (to l)) (sym f.all) here in (
+            f.failed.0 ∙ put.0,
+            subst (λ (out : List ℕ). fails (to from) out e (to l)) (sym (rounds-append 0 counts rest))
+                (before _ _ _ _ _ all),
+          )

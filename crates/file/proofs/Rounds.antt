@@ -23,7 +23,12 @@ pub rounds-length : (before : ℕ) (counts : List ℕ) → length (round_lines b
 unfolding round_lines
 rounds-length before [] = refl
 rounds-length before (m ∷ counts) =
-    omega (arith, length-append (round_line (suc before) m) (round_lines (suc before) counts), round-length (suc before) m, rounds-length (suc before) counts)
+    omega (
+      arith,
+      length-append (round_line (suc before) m) (round_lines (suc before) counts),
+      round-length (suc before) m,
+      rounds-length (suc before) counts,
+    )
 
 -- the lines of some rounds, and then those of more
 pub rounds-append : (before : ℕ) (x y : List ℕ) → round_lines before (x ++ y) ≡ round_lines before x ++ round_lines (before + length x) y
@@ -31,13 +36,15 @@ unfolding round_lines
 rounds-append before [] y = ap (λ n. round_lines n y) (omega arith)
 rounds-append before (m ∷ x) y =
     let later : suc before + length x ≡ before + suc (length x) = omega arith in
-    ap (λ (l : List ℕ). round_line (suc before) m ++ l) (rounds-append (suc before) x y ∙ ap (λ n. round_lines (suc before) x ++ round_lines n y) later)
+    ap (λ (l : List ℕ). round_line (suc before) m ++ l)
+    (rounds-append (suc before) x y ∙ ap (λ n. round_lines (suc before) x ++ round_lines n y) later)
     ∙ sym (append_assoc (round_line (suc before) m) (round_lines (suc before) x) _)
 
 pub rounds-last : (counts : List ℕ) (m : ℕ) → round_lines 0 (counts ++ m ∷ []) ≡ round_lines 0 counts ++ round_line (suc (length counts)) m
 unfolding round_lines
 rounds-last counts m =
-    rounds-append 0 counts (m ∷ []) ∙ ap (λ (l : List ℕ). round_lines 0 counts ++ l) (append-nil (round_line (suc (0 + length counts)) m) ∙ ap (λ n. round_line (suc n) m) (omega arith))
+    rounds-append 0 counts (m ∷ []) ∙ ap (λ (l : List ℕ). round_lines 0 counts ++ l)
+    (append-nil (round_line (suc (0 + length counts)) m) ∙ ap (λ n. round_line (suc n) m) (omega arith))
 
 module _ {𝓒 : Collection} {allowance asks : ℕ} where
   -- THEOREM: one row of counts is told

@@ -50,9 +50,11 @@ told : (input : List ℕ) (file : File) (P : List ℕ → Type 0) (v : Verdict) 
 told input file P (sound fs) r e t =
     let q = t.question in
     let rounds : HeldRounds (file_of fs) q t.counts = subst (λ (f : File). HeldRounds f q t.counts) e t.told in
-    let own : Answered (asked fs q) (ask_count (file_of fs)) t.text = subst (λ (f : File). Answered (held_call f q) (ask_count f) t.text) e t.answered in
+    let own : Answered (asked fs q) (ask_count (file_of fs)) t.text =
+    subst (λ (f : File). Answered (held_call f q) (ask_count f) t.text) e t.answered in
     let asking : IsAsking input fs q = record { sound = r; question = rw e at t.is } in
-    let all : FileRounds fs q t.counts = subst (λ (n : ℕ). RoundsTold (collection_read fs q) (rounds_allowed fs) n t.counts) (ask_entries fs) rounds in
+    let all : FileRounds fs q t.counts =
+    subst (λ (n : ℕ). RoundsTold (collection_read fs q) (rounds_allowed fs) n t.counts) (ask_entries fs) rounds in
     (_, answers fs q t.counts t.text asking all (subst (λ (n : ℕ). Answered (asked fs q) n t.text) (ask_entries fs) own), t.so)
 told input file P (faulty before n) r e q = (_, fault before n r, q)
 
@@ -60,7 +62,8 @@ told input file P (faulty before n) r e q = (_, fault before n r, q)
 pub reply-writes : {input text : List ℕ} → Reports IsReply input text → Writes input text
 reply-writes {input} {text} r =
     let reads = r.reads in
-    let w = told input r.file (λ out. text ≡ out) reads.verdict reads.reading reads.kept (subst (λ f. Tells r.file f (λ out. text ≡ out)) reads.told r.is) in
+    let w = told input r.file (λ out. text ≡ out) reads.verdict reads.reading reads.kept
+    (subst (λ f. Tells r.file f (λ out. text ≡ out)) reads.told r.is) in
     subst (Writes input) (sym w.2) w.1
 
 pub reply-serves : {input : List ℕ} {P : List ℕ → Type 0} → OneOf (Reports IsReply input) P → Serves input P
@@ -72,7 +75,8 @@ on_ok (Ok x) f p = f p
 on_ok (Err e) f p = tt
 
 -- of an input that is known a text is put that it writes
-pub served : (known : Option (List ℕ)) (P : List ℕ → Type 0) → IfSome known (λ input. OneOf (Reports IsReply input) P) → IfSome known (λ input. Serves input P)
+pub served : (known : Option (List ℕ)) (P : List ℕ → Type 0) → IfSome known (λ input. OneOf (Reports IsReply input) P)
+    → IfSome known (λ input. Serves input P)
 served None P o = tt
 served (Some input) P o = reply-serves o
 
@@ -91,7 +95,8 @@ served-deeds (Some input) P o = λ other s.
 
 -- and without an allowance none of its answers has number 3
 pub served-unspent : (known a b : Option (List ℕ)) → IfSome known (λ input. OneOf (Reports IsReply input) (Appends a b))
-    → IfSome known (λ input. (fs : List Frame) → IsSound input fs → allowance_given fs ≡ None → Serves input (AppendsUnspent (entries asks fs) a b))
+    → IfSome known
+    (λ input. (fs : List Frame) → IsSound input fs → allowance_given fs ≡ None → Serves input (AppendsUnspent (entries asks fs) a b))
 served-unspent None a b o = tt
 served-unspent (Some input) a b o = λ fs s none.
     let w = reply-writes o.is in

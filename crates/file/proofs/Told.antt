@@ -1,5 +1,6 @@
 -- What stands on the lines that an input writes: each line at its place, and its bytes read back.
-use Rattle.std.specs.Prelude.{ℕ, ◌+◌, ◌*◌, ◌/◌, ◌%◌, ◌^◌, ◌<◌, ◌≤◌, ◌≡◌, ◌⊎◌, refl, Bool, true, false, nat_lt, List, ◌++◌, if◌then◌else◌, length, min, slice_index}
+use Rattle.std.specs.Prelude.{ℕ, ◌+◌, ◌*◌, ◌/◌, ◌%◌, ◌^◌, ◌<◌, ◌≤◌, ◌≡◌, ◌⊎◌, refl, Bool, true, false, nat_lt, List, ◌++◌}
+use Rattle.std.specs.Prelude.{if◌then◌else◌, length, min, slice_index}
 use Rattle.std.proofs.Common.{sym, ap, ◌∙◌, subst, length-append, arith}
 use Rattle.std.proofs.lemmas.Bool.Decides.{nat_tests}
 use Rattle.kinds.specs.declared.Answer.{Answer}
@@ -29,7 +30,8 @@ use Rattle.reading.proofs.Listed.{refusals-listed}
 use Rattle.file.specs.Text.{character, text, fault_line, round_line, answer_line, IsInBytes}
 use Rattle.file.specs.Rounds.{round_lines}
 use Rattle.file.specs.Writes.{Answers, Answered, IsSound, IsAsking, IsFaulty, collection_read, FileRounds, Writes, fault, answers}
-use Rattle.file.specs.Told.{line_in, rounds_in, line_at, round_length, fault_length, answers_length, number_on, count_on, Names, TellsOutcome, IsRoundLine, IsFaultLine}
+use Rattle.file.specs.Told.{line_in, rounds_in, line_at, round_length, fault_length, answers_length, number_on, count_on}
+use Rattle.file.specs.Told.{Names, TellsOutcome, IsRoundLine, IsFaultLine}
 use Rattle.file.specs.Laws.{AnswersEachAsk, TellsRounds}
 use Rattle.tables.specs.Asks.{read_ask}
 use Rattle.file.proofs.Asks.{small}
@@ -115,7 +117,9 @@ module _ (line : ℕ) (r : Refusal) where
     kind = fault-kind;
     place = omega (arith, fault-high h, fault-low);
     refused = fault-number;
-    listed = let l = refusals-listed r in (omega (arith, fault-number, l.0), omega (arith, fault-number, l.1), λ e. l.2 (sym fault-number ∙ e));
+    listed =
+        let l = refusals-listed r in
+        (omega (arith, fault-number, l.0), omega (arith, fault-number, l.1), λ e. l.2 (sym fault-number ∙ e));
   }
 
 -- and of a line of a round
@@ -178,7 +182,8 @@ module _ {input text : List ℕ} (w : Writes input text) where
     answers-lined = answers_lined (asked fs q) (entries asks fs) answered.out answered.lines-are
 
     lined : AreLines text (length answered.counts + entries asks fs)
-    lined = subst (λ (l : List ℕ). AreLines l (length answered.counts + entries asks fs)) (sym answered.whole) (both_lines (rounds_lined 0 answered.counts) answers-lined)
+    lined = subst (λ (l : List ℕ). AreLines l (length answered.counts + entries asks fs)) (sym answered.whole)
+        (both_lines (rounds_lined 0 answered.counts) answers-lined)
 
     the-rounds : rounds_in (entries asks fs) text ≡ length answered.counts
     the-rounds = omega (arith, lined.many)
@@ -211,8 +216,10 @@ module _ {input text : List ℕ} (w : Writes input text) where
     pub no-round : (entries asks fs ≡ 0) ⊎ Contradiction (collection_read fs q) → rounds_in (entries asks fs) text ≡ 0
     no-round h = the-rounds ∙ ap (λ (l : List ℕ). length l) (none-told answered.told h)
 
-    -- THEOREM: else there is one for each of rounds 1 to the lesser of the rounds needed and the allowance, in order, with the marks that it added
-    module _ (some : 0 < entries asks fs) (sane : Contradiction (collection_read fs q) → ⊥) (n : ℕ) (need : Needed (lite (collection_read fs q)) n) where
+    -- THEOREM: else there is one for each of rounds 1 to the lesser of the rounds needed and the allowance, in order, with the marks that
+    -- it added
+    module _ (some : 0 < entries asks fs) (sane : Contradiction (collection_read fs q) → ⊥) (n : ℕ)
+        (need : Needed (lite (collection_read fs q)) n) where
       well : WellFormed (collection_read fs q)
       well = sound-well-formed (asked fs q 0) (whole-accepted input fs s.sound q s.question 0 some)
 
@@ -224,9 +231,11 @@ module _ {input text : List ℕ} (w : Writes input text) where
           let i : k < length answered.counts = omega (arith, added.long, h) in
           let few = lite-few (collection_read fs q) well k _ (added.each k h) in
           let here : line_in text k ≡ round_line (0 + k + 1) (slice_index answered.counts k) =
-          ap (λ (l : List ℕ). line_in l k) answered.whole ∙ line_before (rounds_lined 0 answered.counts) answered.out k i ∙ round-is 0 answered.counts k i in
+          ap (λ (l : List ℕ). line_in l k) answered.whole ∙ line_before (rounds_lined 0 answered.counts) answered.out k i
+          ∙ round-is 0 answered.counts k i in
           let e : 0 + k + 1 ≡ k + 1 = omega arith in
-          subst (IsRoundLine (k + 1) (slice_index answered.counts k)) (sym (here ∙ ap (λ r. round_line r (slice_index answered.counts k)) e))
+          subst (IsRoundLine (k + 1) (slice_index answered.counts k))
+          (sym (here ∙ ap (λ r. round_line r (slice_index answered.counts k)) e))
           (round-line-is (k + 1) (slice_index answered.counts k) (omega (arith, i, few-told answered.told (λ _. well))) few)
 
       pub rounds-are-told : TellsRounds fs (collection_read fs q) (min n (rounds_allowed fs)) text
@@ -252,7 +261,8 @@ module _ {input text : List ℕ} (w : Writes input text) where
   -- THEOREM: a faulty input writes the line of its first faulty line's number, and the number that refuses that line
   pub fault-told : (before : List Frame) (r : Refusal) → IsFaulty input before r → IsFaultLine (length before + 1) r text
   fault-told before r s =
-      subst (IsFaultLine (length before + 1) r) (sym (fault-text before r s)) (fault-is (length before + 1) r (omega (arith, fault-line input before r s)))
+      subst (IsFaultLine (length before + 1) r) (sym (fault-text before r s))
+      (fault-is (length before + 1) r (omega (arith, fault-line input before r s)))
 
 -- what stands on a line of an answer to a call
 module _ {call : Call} {line : List ℕ} (w : Answers call line) where

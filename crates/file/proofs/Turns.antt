@@ -49,12 +49,14 @@ module _ (file : File) (q : Listed) where
   unfolding Answered
   answered_none = refl
 
-  answered_more : (k : ℕ) (out line : List ℕ) → Answered (held_call file q) k out → Answers (held_call file q k) line → Answered (held_call file q) (k + 1) (out ++ line)
+  answered_more : (k : ℕ) (out line : List ℕ) → Answered (held_call file q) k out → Answers (held_call file q k) line
+      → Answered (held_call file q) (k + 1) (out ++ line)
   unfolding Answered
   answered_more k out line a w = rw (add-one k) (out, line, a, w, refl)
 
   -- the answers to the first k asks go on to those of j more
-  answered_on : (k j : ℕ) (out : List ℕ) → Answered (held_call file q) k out → (rest : List ℕ) × Answered (held_call file q) (k + j) (out ++ rest)
+  answered_on : (k j : ℕ) (out : List ℕ) → Answered (held_call file q) k out
+      → (rest : List ℕ) × Answered (held_call file q) (k + j) (out ++ rest)
   unfolding Answered
   answered_on k zero out a = ([], rw (append-nil, add-zero) a)
   answered_on k (suc j) out a =
@@ -75,7 +77,8 @@ module _ (file : File) (q : Listed) where
 
   module _ (P Q : List ℕ → Type 0) where
     -- one more
-    pub more_done : (k : ℕ) (line : List ℕ) → Answers (held_call file q k) line → ((x : List ℕ) → P x → Q (x ++ line)) → Done k P → Done (k + 1) Q
+    pub more_done : (k : ℕ) (line : List ℕ) → Answers (held_call file q k) line → ((x : List ℕ) → P x → Q (x ++ line)) → Done k P
+        → Done (k + 1) Q
     more_done k line l so d = record {
       is = d.is;
       counts = d.counts;
@@ -101,7 +104,8 @@ module _ (file : File) (q : Listed) where
       }
 
   pub all_done : (P : List ℕ → Type 0) (k : ℕ) → k ≡ ask_count file → Done k P → AnswersAll file P
-  all_done P k e d = record { question = q; is = d.is; counts = d.counts; told = d.told; text = d.text; answered = rw e at d.answered; so = d.so }
+  all_done P k e d =
+      record { question = q; is = d.is; counts = d.counts; told = d.told; text = d.text; answered = rw e at d.answered; so = d.so }
 
 -- where the rounds are told no ask is answered yet
 pub none_done : (file : File) (P : List ℕ → Type 0) (r : RoundsAll file P) → Done file r.question 0 P

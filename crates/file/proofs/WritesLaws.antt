@@ -60,7 +60,8 @@ text-once (faulty before r) x y a b = a ∙ sym b
 text-once (sound fs) x y a b =
     let e = question-once (file_of fs) b.question a.question b.is a.is in
     let counts = told-once a.told (subst (λ (q : Listed). FileRounds fs q b.counts) e b.told) in
-    let out = answered-once (asked fs a.question) (entries asks fs) a.out b.out a.answered (subst (λ (q : Listed). Answered (asked fs q) (entries asks fs) b.out) e b.answered) in
+    let out = answered-once (asked fs a.question) (entries asks fs) a.out b.out a.answered
+    (subst (λ (q : Listed). Answered (asked fs q) (entries asks fs) b.out) e b.answered) in
     a.text-is ∙ ap₂ (λ (c o : List ℕ). round_lines 0 c ++ o) counts out ∙ sym b.text-is
 
 record Found (input : List ℕ) (x : List ℕ) : Type 0 where
@@ -85,7 +86,8 @@ writes-once {x = x} {y = y} a b =
     text-once f.verdict x y f.text-is (subst (λ (v : Verdict). TextIs v y) e g.text-is)
 
 -- THEOREM: two outcomes of answering an input in memory are equal: how much is told, and every byte of the text
-pub wrote-once : (old : List ℕ) {input x y : List ℕ} {n m : ℕ} → n ≤ length x → m ≤ length y → Writes input (take n x) → Writes input (take m y)
+pub wrote-once : (old : List ℕ) {input x y : List ℕ} {n m : ℕ} → n ≤ length x → m ≤ length y → Writes input (take n x)
+    → Writes input (take m y)
     → drop n x ≡ drop n old → drop m y ≡ drop m old → (n ≡ m) × (x ≡ y)
 wrote-once old {x = x} {y = y} {n = n} {m = m} h k a b r s =
     let e = writes-once a b in
@@ -101,18 +103,21 @@ serves-once input old x y a b = a.so ∙ ap (λ (text : List ℕ). old ++ text) 
 module _ (input : List ℕ) (n : ℕ) (h : most_bytes ≤ n) where
   pub writes-whole : {x : List ℕ} → Writes (take n input) x → Writes input x
   writes-whole (fault f r k) = fault f r (reading-whole input n h (faulty f r) k)
-  writes-whole (answers f q c x k t a) = answers f q c x (record { sound = reading-whole input n h (sound f) k.sound; question = k.question }) t a
+  writes-whole (answers f q c x k t a) =
+      answers f q c x (record { sound = reading-whole input n h (sound f) k.sound; question = k.question }) t a
 
   pub writes_start : {x : List ℕ} → Writes input x → Writes (take n input) x
   writes_start (fault f r k) = fault f r (reading-start input n h (faulty f r) k)
-  writes_start (answers f q c x k t a) = answers f q c x (record { sound = reading-start input n h (sound f) k.sound; question = k.question }) t a
+  writes_start (answers f q c x k t a) =
+      answers f q c x (record { sound = reading-start input n h (sound f) k.sound; question = k.question }) t a
 
 -- THEOREM: no text is longer than its room
 pub writes-length : {input out : List ℕ} → Writes input out → length out ≤ MOST_TEXT
 unfolding fault_line text
 writes-length (fault before n k) = omega arith
 writes-length {input} (answers fs q counts out k t a) =
-    let fine : 0 < entries asks fs → WellFormed (collection_read fs q) = λ some. sound-well-formed (asked fs q 0) (whole-accepted input fs k.sound q k.question 0 some) in
+    let fine : 0 < entries asks fs → WellFormed (collection_read fs q) =
+    λ some. sound-well-formed (asked fs q 0) (whole-accepted input fs k.sound q k.question 0 some) in
     omega (
       arith,
       length-append (round_lines 0 counts) out,
@@ -124,5 +129,6 @@ writes-length {input} (answers fs q counts out k t a) =
     )
 
 -- THEOREM: the first faulty line of any input has a number of at most 7,187
-pub fault-line : (input : List ℕ) (before : List Frame) (r : Refusal) → Reading [] (lines input) (faulty before r) → length before + 1 ≤ most_lines + 1
+pub fault-line : (input : List ℕ) (before : List Frame) (r : Refusal) → Reading [] (lines input) (faulty before r)
+    → length before + 1 ≤ most_lines + 1
 fault-line input before r h = omega (arith, within-lines before (reading-taken h read.none))

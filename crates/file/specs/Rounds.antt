@@ -7,7 +7,8 @@ use Rattle.meaning.specs.Lite.{lite}
 use Rattle.theory.specs.Marks.{RoundCounts}
 use Rattle.file.specs.Text.{round_line}
 
--- the lines of rounds that added so many marks each, the first of them after so many rounds before
+-- the lines of some rounds, each with the number of marks that it added; `before` rounds came before the
+-- first of them
 unfoldable pub round_lines : ℕ → List ℕ → List ℕ
 round_lines before [] = []
 round_lines before (m ∷ counts) = round_line (suc before) m ++ round_lines (suc before) counts

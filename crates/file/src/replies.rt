@@ -6,8 +6,8 @@ ghost use Rattle.file.specs.Text.{round_line, answer_line, IsInBytes};
 ghost use Rattle.file.specs.Replying.{ask_count, IsLentOf, RoundsAll, AnswersEach, AnswersAll, IsReply};
 
 use crate::text;
-use index::{Lent, Routes};
-use kinds::{AREA, Answer, Ask, MarkCount, RoundListener, Rounds};
+use index::{Checked, Lent, Routes};
+use kinds::{Answer, Ask, MarkCount, RoundListener, Rounds};
 use reading::{ASKS, Fault, File};
 use shell::Report;
 use std::io;
@@ -42,8 +42,9 @@ impl<T: Taker> RoundListener for RoundLines<'_, T> {
     }
 }
 
-// The rounds of a file that asks something told, and the answers to its asks, in their order. The areas, and the tables
-// that walks go by, are gone before the first answer is put.
+// The rounds of a file that asks something told, and the answers to its asks, in their order. What was read passed the
+// library's tests line by line, so that they need not be made again, and nobody asks for the sheet, so that no area is lent.
+// The tables that walks go by are gone before the first answer is put.
 fn tell_rounds<T: Taker>(
     file: &File,
     lent: Lent,
@@ -57,11 +58,10 @@ fn tell_rounds<T: Taker>(
         (λ out. T.takes to.old out to.new)) }
     ensures err { IfErr result (λ e. RoundsAll file.now (λ out. T.fails to.old out e to.new)) }
 {
-    let mut area = [0; AREA];
-    let mut spare = [0; AREA];
+    let checked = Checked { lent };
     let mut routes = Routes::new();
     let mut lines = RoundLines::new(to);
-    let prepared = lent.prepare_telling(&mut area, &mut spare, &mut routes, &mut lines)?;
+    let prepared = checked.prepare_telling(&mut routes, &mut lines)?;
     let asks = file.asks();
     prepared.reply_all(&asks, answers);
     Ok(())

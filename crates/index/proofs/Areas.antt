@@ -17,15 +17,16 @@ refused-fits l area spare BadCount h f = h.bad_count.0 refl f.counts
 refused-fits l area spare BadTable h f = (h.bad_table.0 refl).tables f.tables
 refused-fits l area spare BadNumber h f = (h.bad_number.0 refl).numbers f.numbers
 
+pub fits : (l : Lent) (area spare : ℕ) → Passes l.collection → HasAreas area spare → Fits (preparation l area spare)
+fits l area spare s a =
+    record { counts = s.counts; tables = record { tables = s.tables; area = a.area; spare = a.spare }; numbers = s.numbers }
+
 module _ (l : Lent) (area spare x y : List ℕ) where
   abbrev p : Preparation
   p = preparation l (length area) (length spare)
 
-  pub fits : Passes l.collection → HasAreas (length area) (length spare) → Fits p
-  fits s a = record { counts = s.counts; tables = record { tables = s.tables; area = a.area; spare = a.spare }; numbers = s.numbers }
-
   has : {f : Found} → IsSettled l (length area) (length spare) f → Fits p
-  has s = fits s.passes s.areas
+  has s = fits l (length area) (length spare) s.passes s.areas
 
   pub left-found : (f : Found) → IsSettled l (length area) (length spare) f → LeavesFirst l f area x → LeavesSecond f spare y
       → Left p area spare x y

@@ -72,12 +72,12 @@ module _ (l : Lent) (p : Passes l.collection) (rows : Rows) (r : RowsOf (meant l
       side {n} (yes h) still = absurd (g.changing n h (unchanged_from (meant l.collection) p.counts rows r n still))
       side (no h) still = omega arith
 
-module _ (l : Lent) (area spare : List ℕ) where
+module _ (l : Lent) (area spare : ℕ) where
   abbrev p : Preparation
-  p = preparation l (length area) (length spare)
+  p = preparation l area spare
 
   -- THEOREM: what was told is what is to be told
-  pub told-found : (f : Found) → IsSettled l (length area) (length spare) f → (counts : List ℕ) → CountsOf l f counts → MarksTold p counts
+  pub told-found : (f : Found) → IsSettled l area spare f → (counts : List ℕ) → CountsOf l f counts → MarksTold p counts
   told-found Contradiction s counts h = record { rounds = λ w. absurd (w.sane s.found); none = λ no. h }
   told-found Spent s counts h =
       let b = s.found in
@@ -86,7 +86,7 @@ module _ (l : Lent) (area spare : List ℕ) where
             let e = rounds-unique (lite (meant l.collection)) n b.0 need b.1.needed in
             let d : min n l.allowance ≡ l.allowance = omega (arith, b.1.more) in
             rw d h;
-        none = λ no. absurd (no (record { fits = fits l area spare area spare s.passes s.areas; sane = b.1.sane }));
+        none = λ no. absurd (no (record { fits = fits l area spare s.passes s.areas; sane = b.1.sane }));
       }
   told-found (Needed m r) s counts h =
       let b = s.found in
@@ -95,16 +95,16 @@ module _ (l : Lent) (area spare : List ℕ) where
             let e = rounds-unique (lite (meant l.collection)) n m need b.needed in
             let d : min n l.allowance ≡ m = omega (arith, b.allowed) in
             rw d h;
-        none = λ no. absurd (no (record { fits = fits l area spare area spare s.passes s.areas; sane = b.sane }));
+        none = λ no. absurd (no (record { fits = fits l area spare s.passes s.areas; sane = b.sane }));
       }
 
-  pub told-refused : (e : Refusal) → IsRefused l (length area) (length spare) e → MarksTold p []
-  told-refused e h = record { rounds = λ w. absurd (refused-fits l (length area) (length spare) e h w.fits); none = λ no. refl }
+  pub told-refused : (e : Refusal) → IsRefused l area spare e → MarksTold p []
+  told-refused e h = record { rounds = λ w. absurd (refused-fits l area spare e h w.fits); none = λ no. refl }
 
   -- THEOREM: and where the listener failed, what was told is a start of it
-  pub begun : Passes l.collection → HasAreas (length area) (length spare) → (counts : List ℕ) → (b : BeginsCounts l counts)
+  pub begun : Passes l.collection → HasAreas area spare → (counts : List ℕ) → (b : BeginsCounts l counts)
       → MarksTold p (counts ++ b.rest)
   begun passes areas counts b = record {
     rounds = λ w n need. let e = rounds-unique (lite (meant l.collection)) n b.n need b.needed in rw e b.all;
-    none = λ no. absurd (no (record { fits = fits l area spare area spare passes areas; sane = b.sane }));
+    none = λ no. absurd (no (record { fits = fits l area spare passes areas; sane = b.sane }));
   }

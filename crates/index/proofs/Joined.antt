@@ -28,7 +28,6 @@ use Rattle.elements.proofs.Mean.{concepts-mean, shown-declared}
 use Rattle.edges.specs.declared.list.FactEdges.{FactEdges}
 use Rattle.clash.specs.Clashes.{ConceptsClash, RolesClash}
 use Rattle.clash.specs.Conflicts.{AreConcerned, IsConcerned}
-use Rattle.clash.specs.Meant.{Computed}
 use Rattle.clash.proofs.Mean.{clash-mean}
 use Rattle.rules.specs.declared.rows.Rows.{Rows}
 use Rattle.rules.specs.Rows.{most_concepts, kind_of}

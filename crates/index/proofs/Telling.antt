@@ -43,7 +43,8 @@ module _ (p : Preparation) (t : List ℕ) (from : ℕ) where
       by (no m) = let e : slice_index_or none k None ≡ None = get_or_past none k None
           (omega (arith, length-replicate {A = Option Bool} n None)) in rw e tt
 
-  module _ (s : Strides) (r : Paths) (loops : s.loops ≡ r.loops) (transitions : s.transitions ≡ r.transitions) (edges : s.edges.now ≡ r.edges)
+  module _ (s : Strides) (r : Paths) (loops : s.loops ≡ r.loops) (transitions : s.transitions ≡ r.transitions)
+      (edges : s.edges.now ≡ r.edges)
       (right : (ask : Ask) → AskDeclared p.counts ask → StridesLead r ask ↔ IsYes (collection_in p) ask) where
     by_strides : (ask : Ask) → AskDeclared p.counts ask → YesBy s r.question ask ↔ IsYes (collection_in p) ask
     by_strides ask d = let w = right ask d in rw (loops, transitions, edges) w

@@ -5,6 +5,7 @@ pub mod Rounds
 pub mod Asked
 -- What the rooms find.
 pub mod Works
+pub mod OneProof
 pub mod Ground
 pub mod Worked
 -- The words of the clauses.

@@ -7,7 +7,7 @@ use Rattle.meaning.specs.Lent.{Tables, collection, TablesFit, NumbersFit}
 use Rattle.meaning.specs.Model.{Contradiction}
 use Rattle.theory.specs.Sheet as sheet
 use Rattle.meaning.specs.Lite.{lite}
-use Rattle.meaning.specs.Layout.{Lays, zeros}
+use Rattle.meaning.specs.Layout.{area_length, Lays, zeros}
 use Rattle.meaning.specs.Deeds.{SameButDeeds}
 use Rattle.tables.specs.Lists.{lists}
 use Rattle.index.specs.declared.lent.Lent.{Lent}
@@ -31,6 +31,10 @@ preparation l = made_of l.collection.counts (lists l.collection) l.allowance
 -- what a caller lends, with these areas
 abbrev pub prepared_of : Lent → List ℕ → List ℕ → Preparation
 prepared_of l area spare = preparation l (length area) (length spare)
+
+-- what a caller lends, with two areas of their length, whatever they hold
+abbrev pub fitting_of : Lent → Preparation
+fitting_of l = preparation l area_length area_length
 
 -- a preparation with other tables, all else equal
 abbrev pub with_tables : Preparation → Tables → Preparation

@@ -3,6 +3,7 @@
 #![tactic(auto)]
 
 mod call;
+mod checked;
 mod ground;
 mod lent;
 mod prepared;
@@ -11,6 +12,7 @@ mod row;
 pub mod theorems;
 mod work;
 
+pub use checked::Checked;
 pub use lent::Lent;
 pub use prepared::Prepared;
 pub use routes::Routes;

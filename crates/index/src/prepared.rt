@@ -7,13 +7,14 @@ ghost use Rattle.index.specs.Works.{StridesLead};
 ghost use Rattle.index.specs.Worked.{IsWorked};
 ghost use Rattle.index.specs.Marks.{MarksTold, MarksStand};
 ghost use Rattle.index.specs.Rounds.{HasRounds, NoRounds};
-ghost use Rattle.index.specs.Preparation.{Preparation, preparation, prepared_of, WhateverDeeds};
+ghost use Rattle.index.specs.Preparation.{Preparation, preparation, prepared_of, fitting_of, WhateverDeeds};
 ghost use Rattle.index.specs.Preparation.{HasSheet, HoldsPrepared, Left};
 
+use crate::checked::Checked;
 use crate::lent::Lent;
 use crate::routes::{Paths, Routes};
 use crate::work::{Found, settle};
-use kinds::{Answer, Ask, NoListener, RoundListener, Rounds};
+use kinds::{AREA, Answer, Ask, NoListener, RoundListener, Rounds};
 use std::marker::Model;
 use tables::{Record, Refusal, Table};
 use walk::{Answers, BATCH};
@@ -140,9 +141,8 @@ fn work<'r, L: RoundListener>(
     match lent.check(area.len(), spare.len()) {
         Err(refusal) => Ok(Err(refusal)),
         Ok(()) => {
-            let area = area.as_mut_array().unwrap();
-            let spare = spare.as_mut_array().unwrap();
-            let found = settle(lent, area, spare, routes, listener)?;
+            let checked = Checked { lent: *lent };
+            let found = settle(&checked, area, spare, routes, listener)?;
             Ok(Ok(found))
         }
     }
@@ -166,7 +166,7 @@ impl<'a> Lent<'a> {
         }
     }
 
-    // As `prepare`, and a listener is told of each round, as it is made, how many marks it added.
+    // As `prepare`, but the listener is called after each round, with the number of marks that the round added.
     // Where the listener fails, no more rounds are made, and both areas are as they came.
     pub fn prepare_telling<L: RoundListener>(
         &self,
@@ -214,6 +214,38 @@ impl<'a> Lent<'a> {
             area: area_len,
             spare: spare_len,
             worked,
+        })
+    }
+}
+
+impl<'a> Checked<'a> {
+    // As `Lent::prepare_telling` of the same with two areas of their length, but nothing is tested, and no area is lent: nobody
+    // is left the sheet.
+    pub fn prepare_telling<L: RoundListener>(
+        &self,
+        routes: &'a mut Routes,
+        listener: &mut L,
+    ) -> Result<Prepared<'a>, L::Error>
+        ensures own { IfOk result (λ p. p ≡ fitting_of self.now.lent) }
+        ensures told { OnOk result (ToldOf L.hears
+            (MarksTold (fitting_of self.now.lent)) listener.old listener.new) }
+
+        // Where it fails, all counts up to the one that it failed at are of those to be told.
+        ensures failed { IfErr result (λ e. FailedAmong L.hears L.fails
+            (MarksTold (fitting_of self.now.lent)) listener.old e listener.new) }
+
+        // Of a collection with other deed numbers all would be the same.
+        ensures deeds_told { OnOk result (WhateverDeeds (fitting_of self.now.lent)
+            (λ q. ToldOf L.hears (MarksTold q) listener.old listener.new)) }
+        ensures deeds_failed { IfErr result (λ e. WhateverDeeds (fitting_of self.now.lent)
+            (λ q. FailedAmong L.hears L.fails (MarksTold q) listener.old e listener.new)) }
+    {
+        let found = settle(self, &mut [], &mut [], routes, listener)?;
+        Ok(Prepared {
+            lent: self.lent,
+            area: AREA,
+            spare: AREA,
+            worked: Ok(found),
         })
     }
 }

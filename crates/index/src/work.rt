@@ -1,14 +1,20 @@
 // The rooms put together: all of a collection that does not depend on an ask.
 
-ghost use Rattle.std.specs.Prelude.{◌≡◌, IfOk, IfErr, OnErr};
+ghost use Rattle.std.specs.Prelude.{◌≡◌, ℕ, length, IfOk, IfErr, OnErr};
+ghost use Rattle.theory.specs.Sheet.{Mark};
+ghost use Rattle.meaning.specs.Layout.{zeros};
+ghost use Rattle.rules.specs.Rows.{kind_of};
+ghost use Rattle.rules.specs.declared.rows.Rows.{Rows as TheRows};
 ghost use Rattle.sheet.specs.Heard.{ToldOf, FailedOf};
-ghost use Rattle.index.specs.Works.{Passes, IsFound, LeavesFirst, LeavesSecond};
+ghost use Rattle.sheet.specs.Sheets.{IsRound};
+ghost use Rattle.sheet.specs.Areas.{LaysMarks};
+ghost use Rattle.index.specs.Works.{HasAreas, IsFound, LeavesFirst, LeavesSecond};
 ghost use Rattle.index.specs.Works.{CountsOf, BeginsCounts};
 
+use crate::checked::Checked;
 use crate::ground::Ground;
-use crate::lent::Lent;
 use crate::routes::{Paths, Routes};
-use kinds::{AREA, RoundListener, Rounds};
+use kinds::{RoundListener, Rounds};
 use rules::Rows;
 use sheet::{Closing, Ran};
 
@@ -20,23 +26,39 @@ pub enum Found<'r> {
     Needed(Rounds, Paths<'r>),
 }
 
+// The sheet goes to the first area and zeros to the second, where both have their length. Who needs no sheet lends empty ones.
+fn leave(closing: &Closing, area: &mut [u8], spare: &mut [u8])
+    ensures first { HasAreas (length area.old) (length spare.old) → (rows : TheRows) (n : ℕ)
+        → IsRound rows n closing.now → LaysMarks (Mark (kind_of rows) n) area.new }
+    ensures second { HasAreas (length area.old) (length spare.old) → spare.new ≡ zeros }
+{
+    let Some(area) = area.as_mut_array() else {
+        return;
+    };
+    let Some(spare) = spare.as_mut_array() else {
+        return;
+    };
+    closing.leave(area, spare);
+}
+
 // Works everything out in order: orders and elements, the contradiction test, the rounds against the allowance, each of which
 // is reported to the listener, and what walks follow. The tables are locals or lent, and are not copied.
 pub(crate) fn settle<'r, L: RoundListener>(
-    lent: &Lent<'r>,
-    area: &mut [u8; AREA],
-    spare: &mut [u8; AREA],
+    checked: &Checked<'r>,
+    area: &mut [u8],
+    spare: &mut [u8],
     routes: &'r mut Routes,
     listener: &mut L,
 ) -> Result<Found<'r>, L::Error>
-    requires { Passes lent.now.collection }
-    ensures found { IfOk result (IsFound lent.now) }
-    ensures first { IfOk result (λ found. LeavesFirst lent.now found area.old area.new) }
-    ensures second { IfOk result (λ found. LeavesSecond found spare.old spare.new) }
+    ensures found { IfOk result (IsFound checked.now.lent) }
+    ensures first { HasAreas (length area.old) (length spare.old)
+        → IfOk result (λ found. LeavesFirst checked.now.lent found area.old area.new) }
+    ensures second { HasAreas (length area.old) (length spare.old)
+        → IfOk result (λ found. LeavesSecond found spare.old spare.new) }
     ensures told { IfOk result (λ found.
-        ToldOf L.hears (CountsOf lent.now found) listener.old listener.new) }
+        ToldOf L.hears (CountsOf checked.now.lent found) listener.old listener.new) }
     ensures failed { IfErr result (λ e.
-        FailedOf L.hears L.fails (BeginsCounts lent.now) listener.old e listener.new) }
+        FailedOf L.hears L.fails (BeginsCounts checked.now.lent) listener.old e listener.new) }
     ensures area_kept { OnErr result (area.new ≡ area.old) }
     ensures spare_kept { OnErr result (spare.new ≡ spare.old) }
 {
@@ -46,7 +68,7 @@ pub(crate) fn settle<'r, L: RoundListener>(
         transitions,
         accepting,
     } = routes;
-    let ground = Ground::new(&lent.collection);
+    let ground = Ground::new(&checked.lent.collection);
     let Some(edges) = ground.edges(transitions, list) else {
         return Ok(Found::Contradiction);
     };
@@ -54,8 +76,8 @@ pub(crate) fn settle<'r, L: RoundListener>(
     let mut rows = Rows::NONE;
     ground.lay_out(&below, transitions, &mut rows);
     let mut closing = Closing::new();
-    let ran = closing.run(&rows, lent.allowance, listener)?;
-    closing.leave(area, spare);
+    let ran = closing.run(&rows, checked.lent.allowance, listener)?;
+    leave(&closing, area, spare);
     match ran {
         Ran::Spent => Ok(Found::Spent),
         Ran::Needed(rounds) => {

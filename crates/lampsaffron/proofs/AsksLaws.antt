@@ -33,7 +33,8 @@ module _ (p : Preparation) (asks : List ℕ) (old : Left) where
       by : Dec (number ≡ 0) → new ≡ new'
       by (yes z) =
           let f = fits-then a.number_is z in
-          let w = in-turn-once p (read_ask asks) (Tells new.numbers new.counts) (Tells new'.numbers new'.counts) old.area old.spare (ask_count asks)
+          let w = in-turn-once p (read_ask asks) (Tells new.numbers new.counts) (Tells new'.numbers new'.counts) old.area old.spare
+          (ask_count asks)
           (a.in_turn z) (b.in_turn (sym e ∙ z)) in
           let numbers = ext_get_or 0 new.numbers new'.numbers (a.numbers_long ∙ sym b.numbers_long) (λ k h.
           let s = w.2 k (omega (arith, h, a.numbers_long, f.number_each)) in

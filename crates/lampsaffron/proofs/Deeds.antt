@@ -31,7 +31,8 @@ gives-deeds c t s g = record {
 }
 
 -- THEOREM: asks in turn have the same answers, and leave the same bytes
-pub in-turn-deeds : {p : Preparation} {ask : ℕ → Ask} {tells : ℕ → Answer → Type 0} {area spare : List ℕ} {n : ℕ} {x y : List ℕ} (t : Tables)
+pub in-turn-deeds : {p : Preparation} {ask : ℕ → Ask} {tells : ℕ → Answer → Type 0} {area spare : List ℕ} {n : ℕ}
+    {x y : List ℕ} (t : Tables)
     → SameButDeeds p.tables t → InTurn p ask tells area spare n x y → InTurn (passed_with p t) ask tells area spare n x y
 in-turn-deeds t s none = none
 in-turn-deeds {p} {ask} t s (next {n = n} {x = x} {y = y} r before told o) =
@@ -95,12 +96,15 @@ module _ (p : Preparation) (t : Tables) (s : SameButDeeds p.tables t) where
   number-deeds (holds c (holds le (holds f (holds n (fails k))))) =
       holds c (holds le (holds (tables-to p t s f) (holds (numbers-to p t s n) (fails (subst (λ 𝓒. (Contradiction 𝓒 → ⊥) → ⊥) alike k)))))
   number-deeds (holds c (holds le (holds f (holds n (holds k m))))) =
-      holds c (holds le (holds (tables-to p t s f) (holds (numbers-to p t s n) (holds (subst (λ 𝓒. Contradiction 𝓒 → ⊥) alike k) (subst (Allows _) alike m)))))
+      holds c (holds le
+      (holds (tables-to p t s f)
+      (holds (numbers-to p t s n) (holds (subst (λ 𝓒. Contradiction 𝓒 → ⊥) alike k) (subst (Allows _) alike m)))))
 
   told-deeds : {counts : List ℕ} → MarksTold p counts → MarksTold r counts
   told-deeds {counts} m = record {
     rounds = λ h n need.
-        subst (λ 𝓒. RoundCounts (lite 𝓒) (min n p.allowance) counts) alike (m.rounds (sheet-to r p.tables back h) n (subst (λ 𝓒. Needed (lite 𝓒) n) (sym alike) need));
+        subst (λ 𝓒. RoundCounts (lite 𝓒) (min n p.allowance) counts) alike
+        (m.rounds (sheet-to r p.tables back h) n (subst (λ 𝓒. Needed (lite 𝓒) n) (sym alike) need));
     none = λ n. m.none (λ h. n (sheet-to p t s h));
   }
 
@@ -108,7 +112,8 @@ module _ (p : Preparation) (t : Tables) (s : SameButDeeds p.tables t) where
   pub marks-deeds : {old new : Lent} {number : ℕ} → TellsMarks p old number new → TellsMarks r old number new
   marks-deeds {new = new} m = record {
     number_is = number-deeds m.number_is;
-    sheet = λ w n need. subst (λ 𝓒. Lays (Mark (lite 𝓒) (min n p.allowance)) new.area) alike (m.sheet w n (subst (λ 𝓒. Needed (lite 𝓒) n) (sym alike) need));
+    sheet = λ w n need. subst (λ 𝓒. Lays (Mark (lite 𝓒) (min n p.allowance)) new.area) alike
+        (m.sheet w n (subst (λ 𝓒. Needed (lite 𝓒) n) (sym alike) need));
     cleared = m.cleared;
     told = λ w. let v = m.told w in (v.0, told-deeds v.1, v.2);
     kept = m.kept;

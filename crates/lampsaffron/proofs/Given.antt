@@ -17,7 +17,8 @@ gives-once c m n j k x y u v a b =
     (a.number_is ∙ ap answer_number e.0 ∙ sym b.number_is, a.count_is ∙ ap answer_count e.0 ∙ sym b.count_is, e.1, e.2)
 
 -- THEOREM: each number and count of a row, and both areas, are fixed by the call
-pub row-once : (p : Preparation) (t area spare numbers numbers' counts counts' x y u v : List ℕ) → TellsRow p t area spare numbers counts x y
+pub row-once : (p : Preparation) (t area spare numbers numbers' counts counts' x y u v : List ℕ)
+    → TellsRow p t area spare numbers counts x y
     → TellsRow p t area spare numbers' counts' u v → (numbers ≡ numbers') × (counts ≡ counts') × (x ≡ u) × (y ≡ v)
 row-once p t area spare numbers numbers' counts counts' x y u v a b =
     let f = a.fits in

@@ -23,11 +23,14 @@ module _ (row : List ℕ) (steps finals : ℕ) where
       → (r ≡ refusal.NoExpression → IsNoExpression row)
       → ((n : ℕ) → r ≡ refusal.TooManyMarks n → HasTooManyMarks row n) → Makes row steps finals (number_of r)
   gives-refused room refusal.TooDeep a b d = holds room (fails (λ s. s (a refl)))
-  gives-refused room refusal.NoExpression a b d = let x = b refl in holds room (holds x.shallow (fails (λ w. let h = w.1 in x.none 8 h.tree w.0 h.is.reads)))
+  gives-refused room refusal.NoExpression a b d =
+      let x = b refl in holds room (holds x.shallow (fails (λ w. let h = w.1 in x.none 8 h.tree w.0 h.is.reads)))
   gives-refused room (refusal.TooManyMarks n) a b d =
       let x = d n refl in
       let h = x.marks in
-      holds room (holds h.shallow (holds (n, h) (fails (λ f. let p = f.few in let q = x.more in let e = one-count f.marks x.marks in omega (arith, p, q, e)))))
+      holds room
+      (holds h.shallow
+      (holds (n, h) (fails (λ f. let p = f.few in let q = x.more in let e = one-count f.marks x.marks in omega (arith, p, q, e)))))
 
 -- THEOREM: one number is given
 pub made-once : (row : List ℕ) (steps finals n m : ℕ) → Makes row steps finals n → Makes row steps finals m → n ≡ m

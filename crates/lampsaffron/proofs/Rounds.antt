@@ -1,5 +1,6 @@
 -- The number of the call that tells how many marks each round made, and the row that it leaves.
-use Rattle.std.specs.Prelude.{◌≡◌, ◌≢◌, refl, List, [], ◌∷◌, ◌++◌, ℕ, suc, ◌+◌, ◌≤◌, ◌<◌, length, take, drop, slice_index, slice_set, min, sum}
+use Rattle.std.specs.Prelude.{◌≡◌, ◌≢◌, refl, List, [], ◌∷◌, ◌++◌, ℕ, suc, ◌+◌, ◌≤◌, ◌<◌, length, take, drop, slice_index}
+use Rattle.std.specs.Prelude.{slice_set, min, sum}
 use Rattle.std.proofs.Math.Decide.{ℕ_discrete}
 use Rattle.std.proofs.Common.{⊎_elim, sym, subst, ap, ◌∙◌, inl, inr, arith, length-append}
 use Rattle.std.proofs.Math.Seq.{drop-cons, set-append_seam, take-append_seam, drop-append_seam}
@@ -35,10 +36,15 @@ module _ (p : Preparation) (room : ℕ) where
   number-none c le (holds a (holds t (fails n))) = holds c (holds le (holds t (fails n)))
   number-none c le (holds a (holds t (holds n (fails k)))) = holds c (holds le (holds t (holds n (fails k))))
   number-none c le (holds a (holds t (holds n (holds k w)))) =
-      rw w.0 (holds c (holds le (holds t (holds n (holds k (fails (λ v. let g = rounds-unique (lite (collection_in p)) v.0 w.1.0 v.1 w.1.1 in omega (arith, g, v.2, w.1.2))))))))
+      rw w.0 (holds c
+      (holds le (holds t
+      (holds n (holds k
+      (fails (λ v. let g = rounds-unique (lite (collection_in p)) v.0 w.1.0 v.1 w.1.1 in omega (arith, g, v.2, w.1.2))))))))
 
   pub number-has : p.allowance ≤ room → (n : ℕ) → HasRounds p n → MarksNumber p room 0
-  number-has le n h = let f = h.sheet.fits in holds f.counts (holds le (holds f.tables (holds f.numbers (holds h.sheet.sane (holds (n, h.needed, h.allowed) refl)))))
+  number-has le n h =
+      let f = h.sheet.fits in
+      holds f.counts (holds le (holds f.tables (holds f.numbers (holds h.sheet.sane (holds (n, h.needed, h.allowed) refl)))))
 
   idles : (number : ℕ) → (number ≡ 0 → ⊥) → (number ≡ 3 → ⊥) → {A : Type 0} → WorksRounds number → A
   idles number n m (inl e) = absurd (n e)
@@ -103,7 +109,8 @@ module _ {S N : Type 0} (row : S → List ℕ) (told : S → ℕ) (name : S → 
         same = q.0 ∙ v.same;
         many = omega (arith, q.1.more, v.many, more);
         few = omega (arith, few, more);
-        is = rw e (q.1.put ∙ (rw (v.is, v.many) refl ∙ (rest ∙ (seam ∙ sym (append_assoc counts (m ∷ []) (drop (suc (length counts)) (row from)))))));
+        is = rw e (q.1.put
+            ∙ (rw (v.is, v.many) refl ∙ (rest ∙ (seam ∙ sym (append_assoc counts (m ∷ []) (drop (suc (length counts)) (row from)))))));
       }
 
   pub front : {from to : S} {counts : List ℕ} → Held from to counts → IsFront counts (told to) (row from) (row to)
@@ -133,7 +140,8 @@ none-put rounds old new f = let r = f.rest in rw f.many at r
 pub none-kept : (p : Preparation) {rounds : ℕ} {old new : List ℕ} → TellsFront p rounds old new → (HasSheet p → ⊥) → new ≡ old
 none-kept p {rounds} {old} {new} t n = let e = t.1.none n in let f = t.2 in none-put rounds old new (rw e at f)
 
-module _ (l : index.Lent) {counts : Counts} {tables : Tables} {allowance : ℕ} (e : l.collection.counts ≡ counts) (f : lists l.collection ≡ tables) (g : l.allowance ≡ allowance)
+module _ (l : index.Lent) {counts : Counts} {tables : Tables} {allowance : ℕ} (e : l.collection.counts ≡ counts)
+    (f : lists l.collection ≡ tables) (g : l.allowance ≡ allowance)
     (old : Lent) where
   abbrev worked_from : Preparation
   worked_from = preparation l (length old.area) (length old.spare)
@@ -148,7 +156,8 @@ module _ (l : index.Lent) {counts : Counts} {tables : Tables} {allowance : ℕ} 
         → (HasSheet worked_from → y ≡ zeros) → TellsFront worked_from r old.marks m → TellsMarks lent_from old number (left x y m r)
     tells-worked w sheet cleared told =
         let s = worked worked_from (length old.marks) n w in
-        let all : TellsMarks worked_from old number (left x y m r) = record { number_is = n; sheet = λ v. sheet s; cleared = λ v. cleared s; told = λ v. told; kept = λ v. absurd (v w) } in
+        let all : TellsMarks worked_from old number (left x y m r) =
+        record { number_is = n; sheet = λ v. sheet s; cleared = λ v. cleared s; told = λ v. told; kept = λ v. absurd (v w) } in
         subst (λ p. TellsMarks p old number (left x y m r)) (lent-is l e f g (length old.area) (length old.spare)) all
 
     -- and where none were, as what was lent is left
@@ -214,7 +223,8 @@ module _ (p : Preparation) (old : Lent) where
           let v = rw e at w in
           let s = worked p (length old.marks) a.number_is w in
           let n = rounds-suffice (collection_in p) (well p s.fits) in
-          let area = lays-once (Mark (lite (collection_in p)) (min n.0 p.allowance)) new.area new'.area (a.sheet w n.0 n.2) (b.sheet v n.0 n.2) in
+          let area = lays-once (Mark (lite (collection_in p)) (min n.0 p.allowance)) new.area new'.area (a.sheet w n.0 n.2)
+          (b.sheet v n.0 n.2) in
           let spare = a.cleared w ∙ sym (b.cleared v) in
           let x = a.told w in
           let y = b.told v in

@@ -76,7 +76,8 @@ pairs_most pairs row n m h w = record { long = w.long; each = λ k l. w.each k (
 pub pair_is : (pairs row : List ℕ) (k : ℕ) → HasPair pairs row k → read_ask row k ≡ pair_at pairs k
 pair_is pairs row k h =
     let kind : field ask_width row 0 k ≡ 0 = ap (λ i. slice_index row i) (add-zero (ask_width * k)) ∙ h.kind in
-    let first : field ask_width row 1 k ≡ field pair_width pairs 0 k = h.first ∙ ap (λ i. slice_index pairs i) (sym (add-zero (pair_width * k))) in
+    let first : field ask_width row 1 k ≡ field pair_width pairs 0 k =
+    h.first ∙ ap (λ i. slice_index pairs i) (sym (add-zero (pair_width * k))) in
     let second : field ask_width row 2 k ≡ field pair_width pairs 1 k = h.second in
     rw (kind, first, second) refl
 
@@ -128,7 +129,8 @@ pub told : (p : Preparation) (pairs t area spare x y : List ℕ) (answers : List
     → InTurn p (pair_at pairs) (Tells numbers counts) area spare (pair_count pairs) x y
 told p pairs t area spare x y answers long numbers counts e fits same are each turns =
     let few : min (ask_count t) long ≡ pair_count pairs = omega (arith, e, same, fits.whole.few) in
-    told-each p (read_ask t) (pair_at pairs) area spare x y answers (pair_count pairs) numbers counts fits.number_each fits.count_each are each (rw few at turns)
+    told-each p (read_ask t) (pair_at pairs) area spare x y answers (pair_count pairs) numbers counts fits.number_each fits.count_each are
+    each (rw few at turns)
 
 -- a row of asks of both kinds that fits is told so
 pub told-asks : (p : Preparation) (t area spare x y : List ℕ) (answers : List Answer) (long : ℕ) (numbers counts : List ℕ) → 256 ≡ long
@@ -137,4 +139,5 @@ pub told-asks : (p : Preparation) (t area spare x y : List ℕ) (answers : List 
     → InTurn p (read_ask t) (Tells numbers counts) area spare (ask_count t) x y
 told-asks p t area spare x y answers long numbers counts e fits each turns =
     let few : min (ask_count t) long ≡ ask_count t = omega (arith, e, fits.whole.few) in
-    told-each p (read_ask t) (read_ask t) area spare x y answers (ask_count t) numbers counts fits.number_each fits.count_each (λ k h. refl) each (rw few at turns)
+    told-each p (read_ask t) (read_ask t) area spare x y answers (ask_count t) numbers counts fits.number_each fits.count_each
+    (λ k h. refl) each (rw few at turns)

@@ -29,7 +29,7 @@ module _ (row : List ℕ) (steps finals : ℕ) where
       ∷ HasAutomaton row else 14 ∷ [])
       (λ number. number ≡ 0)
 
--- the tables that are told: so many states, and so many numbers at the front of each row
+-- the tables that the numbers returned describe: the states, and the used front of each row
 abbrev pub told_tables : (states steps_used : ℕ) (steps : List ℕ) (finals_used : ℕ)
     (finals : List ℕ) → Listed
 told_tables states steps_used steps finals_used finals = record {

@@ -308,8 +308,8 @@ pub extern "C" fn lampsaffron_expression(
 ) -> u8
     ensures number { Makes marks.now (length steps.old) (length finals.old) result }
 
-    // After 0 the tables that are told at the front of both rows are those of the row's expression,
-    // and ask for the words of it; and so many numbers stand there.
+    // After 0 the tables at the front of both rows are those of the row's expression, ask for its
+    // words, and have the numbers of states, steps and finals that are returned.
     ensures made { let told =
         told_tables states.new steps_used.new steps.new finals_used.new finals.new in
         result ≡ 0 → IsAutomatonOf marks.now told }

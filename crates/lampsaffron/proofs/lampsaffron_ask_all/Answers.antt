@@ -23,5 +23,6 @@ returns-clause-deeds c = λ t s. in-turn-deeds t s (returns-clause-in_turn c)
 pub returns-clause-seven_never : goal.returns-clause-seven_never
 returns-clause-seven_never c =
     let fits = c.row_fits.ensures.0 c.if-not-row_fits.false in
-    let each : RowFits c.args.pairs.now (length c.tell.new.numbers) (length c.tell.new.counts) = rw (c.tell.auto.numbers, c.tell.auto.counts) fits in
+    let each : RowFits c.args.pairs.now (length c.tell.new.numbers) (length c.tell.new.counts) =
+    rw (c.tell.auto.numbers, c.tell.auto.counts) fits in
     row-never _ _ _ _ _ _ _ _ _ each.number_each (returns-clause-in_turn c)

@@ -31,7 +31,8 @@ loop-ask-preserved g c =
     let p = c.in-Some.ensures.steps in
     let v = c.loop-ask.invariant in
     let line = answered_next _ _ _ _ _ _ _ _ v.here p.0.0 p.0.1 p.1 _ refl in
-    let done = more_done c.args.file.now v.question _ (λ out. g.T.Taker.takes c.args.to.now out c.put_answer.new.to) _ _ line (λ x t. g.met.T.Taker.more _ _ _ x _ t c.in_ok-put_answer.ensures.ok) v.done in
+    let done = more_done c.args.file.now v.question _ (λ out. g.T.Taker.takes c.args.to.now out c.put_answer.new.to) _ _ line
+    (λ x t. g.met.T.Taker.more _ _ _ x _ t c.in_ok-put_answer.ensures.ok) v.done in
     record {
       question = v.question;
       here = left_next _ _ _ _ _ _ _ _ v.here p.0.0 p.0.1 p.1;
@@ -41,7 +42,8 @@ loop-ask-preserved g c =
 pub returns-in_err-tell_rounds-clause-err : goal.returns-in_err-tell_rounds-clause-err
 returns-in_err-tell_rounds-clause-err g c =
     passed_on c.from_residual.result _ _ c.from_residual.ensures.1
-    (all_from c.args.file.now _ _ (λ x y t. g.met.T.Taker.before _ _ x y _ t) 0 (omega arith) (none_done _ _ c.in_err-tell_rounds.ensures.err))
+    (all_from c.args.file.now _ _ (λ x y t. g.met.T.Taker.before _ _ x y _ t) 0 (omega arith)
+    (none_done _ _ c.in_err-tell_rounds.ensures.err))
 
 pub returns-in_err-put_answer-clause-err : goal.returns-in_err-put_answer-clause-err
 returns-in_err-put_answer-clause-err g c =
@@ -56,11 +58,13 @@ returns-in_err-put_answer-clause-err g c =
 pub returns-clause-ok : goal.returns-clause-ok
 returns-clause-ok g c =
     let v = c.loop-ask.invariant in
-    all_done c.args.file.now v.question _ _ (none_left _ _ _ _ v.here (⊎_elim (λ n. inl n.1.0.0) (λ n. inr n.1.0) c.in-None.ensures.steps)) v.done
+    all_done c.args.file.now v.question _ _ (none_left _ _ _ _ v.here (⊎_elim (λ n. inl n.1.0.0) (λ n. inr n.1.0) c.in-None.ensures.steps))
+    v.done
 
 pub returns-then-is_empty-clause-ok : goal.returns-then-is_empty-clause-ok
 returns-then-is_empty-clause-ok g c =
-    nothing-asked c.args.file.now _ _ c.collection.ensures.tables.is (rw c.asks.ensures at (c.is_empty.ensures.0 c.if-is_empty.true)) (g.met.T.Taker.none _)
+    nothing-asked c.args.file.now _ _ c.collection.ensures.tables.is (rw c.asks.ensures at (c.is_empty.ensures.0 c.if-is_empty.true))
+    (g.met.T.Taker.none _)
 
 pub tell_rounds-requires-clause-some : goal.tell_rounds-requires-clause-some
 tell_rounds-requires-clause-some g c =

@@ -1,10 +1,16 @@
 use Rattle.std.proofs.Common.{rules, ◌++◌, ◌∙◌, refl, subst}
 use Rattle.meaning.specs.Layout.{area_length}
 use Rattle.file.specs.Rounds.{round_lines}
-use Rattle.file.proofs.Answering.{is_own, replies-answer, counts-told}
+use Rattle.file.proofs.Answering.{is_own, own-passes, replies-answer, counts-told}
 use Rattle.file.proofs.Listening.{rounds-put, rounds-failed}
 use Rattle.file.proofs.Turns.{passed_on}
 use Rattle.file.proofs.replies.tell_rounds.Goals as goal
+
+pub invariant_of-checked : goal.invariant_of-checked
+invariant_of-checked g c =
+    let its = c.requires.lent in
+    let passes = own-passes c.args.file.now c.requires.read its.tables.question its.tables.is c.requires.some in
+    record { passes = passes c.args.lent.collection its.counts its.tables.are }
 
 pub returns-in_err-prepared-clause-err : goal.returns-in_err-prepared-clause-err
 returns-in_err-prepared-clause-err g c =
@@ -13,9 +19,11 @@ returns-in_err-prepared-clause-err g c =
     let q = its.tables.question in
     let is = its.tables.is in
     let some = c.requires.some in
-    let lent = is_own file q c.args.lent.collection c.args.lent.allowance area_length area_length its.counts its.tables.are its.allowance refl refl in
+    let lent = is_own file q c.args.lent.collection c.args.lent.allowance area_length area_length its.counts its.tables.are its.allowance
+    refl refl in
     let (counts, rest, marks, failed) = c.in_err-prepared.ensures.failed in
-    let put = rounds-failed (λ l. l.to.ghost_name) (λ l. l.to.now) g.T.Taker.takes g.T.Taker.fails g.met.T.Taker.none g.met.T.Taker.more c.new-lines.result g.met.T.Taker.after g.met.T.Taker.before counts rest _ _ failed in
+    let put = rounds-failed (λ l. l.to.ghost_name) (λ l. l.to.now) g.T.Taker.takes g.T.Taker.fails g.met.T.Taker.none g.met.T.Taker.more
+    c.new-lines.result g.met.T.Taker.after g.met.T.Taker.before counts rest _ _ failed in
     let same = put.0 in
     let so = rw c.new-lines.ensures.to at put.1 in
     passed_on c.from_residual.result _ _ c.from_residual.ensures.1
@@ -34,10 +42,12 @@ returns-clause-ok g c =
     let q = its.tables.question in
     let is = its.tables.is in
     let some = c.requires.some in
-    let lent = is_own file q c.args.lent.collection c.args.lent.allowance area_length area_length its.counts its.tables.are its.allowance refl refl in
+    let lent = is_own file q c.args.lent.collection c.args.lent.allowance area_length area_length its.counts its.tables.are its.allowance
+    refl refl in
     let (counts, marks, told) = c.in_ok-prepared.ensures.told in
     let made = c.in_ok-prepared.ensures.own ∙ lent in
-    let put = rounds-put (λ l. l.to.ghost_name) (λ l. l.to.now) g.T.Taker.takes g.T.Taker.fails g.met.T.Taker.none g.met.T.Taker.more c.new-lines.result told in
+    let put = rounds-put (λ l. l.to.ghost_name) (λ l. l.to.now) g.T.Taker.takes g.T.Taker.fails g.met.T.Taker.none g.met.T.Taker.more
+    c.new-lines.result told in
     let same = put.0 in
     let so = rw c.new-lines.ensures.to at put.1 in
     replies-answer file _

@@ -1,18 +1,11 @@
 -- `work`: a collection that passed its tests, with areas of the right length; else its refusal.
-use Rattle.std.specs.Prelude.{◌≡◌, refl, []}
-use Rattle.std.proofs.Common.{rules}
+use Rattle.std.specs.Prelude.{refl, []}
 use Rattle.kinds.specs.Told.{none}
 use Rattle.sheet.proofs.Counts.{passed_on}
 use Rattle.index.proofs.Areas.{left-found, left-refused}
 use Rattle.index.proofs.Counted.{told-found, told-refused, begun}
 use Rattle.index.proofs.Outcomes.{passes, has_areas}
 use Rattle.index.proofs.prepared.work.Goals as goal
-
-pub unwrap-spare-requires : goal.unwrap-spare-requires
-unwrap-spare-requires g c = c.as_mut_array-in-Ok.ensures.variant.1 (has_areas c.args.lent.now _ _ c.check.ensures c.in-Ok.is).spare
-
-pub settle-requires : goal.settle-requires
-settle-requires g c = passes c.args.lent.now _ _ c.check.ensures c.in-Ok.is
 
 pub returns-in-Err-clause-left : goal.returns-in-Err-clause-left
 returns-in-Err-clause-left g c = left-refused c.args.lent.now _ _ _ _ _ (rw c.in-Err.is at c.check.ensures) refl refl
@@ -31,10 +24,9 @@ returns-in_ok-found-in-Ok-clause-worked g c =
 
 pub returns-in_ok-found-in-Ok-clause-left : goal.returns-in_ok-found-in-Ok-clause-left
 returns-in_ok-found-in-Ok-clause-left g c =
-    let a : c.unwrap-area.result.now ≡ c.args.area.now = search rules in
-    let s : c.unwrap-spare.result.now ≡ c.args.spare.now = search rules in
+    let areas = has_areas c.args.lent.now _ _ c.check.ensures c.in-Ok.is in
     let f = c.in_ok-found-in-Ok.ensures in
-    left-found c.args.lent.now _ _ _ _ _ (returns-in_ok-found-in-Ok-clause-worked g c) (rw a at f.first) (rw s at f.second)
+    left-found c.args.lent.now _ _ _ _ _ (returns-in_ok-found-in-Ok-clause-worked g c) (f.first areas) (f.second areas)
 
 pub returns-in_ok-found-in-Ok-clause-told : goal.returns-in_ok-found-in-Ok-clause-told
 returns-in_ok-found-in-Ok-clause-told g c =

@@ -14,11 +14,13 @@ returns-then-not-asks_fit-clause-number c = fails (replies.fails (rw c.new-row.e
 
 pub returns-then-not-kinds_fit-clause-number : goal.returns-then-not-kinds_fit-clause-number
 returns-then-not-kinds_fit-clause-number c =
-    holds (rw c.new-row.ensures at (c.asks_fit.ensures.0 c.if-not-asks_fit.false)) (fails (replies.fails c.kinds_fit.ensures c.if-not-kinds_fit.true))
+    holds (rw c.new-row.ensures at (c.asks_fit.ensures.0 c.if-not-asks_fit.false))
+    (fails (replies.fails c.kinds_fit.ensures c.if-not-kinds_fit.true))
 
 pub returns-clause-number : goal.returns-clause-number
 returns-clause-number c =
-    holds (rw c.new-row.ensures at (c.asks_fit.ensures.0 c.if-not-asks_fit.false)) (holds (c.kinds_fit.ensures.0 c.if-not-kinds_fit.false) refl)
+    holds (rw c.new-row.ensures at (c.asks_fit.ensures.0 c.if-not-asks_fit.false))
+    (holds (c.kinds_fit.ensures.0 c.if-not-kinds_fit.false) refl)
 
 pub returns-clause-in_turn : goal.returns-clause-in_turn
 returns-clause-in_turn c = λ z.
@@ -35,5 +37,6 @@ returns-clause-deeds c = λ t s z. in-turn-deeds t s (returns-clause-in_turn c z
 pub returns-clause-seven_never : goal.returns-clause-seven_never
 returns-clause-seven_never c = λ k z.
     let fits = rw c.new-row.ensures at (c.asks_fit.ensures.0 c.if-not-asks_fit.false) in
-    let each : AsksFit c.args.asks.now (length c.tell.new.numbers) (length c.tell.new.counts) = rw (c.tell.auto.numbers, c.tell.auto.counts) fits in
+    let each : AsksFit c.args.asks.now (length c.tell.new.numbers) (length c.tell.new.counts) =
+    rw (c.tell.auto.numbers, c.tell.auto.counts) fits in
     row-never _ _ _ _ _ _ _ _ _ each.number_each (returns-clause-in_turn c z) k

@@ -5,7 +5,8 @@ use Rattle.laws.specs.First.{fails, holds}
 use Rattle.index.proofs.Replies as replies
 use Rattle.index.proofs.ToldOnce.{told-most}
 use Rattle.lampsaffron.specs.Marks.{left}
-use Rattle.lampsaffron.proofs.Rounds.{idle, never-seven, none-kept, row-named, tells-worked, tells-left, tells-kept, tells-makes, idle-four, idle-five}
+use Rattle.lampsaffron.proofs.Rounds.{idle, never-seven, none-kept, row-named, tells-worked, tells-left, tells-kept}
+use Rattle.lampsaffron.proofs.Rounds.{tells-makes, idle-four, idle-five}
 use Rattle.lampsaffron.proofs.Deeds.{marks-deeds}
 use Rattle.lampsaffron.proofs.marks.lampsaffron_marks.Goals as goal
 

@@ -8,7 +8,8 @@ pub unreachable-requires : goal.unreachable-requires
 unreachable-requires c =
     let w = c.in-Err.ensures.failed in
     let most = told-most _ _ w.2 in
-    no-place (λ x. x.counts.now) (λ x. x.told) (λ x. x.counts.ghost_name) _ (λ x r m y k. k) (λ x r m e y k. k) c.requires.none w.3 (omega (arith, most, length-append w.0 w.1, c.requires.room))
+    no-place (λ x. x.counts.now) (λ x. x.told) (λ x. x.counts.ghost_name) _ (λ x r m y k. k) (λ x r m e y k. k) c.requires.none w.3
+    (omega (arith, most, length-append w.0 w.1, c.requires.room))
 
 pub returns-in-Ok-rounds-clause-same : goal.returns-in-Ok-rounds-clause-same
 returns-in-Ok-rounds-clause-same c =
@@ -32,7 +33,8 @@ returns-in-Err-rounds-clause-same c =
     h.same
 
 pub returns-in-Err-rounds-clause-number : goal.returns-in-Err-rounds-clause-number
-returns-in-Err-rounds-clause-number c = rw c.number.ensures.number (number-none _ _ c.requires.fits c.requires.room (rw c.in-Ok.ensures.own at c.in-Err-rounds.ensures.none))
+returns-in-Err-rounds-clause-number c =
+    rw c.number.ensures.number (number-none _ _ c.requires.fits c.requires.room (rw c.in-Ok.ensures.own at c.in-Err-rounds.ensures.none))
 
 pub returns-in-Err-rounds-clause-told : goal.returns-in-Err-rounds-clause-told
 returns-in-Err-rounds-clause-told c =
