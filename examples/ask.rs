@@ -11,10 +11,10 @@ extern "C" {
         role_facts: *const u16, role_facts_len: usize,
         steps: *const u16, steps_len: usize,
         finals: *const u16, finals_len: usize,
-        first: u16, second: u16, allowance: u16,
+        first: u16, second: u16, allowance: u32,
         area: *mut u8, area_len: usize,
         spare: *mut u8, spare_len: usize,
-        count: *mut u16,
+        count: *mut u32,
     ) -> u8;
     fn lampsaffron_ask_all(
         names: u16, roles: u16, individuals: u16, states: u16, start: u16,
@@ -27,11 +27,11 @@ extern "C" {
         steps: *const u16, steps_len: usize,
         finals: *const u16, finals_len: usize,
         pairs: *const u16, pairs_len: usize,
-        allowance: u16,
+        allowance: u32,
         area: *mut u8, area_len: usize,
         spare: *mut u8, spare_len: usize,
         numbers: *mut u8, numbers_len: usize,
-        counts: *mut u16, counts_len: usize,
+        counts: *mut u32, counts_len: usize,
     ) -> bool;
     fn lampsaffron_ask_row(
         names: u16, roles: u16, individuals: u16, states: u16, start: u16,
@@ -44,11 +44,11 @@ extern "C" {
         steps: *const u16, steps_len: usize,
         finals: *const u16, finals_len: usize,
         asks: *const u16, asks_len: usize,
-        allowance: u16,
+        allowance: u32,
         area: *mut u8, area_len: usize,
         spare: *mut u8, spare_len: usize,
         numbers: *mut u8, numbers_len: usize,
-        counts: *mut u16, counts_len: usize,
+        counts: *mut u32, counts_len: usize,
     ) -> u8;
     fn lampsaffron_expression(
         marks: *const u8, marks_len: usize,
@@ -56,14 +56,21 @@ extern "C" {
         finals: *mut u16, finals_len: usize,
         states: *mut u16, steps_used: *mut u16, finals_used: *mut u16,
     ) -> u8;
+    fn lampsaffron_area_from_16(stored: *const u8, stored_len: usize, area: *mut u8, area_len: usize) -> u8;
+    fn lampsaffron_area_to_16(area: *const u8, area_len: usize, stored: *mut u8, stored_len: usize) -> u8;
 }
 
-/// The bytes of each area.
-const AREA: usize = 4096;
+/// The bytes of each area, and of one that was stored while there were at most 16 states.
+const AREA: usize = 16_384;
+const AREA_OF_16: usize = 4096;
+
+/// The numbers of the most steps and of the most final states.
+const STEPS: usize = 4096;
+const FINALS: usize = 32;
 
 /// Whether the mark (s, t, B) stands in the first area.
 fn stands(area: &[u8], s: usize, t: usize, concept: usize) -> bool {
-    let place = s * 2048 + t * 128 + concept;
+    let place = s * 4096 + t * 128 + concept;
     area[place / 8] >> (place % 8) & 1 == 1
 }
 
@@ -77,7 +84,7 @@ fn main() {
     let none: [u16; 0] = [];
     let (mut area, mut spare) = ([0u8; AREA], [0u8; AREA]);
     for second in 0..2 {
-        let mut count = 0u16;
+        let mut count = 0u32;
         // Slices are never null, and the two areas and the count are apart: what the call asks of its pointers.
         let number = unsafe {
             lampsaffron_ask(
@@ -96,7 +103,7 @@ fn main() {
                 &mut count,
             )
         };
-        let pairs = (0..16).flat_map(|s| (0..16).map(move |t| (s, t)));
+        let pairs = (0..32).flat_map(|s| (0..32).map(move |t| (s, t)));
         let at = |(s, t)| (0..128).filter(|&concept| stands(&area, s, t, concept)).count();
         let marks: usize = pairs.map(at).sum();
         println!("(0, {second}): number {number}, count {count}, marks {marks}");
@@ -105,9 +112,20 @@ fn main() {
     for t in 2..4 {
         println!("(0, {t}, Owner): {}", if stands(&area, 0, t, 0) { "marked" } else { "not marked" });
     }
+    // The sheet as it was stored while there were at most 16 states, and that area moved to the places of today.
+    let (mut stored, mut moved) = ([0u8; AREA_OF_16], [0u8; AREA]);
+    // As above; the area that is read and the one that is filled are apart.
+    let (back, forth) = unsafe {
+        (
+            lampsaffron_area_to_16(area.as_ptr(), area.len(), stored.as_mut_ptr(), stored.len()),
+            lampsaffron_area_from_16(stored.as_ptr(), stored.len(), moved.as_mut_ptr(), moved.len()),
+        )
+    };
+    let sheet = if area == moved { "the same sheet" } else { "another sheet" };
+    println!("the area of 16 states: number {back}; moved: number {forth}, {sheet}");
     // Both pairs in one call, which works the collection out once.
     let pairs: [u16; 4] = [0, 0, 0, 1];
-    let (mut numbers, mut counts) = ([0u8; 2], [0u16; 2]);
+    let (mut numbers, mut counts) = ([0u8; 2], [0u32; 2]);
     // As above; the entries are apart from the areas and from each other too.
     let fits = unsafe {
         lampsaffron_ask_all(
@@ -159,8 +177,8 @@ fn main() {
     println!("0 alone in a row of asks: number {}, count {}", numbers[1], counts[1]);
     // The same question from the marks of an expression: signs, test Deed, signs backward.
     let typed = [0x00u8, 0x41, 0x01];
-    let (mut made_steps, mut made_finals) = ([0u16; 2048], [0u16; 16]);
-    let (mut states, mut steps_used, mut finals_used, mut count) = (0u16, 0u16, 0u16, 0u16);
+    let (mut made_steps, mut made_finals) = ([0u16; STEPS], [0u16; FINALS]);
+    let (mut states, mut steps_used, mut finals_used, mut count) = (0u16, 0u16, 0u16, 0u32);
     // As above; both rows and the three numbers are apart from each other.
     let number = unsafe {
         assert_eq!(0, lampsaffron_expression(

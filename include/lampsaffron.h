@@ -1,5 +1,6 @@
 /* The library's calls for C: one pair of individuals asked of a collection, one individual, a row of pairs, or a row of both; how many marks each round of its loop sheet
-   makes; and the tables of a question from an expression. docs/RULES.md, section 10, says what each takes and gives, and docs/LINKING.md how to link it. */
+   makes; the tables of a question from an expression; and a stored area of 16 states moved to the places of today, and back. docs/RULES.md, section 10, says what each takes
+   and gives, and docs/LINKING.md how to link it. */
 #ifndef LAMPSAFFRON_H
 #define LAMPSAFFRON_H
 
@@ -7,17 +8,20 @@
 #include <stddef.h>
 #include <stdint.h>
 
-/* The bytes of each of the two areas. The mark (s, t, B) has place p = s * 2048 + t * 128 + B, and stands at bit p % 8, counted from the
+/* The bytes of each of the two areas. The mark (s, t, B) has place p = s * 4096 + t * 128 + B, and stands at bit p % 8, counted from the
    least, of byte p / 8. */
-#define LAMPSAFFRON_AREA 4096
+#define LAMPSAFFRON_AREA 16384
+
+/* The bytes of an area that was stored while there were at most 16 states. The mark (s, t, B) has place p = s * 2048 + t * 128 + B there. */
+#define LAMPSAFFRON_AREA_OF_16 4096
 
 /* The most pairs of one row, and the most asks of one row. */
 #define LAMPSAFFRON_PAIRS 256
 #define LAMPSAFFRON_ASKS 256
 
 /* The numbers of the most steps and of the most final states. */
-#define LAMPSAFFRON_STEPS 2048
-#define LAMPSAFFRON_FINALS 16
+#define LAMPSAFFRON_STEPS 4096
+#define LAMPSAFFRON_FINALS 32
 
 /* The numbers of answers; 7 is never given. */
 enum lampsaffron_number {
@@ -51,10 +55,10 @@ uint8_t lampsaffron_ask(
     const uint16_t *role_facts, size_t role_facts_len,
     const uint16_t *steps, size_t steps_len,
     const uint16_t *finals, size_t finals_len,
-    uint16_t first, uint16_t second, uint16_t allowance,
+    uint16_t first, uint16_t second, uint32_t allowance,
     uint8_t *area, size_t area_len,
     uint8_t *spare, size_t spare_len,
-    uint16_t *count);
+    uint32_t *count);
 
 /* The question with one named end: does a path of the question lead from this individual to any element at all, named or not? All else is as
    for lampsaffron_ask. */
@@ -68,10 +72,10 @@ uint8_t lampsaffron_ask_from(
     const uint16_t *role_facts, size_t role_facts_len,
     const uint16_t *steps, size_t steps_len,
     const uint16_t *finals, size_t finals_len,
-    uint16_t first, uint16_t allowance,
+    uint16_t first, uint32_t allowance,
     uint8_t *area, size_t area_len,
     uint8_t *spare, size_t spare_len,
-    uint16_t *count);
+    uint32_t *count);
 
 /* A row of pairs asked of one collection: what lampsaffron_ask of each does, one after the other, with the same two areas. The collection is
    worked out once, and nothing is kept between calls. pairs has two numbers for each pair, the first individual and the second; the number of
@@ -89,11 +93,11 @@ bool lampsaffron_ask_all(
     const uint16_t *steps, size_t steps_len,
     const uint16_t *finals, size_t finals_len,
     const uint16_t *pairs, size_t pairs_len,
-    uint16_t allowance,
+    uint32_t allowance,
     uint8_t *area, size_t area_len,
     uint8_t *spare, size_t spare_len,
     uint8_t *numbers, size_t numbers_len,
-    uint16_t *counts, size_t counts_len);
+    uint32_t *counts, size_t counts_len);
 
 /* A row of asks of one collection, of pairs and of individuals: what lampsaffron_ask and lampsaffron_ask_from of each do, one after the other,
    with the same two areas; the collection is worked out once. asks has three numbers for each ask: its kind, 0 for a pair or 1 for one
@@ -112,11 +116,11 @@ uint8_t lampsaffron_ask_row(
     const uint16_t *steps, size_t steps_len,
     const uint16_t *finals, size_t finals_len,
     const uint16_t *asks, size_t asks_len,
-    uint16_t allowance,
+    uint32_t allowance,
     uint8_t *area, size_t area_len,
     uint8_t *spare, size_t spare_len,
     uint8_t *numbers, size_t numbers_len,
-    uint16_t *counts, size_t counts_len);
+    uint32_t *counts, size_t counts_len);
 
 /* How many marks each round of a collection's loop sheet makes: the counts, tables, allowance and areas of lampsaffron_ask, but no pair.
    marks is a row with a place for each round that is allowed, and more are left alone. Returns 4, 5 or 6 as the tests do, and 5 as well where
@@ -134,20 +138,33 @@ uint8_t lampsaffron_marks(
     const uint16_t *role_facts, size_t role_facts_len,
     const uint16_t *steps, size_t steps_len,
     const uint16_t *finals, size_t finals_len,
-    uint16_t allowance,
+    uint32_t allowance,
     uint8_t *area, size_t area_len,
     uint8_t *spare, size_t spare_len,
-    uint16_t *marks, size_t marks_len,
-    uint16_t *rounds);
+    uint32_t *marks, size_t marks_len,
+    uint32_t *rounds);
 
 /* The tables of steps and final states of a question typed as an expression, from its byte marks. Where the number is 0 they stand at the
    front of both rows, *steps_used and *finals_used get how many numbers each has, and *states how many states to declare; the start state is 0.
    Else nothing is written: 5, steps_len is below LAMPSAFFRON_STEPS or finals_len below LAMPSAFFRON_FINALS; 13, brackets too deep; 12, no
-   expression; 14, more role and test marks than 15. What the marks read is not tested here: the call that asks does so. */
+   expression; 14, more role and test marks than 31. What the marks read is not tested here: the call that asks does so. */
 uint8_t lampsaffron_expression(
     const uint8_t *marks, size_t marks_len,
     uint16_t *steps, size_t steps_len,
     uint16_t *finals, size_t finals_len,
     uint16_t *states, uint16_t *steps_used, uint16_t *finals_used);
+
+/* An area that was stored while there were at most 16 states, moved to the places of today. After 0 area has 1 at the place of each mark that stands in stored, and 0
+   everywhere else: it is the area of the same collection's sheet after the same round.
+   Returns 5 where stored_len is not LAMPSAFFRON_AREA_OF_16 or area_len not LAMPSAFFRON_AREA, and then nothing is written; else 0. The two areas may not overlap. */
+uint8_t lampsaffron_area_from_16(
+    const uint8_t *stored, size_t stored_len,
+    uint8_t *area, size_t area_len);
+
+/* And moved back: after 0 stored has 1 at the place of each mark that stands in area, and 0 everywhere else. A stored area that is moved and moved back is as it was.
+   Returns 5 as above; else 6 where a state above 15 is marked; else 0. After 5 and 6 nothing is written. */
+uint8_t lampsaffron_area_to_16(
+    const uint8_t *area, size_t area_len,
+    uint8_t *stored, size_t stored_len);
 
 #endif

@@ -1,12 +1,13 @@
 /* The library driver of PROTOCOL.md: reads a call per line, asks lampsaffron_ask, lampsaffron_ask_from, lampsaffron_ask_all,
-   lampsaffron_ask_row, lampsaffron_marks or lampsaffron_expression, writes what they gave and hashes.
+   lampsaffron_ask_row, lampsaffron_marks, lampsaffron_expression, lampsaffron_area_from_16 or lampsaffron_area_to_16, writes
+   what they gave and hashes.
    No stdio and no heap: only read and write, declared by hand, and static buffers. */
 #include "lampsaffron.h"
 
 extern long read(int from, void *bytes, size_t most);
 extern long write(int to, const void *bytes, size_t length);
 
-enum { TABLES = 8, MOST_NUMBERS = 65535, MOST_AREA = 32768, MOST_ENTRIES = 1024, MOST_ROOM = 131072, MOST_MADE = 4096, GUARD = 64 };
+enum { TABLES = 8, MOST_NUMBERS = 65535, MOST_AREA = 131072, MOST_ENTRIES = 1024, MOST_ROOM = 131072, MOST_MADE = 8192, GUARD = 64 };
 
 /* The tables, and after them the pairs or the asks of a row. */
 enum { ASKED = TABLES };
@@ -16,10 +17,10 @@ static uint8_t areas[2][MOST_AREA + GUARD];
 
 /* The entries of a row, and GUARD bytes behind each. */
 static uint8_t row_numbers[MOST_ENTRIES + GUARD];
-static uint16_t row_counts[MOST_ENTRIES + GUARD / 2];
+static uint32_t row_counts[MOST_ENTRIES + GUARD / 4];
 
 /* A row of how many marks each round makes, and GUARD bytes behind it. */
-static uint16_t round_marks[MOST_ROOM + GUARD / 2];
+static uint32_t round_marks[MOST_ROOM + GUARD / 4];
 
 /* A row of marks, and the rows for the steps and finals that are made of it, with GUARD bytes behind each. */
 static uint8_t marks[MOST_NUMBERS];
@@ -27,12 +28,13 @@ static size_t marks_length;
 static uint16_t made[2][MOST_MADE + GUARD / 2];
 
 /* The letters that a request of another kind than a pair begins with; none is a digit. */
-enum { ROW = 'R', MIXED = 'Q', ONE = 'L', ROUNDS = 'N', EXPRESSION = 'M' };
+enum { ROW = 'R', MIXED = 'Q', ONE = 'L', ROUNDS = 'N', EXPRESSION = 'M', FROM_16 = 'S', TO_16 = 'T' };
 
 /* What a request says beside the tables and marks; one individual stands first in the pair. */
 struct request {
     int kind;
-    uint16_t counts[5], pair[2], allowance;
+    uint16_t counts[5], pair[2];
+    uint32_t allowance;
     size_t sizes[2], entries[2], room;
     uint8_t fills[2], fill;
 };
@@ -112,13 +114,21 @@ static uint64_t hash_numbers(const uint16_t *numbers, size_t length) {
     return mixed;
 }
 
+/* Each count as four bytes, likewise. */
+static uint64_t hash_counts(const uint32_t *counts, size_t length) {
+    uint64_t mixed = hash_begin;
+    for (; length-- > 0; counts++)
+        for (int shift = 0; shift < 32; shift += 8) mixed = mix(mixed, (uint8_t)(*counts >> shift));
+    return mixed;
+}
+
 /* Something lent, and the bytes behind it, which are filled with the complement. */
 static void fill_lent(void *bytes, size_t length, uint8_t with) {
     fill(bytes, length, with);
     fill((uint8_t *)bytes + length, GUARD, (uint8_t)~with);
 }
 
-static uint8_t output[8 * MOST_ENTRIES];
+static uint8_t output[16 * MOST_ENTRIES];
 static size_t output_end;
 
 static void put(uint64_t value, int digits) {
@@ -141,33 +151,36 @@ static void send_line(void) {
     tables[0], lengths[0], tables[1], lengths[1], tables[2], lengths[2], tables[3], lengths[3], \
     tables[4], lengths[4], tables[5], lengths[5], tables[6], lengths[6], tables[7], lengths[7]
 
+/* What stands before a call where a count is to be told. */
+#define UNCOUNTED UINT32_C(0xFFFFFFFF)
+
 /* A row of pairs, or of both kinds of ask. */
 static int asks_row(int kind) {
     return kind == ROW || kind == MIXED;
 }
 
 static void answer_pair(const struct request *asked) {
-    uint16_t count = 0xFFFF;
+    uint32_t count = UNCOUNTED;
     uint8_t given = lampsaffron_ask(
         LENT(asked), asked->pair[0], asked->pair[1], asked->allowance,
         areas[0], asked->sizes[0], areas[1], asked->sizes[1], &count);
     put(given, 2);
-    put(count, 4);
+    put(count, 8);
 }
 
 static void answer_one(const struct request *asked) {
-    uint16_t count = 0xFFFF;
+    uint32_t count = UNCOUNTED;
     uint8_t given = lampsaffron_ask_from(
         LENT(asked), asked->pair[0], asked->allowance,
         areas[0], asked->sizes[0], areas[1], asked->sizes[1], &count);
     put(given, 2);
-    put(count, 4);
+    put(count, 8);
 }
 
 static void answer_row(const struct request *asked) {
     size_t numbers = asked->entries[0], counts = asked->entries[1];
     fill_lent(row_numbers, numbers, asked->fill);
-    fill_lent(row_counts, 2 * counts, asked->fill);
+    fill_lent(row_counts, sizeof *row_counts * counts, asked->fill);
     uint8_t given = asked->kind == MIXED
         ? lampsaffron_ask_row(
             LENT(asked), tables[ASKED], lengths[ASKED], asked->allowance,
@@ -178,19 +191,19 @@ static void answer_row(const struct request *asked) {
     put(given, 2);
     for (size_t i = 0; i < numbers; i++) put(row_numbers[i], 2);
     put(hash(row_numbers + numbers, GUARD), 16);
-    for (size_t i = 0; i < counts; i++) put(row_counts[i], 4);
+    for (size_t i = 0; i < counts; i++) put(row_counts[i], 8);
     put(hash((const uint8_t *)(row_counts + counts), GUARD), 16);
 }
 
 static void answer_rounds(const struct request *asked) {
-    uint16_t rounds = 0xFFFF;
-    fill_lent(round_marks, 2 * asked->room, asked->fill);
+    uint32_t rounds = UNCOUNTED;
+    fill_lent(round_marks, sizeof *round_marks * asked->room, asked->fill);
     uint8_t given = lampsaffron_marks(
         LENT(asked), asked->allowance,
         areas[0], asked->sizes[0], areas[1], asked->sizes[1], round_marks, asked->room, &rounds);
     put(given, 2);
-    put(rounds, 4);
-    put(hash_numbers(round_marks, asked->room), 16);
+    put(rounds, 8);
+    put(hash_counts(round_marks, asked->room), 16);
     put(hash((const uint8_t *)(round_marks + asked->room), GUARD), 16);
 }
 
@@ -214,8 +227,24 @@ static void answer_with_areas(const struct request *asked) {
     for (int i = 0; i < 2; i++) put(hash(areas[i] + asked->sizes[i], GUARD), 16);
 }
 
+/* A stored area is moved to the places of today, or one of today to the stored places; the first of both is the one that is moved. */
+static int moves(int kind) {
+    return kind == FROM_16 || kind == TO_16;
+}
+
+static void answer_moved(const struct request *asked) {
+    const size_t *sizes = asked->sizes;
+    fill(areas[0] + sizes[0], GUARD, (uint8_t)~asked->fill);
+    fill_lent(areas[1], sizes[1], asked->fill);
+    put(asked->kind == TO_16 ? lampsaffron_area_to_16(areas[0], sizes[0], areas[1], sizes[1])
+                             : lampsaffron_area_from_16(areas[0], sizes[0], areas[1], sizes[1]), 2);
+    for (int i = 0; i < 2; i++) put(hash(areas[i], sizes[i]), 16);
+    for (int i = 0; i < 2; i++) put(hash(areas[i] + sizes[i], GUARD), 16);
+}
+
 static void answer(const struct request *asked) {
     if (asked->kind == EXPRESSION) answer_expression(asked);
+    else if (moves(asked->kind)) answer_moved(asked);
     else answer_with_areas(asked);
 }
 
@@ -247,6 +276,14 @@ static void read_room(struct request *asked) {
     asked->fill = (uint8_t)number(2);
 }
 
+/* The area that is moved, and the length of the other and the byte that fills it. */
+static void read_moved(struct request *asked) {
+    asked->sizes[0] = length_within(8, MOST_AREA);
+    for (size_t i = 0; i < asked->sizes[0] && !bad; i++) areas[0][i] = (uint8_t)number(2);
+    asked->sizes[1] = length_within(8, MOST_AREA);
+    asked->fill = (uint8_t)number(2);
+}
+
 /* How many individuals are asked of beside those in a row. */
 static int individuals(int kind) {
     return kind == ROUNDS ? 0 : kind == ONE ? 1 : 2;
@@ -258,7 +295,7 @@ static void read_ask(struct request *asked) {
     if (asks_row(asked->kind)) read_table(ASKED);
     else
         for (int i = 0; i < individuals(asked->kind); i++) asked->pair[i] = (uint16_t)number(4);
-    asked->allowance = (uint16_t)number(4);
+    asked->allowance = number(8);
     for (int i = 0; i < 2; i++) asked->sizes[i] = length_within(8, MOST_AREA);
     for (int i = 0; i < 2; i++) asked->fills[i] = (uint8_t)number(2);
     if (asks_row(asked->kind)) read_entries(asked, MOST_ENTRIES);
@@ -270,6 +307,8 @@ static struct request read_request(void) {
     if (asked.kind == EXPRESSION) {
         read_marks();
         read_entries(&asked, MOST_MADE);
+    } else if (moves(asked.kind)) {
+        read_moved(&asked);
     } else {
         if (!asks_row(asked.kind) && asked.kind != ONE && asked.kind != ROUNDS) step_back();
         read_ask(&asked);

@@ -25,13 +25,4 @@ impl Ask {
             Ask::From(first) => vec![0x0E, first.0],
         }
     }
-
-    /// The bytes of its line in the answer: its frame as 8B or 8E, the number, the count (two bytes).
-    pub fn answered(self, number: u8, count: u16) -> Vec<u8> {
-        let mut bytes = self.frame();
-        bytes[0] |= 0x80;
-        bytes.push(number);
-        bytes.extend(count.to_be_bytes());
-        bytes
-    }
 }

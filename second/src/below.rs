@@ -8,7 +8,7 @@ use crate::sheet::{Rules, Sheet};
 
 /// For each signed role, the states in which a path comes to some element whose row ends in it, from where a walk leads.
 /// An element's concepts, its children and its loops depend on that role only, so one such element stands for all.
-pub fn below(people: &People, rules: &Rules, sheet: &Sheet, walk: &[u16]) -> Vec<u16> {
+pub fn below(people: &People, rules: &Rules, sheet: &Sheet, walk: &[u32]) -> Vec<u32> {
     let mut search = Search { rules, sheet, seen: vec![0; 64], waiting: Vec::new() };
     for (has, states) in people.concepts.iter().zip(walk) {
         for role in marked(has >> 64).map(Role) {
@@ -26,7 +26,7 @@ pub fn below(people: &People, rules: &Rules, sheet: &Sheet, walk: &[u16]) -> Vec
 struct Search<'a> {
     rules: &'a Rules,
     sheet: &'a Sheet,
-    seen: Vec<u16>,
+    seen: Vec<u32>,
     waiting: Vec<(Role, u8)>,
 }
 

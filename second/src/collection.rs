@@ -99,10 +99,10 @@ impl Counts {
         u16::from(self.names) + 2 * u16::from(self.roles)
     }
 
-    /// The rounds needed are never more; at most 30,720.
-    pub fn most_rounds(&self) -> u16 {
-        let states = u16::from(self.states);
-        self.concepts() * states * (states - 1)
+    /// The rounds needed are never more; at most 126,976.
+    pub fn most_rounds(&self) -> u32 {
+        let states = u32::from(self.states);
+        u32::from(self.concepts()) * states * (states - 1)
     }
 
     pub fn all_roles(&self) -> impl Iterator<Item = Role> {

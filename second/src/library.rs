@@ -12,7 +12,7 @@ use crate::prepared::{Prepared, ALLOWANCE_SPENT, CONTRADICTION};
 
 /// How many numbers a record has and how many records there may be, in the order of docs/RULES.md, section 3.
 pub const SHAPES: [(usize, usize); 8] =
-    [(2, 512), (2, 512), (2, 128), (2, 128), (3, 1_024), (4, 4_096), (4, 512), (1, 16)];
+    [(2, 512), (2, 512), (2, 128), (2, 128), (3, 1_024), (4, 4_096), (4, 1_024), (1, 32)];
 
 /// The places of both tables of facts; the last number of their records is a deed number.
 pub const CONCEPT_FACTS: usize = 4;
@@ -28,12 +28,12 @@ pub struct Call {
     pub counts: [u16; 5],
     /// Concept rules, concept exclusions, role rules, role exclusions, concept facts, role facts, steps, finals.
     pub tables: [Vec<u16>; 8],
-    pub allowance: u16,
+    pub allowance: u32,
 }
 
 impl Call {
     /// What lends a collection already read.
-    pub fn of(collection: &Collection, allowance: u16) -> Call {
+    pub fn of(collection: &Collection, allowance: u32) -> Call {
         let counts = &collection.counts;
         let sizes = [counts.names, counts.roles, counts.individuals, counts.states, counts.start.0];
         let concepts = |table: &[(Concept, Concept)]| flat(table, |pair| vec![pair.0 .0, pair.1 .0]);
@@ -76,12 +76,12 @@ fn final_numbers(finals: &[State]) -> Vec<u16> {
 }
 
 /// The number and its count; the areas are written after 0, 1 and 3 only.
-pub fn ask(call: &Call, pair: [u16; 2], area: &mut [u8], spare: &mut [u8]) -> (u8, u16) {
+pub fn ask(call: &Call, pair: [u16; 2], area: &mut [u8], spare: &mut [u8]) -> (u8, u32) {
     ask_each(call, &[Asked::Pair(pair)], area, spare)[0]
 }
 
 /// Likewise for one individual.
-pub fn ask_from(call: &Call, first: u16, area: &mut [u8], spare: &mut [u8]) -> (u8, u16) {
+pub fn ask_from(call: &Call, first: u16, area: &mut [u8], spare: &mut [u8]) -> (u8, u32) {
     ask_each(call, &[Asked::From(first)], area, spare)[0]
 }
 
@@ -99,7 +99,7 @@ pub fn ask_all(
     entries: [usize; 2],
     area: &mut [u8],
     spare: &mut [u8],
-) -> Option<Vec<(u8, u16)>> {
+) -> Option<Vec<(u8, u32)>> {
     let whole = pairs.chunks_exact(2);
     let broken = !whole.remainder().is_empty();
     let row: Vec<Asked> = whole.map(|pair| Asked::Pair([pair[0], pair[1]])).collect();
@@ -116,7 +116,7 @@ pub fn ask_row(
     entries: [usize; 2],
     area: &mut [u8],
     spare: &mut [u8],
-) -> Result<Vec<(u8, u16)>, u8> {
+) -> Result<Vec<(u8, u32)>, u8> {
     let whole = asks.chunks_exact(3);
     if !whole.remainder().is_empty() || whole.len() > PAIRS || entries != [whole.len(); 2] {
         return Err(5);
@@ -133,10 +133,10 @@ pub fn ask_row(
 /// The number, and how many marks each worked round adds, round 1 first, for a row that has so much room: 4, then 5 where
 /// there is no room for each round that is allowed, 5 and 6, 2, 3, or else 0. None, and nothing written, after all but 0
 /// and 3.
-pub fn marks(call: &Call, room: usize, area: &mut [u8], spare: &mut [u8]) -> (u8, Option<Vec<u16>>) {
+pub fn marks(call: &Call, room: usize, area: &mut [u8], spare: &mut [u8]) -> (u8, Option<Vec<u32>>) {
     let collection = match checked(call, area.len(), spare.len()) {
         Err(4) => return (4, None),
-        _ if room < call.allowance.into() => return (5, None),
+        _ if room < call.allowance as usize => return (5, None),
         Err(number) => return (number, None),
         Ok(collection) => collection,
     };
@@ -150,7 +150,7 @@ pub fn marks(call: &Call, room: usize, area: &mut [u8], spare: &mut [u8]) -> (u8
 }
 
 /// One ask after the other, each with the areas as the one before left them.
-fn ask_each(call: &Call, asks: &[Asked], area: &mut [u8], spare: &mut [u8]) -> Vec<(u8, u16)> {
+fn ask_each(call: &Call, asks: &[Asked], area: &mut [u8], spare: &mut [u8]) -> Vec<(u8, u32)> {
     let collection = match checked(call, area.len(), spare.len()) {
         Ok(sound) => sound,
         Err(number) => return vec![(number, 0); asks.len()],

@@ -3,7 +3,10 @@
 pub const MOST_NAMES: u16 = 64;
 pub const MOST_ROLES: u16 = 32;
 pub const MOST_INDIVIDUALS: u16 = 255;
-pub const MOST_STATES: u16 = 16;
+pub const MOST_STATES: u16 = 32;
+
+/// Up to so many declared states a written count has two bytes, and a stored area was shorter once (docs/RULES.md, sections 6 and 8).
+pub const FEW_STATES: u16 = 16;
 
 /// Basic concepts "has an R-neighbour" are numbered from here, whatever is declared.
 pub const NEIGHBOUR_BASE: u8 = 64;

@@ -7,7 +7,7 @@ use crate::clash::contradiction;
 use crate::collection::Collection;
 use crate::order::Orders;
 use crate::people::People;
-use crate::sheet::{Closing, Relation, Rules};
+use crate::sheet::{Closing, Relation, Rules, Sheet};
 use crate::walk::{reached, staying};
 
 pub const NO: u8 = 0;
@@ -23,11 +23,11 @@ pub struct Prepared<'a> {
     closing: Option<Closing>,
     staying: Vec<Relation>,
     /// Where a walk from each individual leads, once it was asked for.
-    walks: Vec<Option<Vec<u16>>>,
+    walks: Vec<Option<Vec<u32>>>,
 }
 
 impl<'a> Prepared<'a> {
-    pub fn of(collection: &'a Collection, allowance: u16) -> Prepared<'a> {
+    pub fn of(collection: &'a Collection, allowance: u32) -> Prepared<'a> {
         let orders = Orders::of(collection);
         let people = People::of(collection, &orders);
         let rules = Rules::of(collection, &orders);
@@ -42,7 +42,7 @@ impl<'a> Prepared<'a> {
     }
 
     /// The number and its count for one declared ask, in the order 2, 3, then 1 or 0.
-    pub fn answer(&mut self, ask: Ask) -> (u8, u16) {
+    pub fn answer(&mut self, ask: Ask) -> (u8, u32) {
         let done = match &self.closing {
             None => return (CONTRADICTION, 0),
             Some(done) if done.spent => return (ALLOWANCE_SPENT, done.rounds()),
@@ -65,7 +65,7 @@ impl<'a> Prepared<'a> {
     }
 
     /// How many marks each worked round added, round 1 first; None after a contradiction: then no round is worked.
-    pub fn added(&self) -> Option<&[u16]> {
+    pub fn added(&self) -> Option<&[u32]> {
         self.closing.as_ref().map(|done| &done.added[..])
     }
 
@@ -74,8 +74,13 @@ impl<'a> Prepared<'a> {
         self.closing.as_ref().is_some_and(|done| done.spent)
     }
 
+    /// The sheet after the rounds worked; None after a contradiction.
+    pub fn sheet(&self) -> Option<&Sheet> {
+        self.closing.as_ref().map(|done| &done.sheet)
+    }
+
     /// The first area after 0, 1 and 3; None where the areas stay untouched.
     pub fn area(&self) -> Option<Vec<u8>> {
-        self.closing.as_ref().map(|done| area::holding(done.sheet.marks()))
+        self.sheet().map(|sheet| area::holding(sheet.marks()))
     }
 }

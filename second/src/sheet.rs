@@ -1,13 +1,15 @@
-//! The loop sheet, round by round; a row of 16 bits holds the marks (s, ·, B).
+//! The loop sheet, round by round; a row of 32 bits holds the marks (s, ·, B).
 
 use crate::collection::{Collection, Step};
-use crate::numbers::{Concept, Role, State};
+use crate::numbers::{Concept, Role, State, MOST_STATES};
 use crate::order::{marked, Orders};
 
 /// One relation between states: bit t of entry s.
-pub type Relation = [u16; 16];
+pub type Relation = [u32; STATES];
 
-const NOTHING: Relation = [0; 16];
+const STATES: usize = MOST_STATES as usize;
+
+pub const NOTHING: Relation = [0; STATES];
 
 /// (s, t, B): a path leads from an element that has B in state s back to it in state t.
 #[derive(Clone, Copy, Debug, PartialEq, Eq, Hash, PartialOrd, Ord)]
@@ -38,15 +40,15 @@ pub struct Rules {
 /// How the closing ended: the rounds that were worked and whether one more would have changed the sheet.
 pub struct Closing {
     /// How many marks each worked round added, round 1 first.
-    pub added: Vec<u16>,
+    pub added: Vec<u32>,
     pub spent: bool,
     pub sheet: Sheet,
 }
 
 impl Closing {
-    /// No more than the allowance, which is a 16-bit number.
-    pub fn rounds(&self) -> u16 {
-        self.added.len() as u16
+    /// No more than the allowance, which is a 32-bit number.
+    pub fn rounds(&self) -> u32 {
+        self.added.len() as u32
     }
 }
 
@@ -125,7 +127,7 @@ impl Rules {
     }
 
     /// Works rounds until the sheet stays as it is or the allowance is spent.
-    pub fn close(&self, allowance: u16) -> Closing {
+    pub fn close(&self, allowance: u32) -> Closing {
         let mut closing = Closing { added: Vec::new(), spent: false, sheet: self.round_zero() };
         let mut standing = closing.sheet.standing();
         loop {
@@ -149,15 +151,16 @@ impl Sheet {
         &self.loops[concept.at()]
     }
 
-    /// How many marks stand: 16 × 16 × 128 at most.
-    fn standing(&self) -> u16 {
+    /// How many marks stand: 32 × 32 × 128 at most.
+    fn standing(&self) -> u32 {
         let rows = self.loops.iter().flatten();
-        rows.map(|row| row.count_ones() as u16).sum()
+        rows.map(|row| row.count_ones()).sum()
     }
 
     pub fn marks(&self) -> impl Iterator<Item = Mark> + '_ {
         let concepts = (0..128).map(Concept);
-        let rows = concepts.flat_map(|concept| (0..16).map(move |from| (State(from), concept)));
+        let rows =
+            concepts.flat_map(|concept| (0..MOST_STATES as u8).map(move |from| (State(from), concept)));
         rows.flat_map(|(from, concept)| {
             let row = self.loops(concept)[from.at()];
             marked(row.into()).map(move |to| Mark { from, to: State(to), concept })

@@ -4,12 +4,12 @@ use crate::collection::{Collection, Step};
 use crate::numbers::{Concept, Individual};
 use crate::order::marked;
 use crate::people::People;
-use crate::sheet::{join, Relation, Rules, Sheet};
+use crate::sheet::{join, Relation, Rules, Sheet, NOTHING};
 
 /// From s to t at each individual, without leaving it but for the unnamed elements below it.
 pub fn staying(collection: &Collection, people: &People, sheet: &Sheet) -> Vec<Relation> {
     let at_one = |has: &u128| {
-        let mut relation = [0u16; 16];
+        let mut relation = NOTHING;
         for concept in marked(*has) {
             join(&mut relation, sheet.loops(Concept(concept)));
         }
@@ -32,9 +32,9 @@ pub fn reached(
     rules: &Rules,
     staying: &[Relation],
     first: Individual,
-) -> Vec<u16> {
+) -> Vec<u32> {
     let start = collection.counts.start;
-    let mut seen = vec![0u16; people.edges.len()];
+    let mut seen = vec![0u32; people.edges.len()];
     seen[first.at()] = 1 << start.0;
     let mut waiting = vec![(first, start.at())];
     while let Some((here, state)) = waiting.pop() {

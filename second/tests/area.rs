@@ -50,7 +50,7 @@ fn every_mark(names: u16, roles: u16, states: u16) -> Vec<u8> {
 
 #[test]
 fn the_most_that_can_be_declared() {
-    assert_eq!(every_mark(64, 32, 16), [0xFF; AREA]);
+    assert_eq!(every_mark(64, 32, 32), [0xFF; AREA]);
 }
 
 #[test]
@@ -66,9 +66,10 @@ fn no_bit_past_what_is_declared() {
         (3, 1, 3, rows(0b0000_0111, 0b0000_0011)),
         (7, 3, 15, rows(0b0111_1111, 0b0011_1111)),
         (8, 4, 16, rows(0b1111_1111, 0b1111_1111)),
+        (8, 4, 31, rows(0b1111_1111, 0b1111_1111)),
     ] {
         for (pair, found) in every_mark(names, roles, states).chunks(16).enumerate() {
-            let declared = pair / 16 < states.into() && pair % 16 < states.into();
+            let declared = pair / 32 < states.into() && pair % 32 < states.into();
             assert_eq!(found, if declared { row } else { [0; 16] }, "{names}, {roles}, {states}: {pair}");
         }
     }

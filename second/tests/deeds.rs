@@ -95,7 +95,7 @@ fn no_call_depends_on_them() {
             3 => call.allowance = 2,
             4 => call.tables[1].extend([0, 64]),
             5 => second = 3,
-            6 => call.counts[3] = 17,
+            6 => call.counts[3] = 33,
             _ => {}
         }
         let mut other = call.clone();

@@ -126,11 +126,19 @@ fn faults_in_words() {
     says(&explained("410202020400"), &["number 10: no frame has the kind 41"]);
     says(&explained("010202020400 0A"), &["number 10: a final has 1 bytes after its kind; here there are 0"]);
     says(&explained("014102020400"), &["number 4: 65 names are declared; 64 is the most"]);
+    says(&explained("010202022100"), &["number 4: 33 states are declared; there are 1 to 32"]);
+    let long = |kind: &str, characters: usize| {
+        explained(&format!("010202020400 {kind}{}", "0".repeat(characters - 2)))
+    };
+    says(&long("02", 66), &["number 9: the line has 66 characters; 64 is the most"]);
+    says(&long("0D", 132), &["number 9: the line has 132 characters; 130 is the most"]);
+    let length = "number 10: the allowance has 2 or 4 bytes after its kind; here there are 3";
+    says(&explained("010202020400 0C000000"), &[length]);
     says(&explained("010202020404"), &["number 4: the start state 4 is not below the 4 states"]);
     says(&explained("010202020400 0C0001 0C0001"), &["Line 3, number 11: a second frame 0C"]);
     says(&explained("0c0001"), &["Line 1, number 9: character 2 is byte 63"]);
-    let full = "010000010100".to_string() + &" 0A00".repeat(17);
-    says(&explained(&full), &["number 5: one frame too many: there are already 16 finals"]);
+    let full = "010000010100".to_string() + &" 0A00".repeat(33);
+    says(&explained(&full), &["number 5: one frame too many: there are already 32 finals"]);
     let Err(empty) = Explanation::of(b"", MOST_STEPS) else { panic!("an empty input is faulty") };
     says(&print::faulty(&empty), &["8F00010B", "the input is empty"]);
 }

@@ -159,21 +159,22 @@ fn what_the_library_makes() {
     // The test any number of times, or signs backward.
     let steps = vec![1, 0, 1, 1, 0, 0, 1, 2, 1, 1, 1, 1];
     assert_eq!(made(&[0x41, 0x83, 0x82, 0x01]), Ok(Made { states: 3, tables: [steps, vec![0, 1, 2]] }));
-    // All 15 marks, each before each: 15 steps from the start and from every mark.
-    let most = [vec![0x80; 8], [0x00, 0x82].repeat(14), vec![0x3F], vec![0x81; 8], vec![0x83]].concat();
+    // All 31 marks, each before each: 31 steps from the start and from every mark.
+    let most = [vec![0x80; 8], [0x00, 0x82].repeat(30), vec![0x3F], vec![0x81; 8], vec![0x83]].concat();
     let lengths = made(&most).map(|made| made.tables.map(|table| table.len()));
-    assert_eq!(lengths, Ok([4 * 15 * 16, 16]));
-    assert_eq!(made(&[0x00; 15]).map(|made| made.states), Ok(16));
+    assert_eq!(lengths, Ok([4 * 31 * 32, 32]));
+    assert_eq!(made(&[0x00; 31]).map(|made| made.states), Ok(32));
     // 5, 13, 12, 14: each before those that come after it.
-    let deep = [[0x80; 9].as_slice(), &[0x00; 16]].concat();
+    let deep = [[0x80; 9].as_slice(), &[0x00; 32]].concat();
     assert_eq!(made_of(&deep, [ROOM[0] - 1, ROOM[1]]), Err(5));
     assert_eq!(made_of(&[0x00], [ROOM[0], ROOM[1] - 1]), Err(5));
     assert_eq!(made(&deep), Err(13));
-    assert_eq!(made(&[[0x00; 16].as_slice(), &[0x84]].concat()), Err(12));
+    assert_eq!(made(&[[0x00; 32].as_slice(), &[0x84]].concat()), Err(12));
     assert_eq!(made(&[]), Err(12));
-    assert_eq!(made(&[0x00; 16]), Err(14));
+    assert_eq!(made(&[0x00; 32]), Err(14));
     // No counter is narrow.
     assert_eq!(made(&[0x00; 257]), Err(14));
+    assert_eq!(made(&[0x00; 256 + 31]), Err(14));
     assert_eq!(made(&[vec![0x81; 40_000], vec![0x80; 8]].concat()), Err(12));
 }
 

@@ -1,20 +1,20 @@
-//! PROTOCOL.md's five examples, read and answered as it is written there.
+//! PROTOCOL.md's six examples, read and answered as it is written there.
 
-use second::area::AREA;
+use second::area::{AREA, STORED};
 use second::compare::protocol::{answer, hash, read_request, reply, request};
 use second::library::ask;
 
-/// The lines of the document's code blocks, for a pair, a row, marks, one individual and the marks of rounds: the request, broken over
-/// several, and the reply.
-fn examples() -> [(String, String); 5] {
+/// The lines of the document's code blocks, for a pair, a row, marks, one individual, the marks of rounds and an area moved: the request,
+/// broken over several, and the reply.
+fn examples() -> [(String, String); 6] {
     let document = include_str!("../PROTOCOL.md");
     let blocks: Vec<&str> = document.split("```").collect();
-    [1, 5, 9, 13, 17].map(|at| (blocks[at].replace('\n', ""), blocks[at + 2].replace('\n', "")))
+    [1, 5, 9, 13, 17, 21].map(|at| (blocks[at].replace('\n', ""), blocks[at + 2].replace('\n', "")))
 }
 
 #[test]
 fn the_examples_are_answered_as_written() {
-    let [pair, row, _, one, rounds] = examples();
+    let [pair, row, _, one, rounds, _] = examples();
     let answers = [vec![(1, 2)], vec![(1, 2), (0, 2), (8, 0)], vec![(1, 2)], vec![(0, 2)]];
     for ((line, reply), answers) in [pair, row, one, rounds].into_iter().zip(answers) {
         let lent = read_request(&line).expect("a request");
@@ -37,11 +37,11 @@ fn the_tables_of_an_expression_stand_in_front() {
     // signs, test Deed, signs backward: three steps of four numbers, and one final.
     let steps = [0, 0, 0, 1, 1, 1, 1, 2, 0, 2, 1, 3];
     let behind = format!("{:016X}", hash(&[0x55; 64])).repeat(2);
-    let made = row(&steps, 0xAAAA, 2_048) + &row(&[3], 0xAAAA, 16) + &behind;
+    let made = row(&steps, 0xAAAA, 4_096) + &row(&[3], 0xAAAA, 32) + &behind;
     assert_eq!(reply(&examples()[2].0), format!("000004000C0001{made}"));
     // Longer rows stay as they were behind the tables.
-    let made = row(&steps, 0xAAAA, 4_096) + &row(&[3], 0xAAAA, 4_096) + &behind;
-    assert_eq!(reply("M000300410110001000AA"), format!("000004000C0001{made}"));
+    let made = row(&steps, 0xAAAA, 8_192) + &row(&[3], 0xAAAA, 8_192) + &behind;
+    assert_eq!(reply("M000300410120002000AA"), format!("000004000C0001{made}"));
 }
 
 #[test]
@@ -50,12 +50,12 @@ fn marks_without_tables_leave_all_as_it_was() {
     let kept = |steps, finals| row(&[], 0xAAAA, steps) + &row(&[], 0xAAAA, finals) + &behind;
     let refused = |number: &str, steps, finals| format!("{number}FFFFFFFFFFFF{}", kept(steps, finals));
     assert_eq!(reply("M0003004101"), "!");
-    assert_eq!(reply("M000300410107FF0010AA"), refused("05", 2_047, 16));
-    assert_eq!(reply("M00030041010800000FAA"), refused("05", 2_048, 15));
+    assert_eq!(reply("M00030041010FFF0020AA"), refused("05", 4_095, 32));
+    assert_eq!(reply("M00030041011000001FAA"), refused("05", 4_096, 31));
     assert_eq!(reply("M000000000000AA"), refused("05", 0, 0));
-    assert_eq!(reply("M000008000010AA"), refused("0C", 2_048, 16));
-    assert_eq!(reply(&format!("M0009{}08000010AA", "80".repeat(9))), refused("0D", 2_048, 16));
-    assert_eq!(reply(&format!("M0010{}08000010AA", "00".repeat(16))), refused("0E", 2_048, 16));
+    assert_eq!(reply("M000010000020AA"), refused("0C", 4_096, 32));
+    assert_eq!(reply(&format!("M0009{}10000020AA", "80".repeat(9))), refused("0D", 4_096, 32));
+    assert_eq!(reply(&format!("M0020{}10000020AA", "00".repeat(32))), refused("0E", 4_096, 32));
 }
 
 /// The request for the marks of rounds with other digits in one place.
@@ -65,55 +65,87 @@ fn rounds_asked(from: &str, to: &str) -> String {
     line.replace(from, to)
 }
 
+/// FNV-1a of a row of so many counts, these in front and the others as they were filled.
+fn row_of_counts(front: &[u32], fill: u32, room: usize) -> String {
+    let row = front.iter().copied().chain(vec![fill; room - front.len()]);
+    format!("{:016X}", hash(&row.flat_map(u32::to_le_bytes).collect::<Vec<u8>>()))
+}
+
 /// The reply to it where these counts stand in front of a row, filled with AA, that has so much room.
-fn rounds_told(number: &str, counts: &[u16], room: usize, areas: [Vec<u8>; 2]) -> String {
+fn rounds_told(number: &str, counts: &[u32], room: usize, areas: [Vec<u8>; 2]) -> String {
     let [area, spare] = areas.map(|area| hash(&area));
     let [behind_row, behind_area, behind_spare] = [0x55, 0xFF, 0x00].map(|guard| hash(&[guard; 64]));
-    let row = row(counts, 0xAAAA, room);
+    let row = row_of_counts(counts, 0xAAAA_AAAA, room);
     let behind = format!("{behind_row:016X}{area:016X}{spare:016X}{behind_area:016X}{behind_spare:016X}");
     format!("{number}{row}{behind}")
 }
 
 #[test]
 fn the_marks_of_rounds_stand_in_front() {
-    let told = |allowance: &str, room: &str, number: &str, counts: &[u16]| {
-        let tail = |allowance: &str, room: &str| format!("{allowance}000010000000100000FF{room}AA");
-        let asked = rounds_asked(&tail("0040", "00000040"), &tail(allowance, room));
+    let told = |allowance: &str, room: &str, number: &str, counts: &[u32]| {
+        let tail = |allowance: &str, room: &str| format!("{allowance}000040000000400000FF{room}AA");
+        let asked = rounds_asked(&tail("00000040", "00000040"), &tail(allowance, room));
         // Both areas as an answer to a pair leaves them.
         let [mut area, mut spare] = [vec![0; AREA], vec![0xFF; AREA]];
         ask(&read_request(&asked).expect("a request").call, [0, 0], &mut area, &mut spare);
         let room = usize::from_str_radix(room, 16).expect("hexadecimal");
         assert_eq!(reply(&asked), rounds_told(number, counts, room, [area, spare]), "{allowance}, {room}");
     };
-    told("0040", "00000040", "000002", &[2, 2]);
-    told("0002", "00000002", "000002", &[2, 2]);
-    told("FFFF", "0000FFFF", "000002", &[2, 2]);
-    told("0003", "00010002", "000002", &[2, 2]);
-    told("0001", "00020000", "030001", &[2]);
-    told("0000", "00000000", "030000", &[]);
+    told("00000040", "00000040", "0000000002", &[2, 2]);
+    told("00000002", "00000002", "0000000002", &[2, 2]);
+    told("0000FFFF", "0000FFFF", "0000000002", &[2, 2]);
+    told("00010000", "00010000", "0000000002", &[2, 2]);
+    told("0001F000", "0001F000", "0000000002", &[2, 2]);
+    told("00000003", "00010002", "0000000002", &[2, 2]);
+    told("00000001", "00020000", "0300000001", &[2]);
+    told("00000000", "00000000", "0300000000", &[]);
 }
 
 #[test]
 fn without_the_marks_of_rounds_all_is_as_it_was() {
     let kept = |number, room, [area, spare]: [usize; 2]| {
-        rounds_told(&format!("{number}FFFF"), &[], room, [vec![0; area], vec![0xFF; spare]])
+        rounds_told(&format!("{number}FFFFFFFF"), &[], room, [vec![0; area], vec![0xFF; spare]])
     };
     // Room for one too few, none, and one too few beside an undeclared final state.
     assert_eq!(reply(&rounds_asked("00000040AA", "0000003FAA")), kept("05", 63, [AREA; 2]));
     assert_eq!(reply(&rounds_asked("00000040AA", "00000000AA")), kept("05", 0, [AREA; 2]));
-    let undeclared = rounds_asked("000100030040", "000100040040");
+    let undeclared = rounds_asked("0001000300000040", "0001000400000040");
     assert_eq!(reply(&undeclared), kept("06", 64, [AREA; 2]));
     assert_eq!(reply(&undeclared.replace("00000040AA", "0000003FAA")), kept("05", 63, [AREA; 2]));
-    // An area of another length; 17 states, which come before it.
-    let shorter = rounds_asked("00001000000010", "00000FFF000010");
+    // An area of another length; 33 states, which come before it.
+    let shorter = rounds_asked("00004000000040", "00003FFF000040");
     assert_eq!(reply(&shorter), kept("05", 64, [AREA - 1, AREA]));
-    let many_states = shorter.replace("N0002000200020004", "N0002000200020011");
+    let many_states = shorter.replace("N0002000200020004", "N0002000200020021");
     assert_eq!(reply(&many_states), kept("04", 64, [AREA - 1, AREA]));
     // What the unnamed deed is, and has, is excluded; also where no round is allowed.
     let excluded = rounds_asked("004100010000", "00410001000200010041");
     assert_eq!(reply(&excluded), kept("02", 64, [AREA; 2]));
-    assert_eq!(reply(&excluded.replace("00400000100000", "00000000100000")), kept("02", 64, [AREA; 2]));
+    assert_eq!(
+        reply(&excluded.replace("000000400000400000", "000000000000400000")),
+        kept("02", 64, [AREA; 2])
+    );
     assert_eq!(reply(&excluded.replace("00000040AA", "0000003FAA")), kept("05", 63, [AREA; 2]));
+}
+
+#[test]
+fn areas_are_moved_and_moved_back() {
+    let moved = |kind: &str, before: &[u8], after: usize| {
+        let bytes: String = before.iter().map(|byte| format!("{byte:02X}")).collect();
+        reply(&format!("{kind}{:08X}{bytes}{after:08X}AA", before.len()))
+    };
+    let told = |number: &str, before: &[u8], after: &[u8]| {
+        let behind = format!("{:016X}", hash(&[0x55; 64])).repeat(2);
+        format!("{number}{:016X}{:016X}{behind}", hash(before), hash(after))
+    };
+    // The mark (2, 3, 69) at its two places; and one of state 16.
+    let (mut stored, mut today) = (vec![0; STORED], vec![0; AREA]);
+    (stored[568], today[1_080]) = (0b0010_0000, 0b0010_0000);
+    assert_eq!(moved("S", &stored, AREA), told("00", &stored, &today));
+    assert_eq!(moved("T", &today, STORED), told("00", &today, &stored));
+    today[256] = 1;
+    assert_eq!(moved("T", &today, STORED), told("06", &today, &[0xAA; STORED]));
+    assert_eq!(moved("T", &today, STORED - 1), told("05", &today, &[0xAA; STORED - 1]));
+    assert_eq!(moved("S", &today, STORED), told("05", &today, &[0xAA; STORED]));
 }
 
 #[test]
@@ -124,13 +156,13 @@ fn a_row_that_does_not_fit_leaves_all_as_it_was() {
     let untouched = [hash(&[0; AREA]), hash(&[0xFF; AREA]), hash(&[0xFF; 64]), hash(&[0; 64])];
     let behind = hash(&[0x55; 64]);
     let areas: String = untouched.iter().map(|hash| format!("{hash:016X}")).collect();
-    let reply = format!("00AAAAAA{behind:016X}AAAAAAAA{behind:016X}{areas}");
+    let reply = format!("00AAAAAA{behind:016X}{}{behind:016X}{areas}", "AA".repeat(8));
     assert_eq!(answer(&lent), (None, reply));
 }
 
 #[test]
 fn what_is_no_request() {
-    let [(line, _), (row, _), (marks, _), (one, _), (rounds, _)] = examples();
+    let [(line, _), (row, _), (marks, _), (one, _), (rounds, _), (moved, _)] = examples();
     assert!(read_request("").is_none());
     assert!(read_request("R").is_none());
     let cut = &marks[..marks.len() - 1];
@@ -139,7 +171,7 @@ fn what_is_no_request() {
         assert_eq!(reply(other), "!");
     }
     for (from, to) in
-        [("08000010", "10010010"), ("08000010", "08001001"), ("M0003", "M0004"), ("M0003", "M0002")]
+        [("10000020", "20010020"), ("10000020", "10002001"), ("M0003", "M0004"), ("M0003", "M0002")]
     {
         assert_eq!(reply(&marks.replacen(from, to, 1)), "!");
     }
@@ -170,8 +202,15 @@ fn what_is_no_request() {
     assert!(read_request(&line[1..]).is_none());
     assert!(read_request(&format!("{line}0")).is_none());
     assert!(read_request(&line.to_lowercase()).is_none());
+    // Fewer bytes of an area that is moved than are told, or more; a digit missing; an area longer than a driver holds.
+    for (from, to) in
+        [("S00000001", "S00000002"), ("S00000001", "S00000000"), ("AA", "A"), ("00000002AA", "00020001AA")]
+    {
+        assert_eq!(reply(&moved.replacen(from, to, 1)), "!");
+    }
+    assert_eq!(reply(&moved.replacen('S', "T", 1))[..2], *"05");
     // An area longer than a driver holds.
-    assert!(read_request(&line.replace("0000100000001000", "0000800100001000")).is_none());
+    assert!(read_request(&line.replace("0000400000004000", "0002000100004000")).is_none());
 }
 
 #[test]

@@ -32,17 +32,22 @@ fn the_lines_of_rounds_stand_once_and_before_the_first_answer() {
 
 #[test]
 fn every_concept_and_pair_of_states_in_one_round() {
-    // 128 concepts are below name 0, which is tested from each of 16 states to each other: 16 × 15 × 128 marks at once.
-    let mut words = String::from("014020011000 060000 0A0F 0B0000");
-    for concept in 1..128 {
-        words += &format!(" 02{concept:02X}00");
-    }
-    for (from, to) in
-        (0..16).flat_map(|from| (0..16).map(move |to| (from, to))).filter(|(from, to)| from != to)
-    {
-        words += &format!(" 09{from:02X}00{to:02X}");
-    }
-    assert_eq!(out(&words), rounds(&[30_720]) + "8B0000010001\n");
+    // 128 concepts are below name 0, which is tested from each of so many states to each other.
+    let words = |states: u8| {
+        let mut words = format!("01402001{states:02X}00 060000 0A{:02X} 0B0000", states - 1);
+        for concept in 1..128 {
+            words += &format!(" 02{concept:02X}00");
+        }
+        let pairs = (0..states).flat_map(|from| (0..states).map(move |to| (from, to)));
+        for (from, to) in pairs.filter(|(from, to)| from != to) {
+            words += &format!(" 09{from:02X}00{to:02X}");
+        }
+        words
+    };
+    // 16 × 15 × 128 marks at once, 17 × 16 × 128, and 32 × 31 × 128: of 17 states on, counts have four bytes.
+    assert_eq!(out(&words(16)), "8A00017800\n8B0000010001\n");
+    assert_eq!(out(&words(17)), "8A0000000100008800\n8B00000100000001\n");
+    assert_eq!(out(&words(32)), "8A000000010001F000\n8B00000100000001\n");
 }
 
 #[test]
@@ -106,6 +111,23 @@ fn order_9_10_11_on_one_line() {
     assert_eq!(raw(b"010000000100\r\n"), "8F000109\n");
     assert_eq!(raw(&[b'0'; 64]), "8F00010A\n");
     assert_eq!(raw(&[b'0'; 66]), "8F000109\n");
+    // A line that begins with 0D may have 130 characters, and no other.
+    let long =
+        |kind: &str, characters: usize| out(&format!("010101012000 {kind}{}", "0".repeat(characters - 2)));
+    assert_eq!(long("0D", 66), "8F00020E\n");
+    assert_eq!(long("0D", 130), "8F00020E\n");
+    assert_eq!(long("0D", 132), "8F000209\n");
+    assert_eq!(long("0D", 129), "8F000209\n");
+    assert_eq!(long("0C", 66), "8F000209\n");
+    assert_eq!(long("D0", 66), "8F000209\n");
+    // An allowance of two bytes or four, in both sorts of file.
+    for states in ["10", "11"] {
+        let of = |frame: &str| out(&format!("01000001{states}00 {frame}"));
+        assert_eq!(of("0C0000") + &of("0CFFFF") + &of("0C00000000") + &of("0CFFFFFFFF"), "");
+        for frame in ["0C", "0C00", "0C000000", "0C0000000000"] {
+            assert_eq!(of(frame), "8F00020A\n", "{frame}");
+        }
+    }
     assert_eq!(out("010000000100 0100000001"), "8F00020A\n");
     assert_eq!(out("010000000100 01FFFFFFFFFF"), "8F00020B\n");
     assert_eq!(out("010000000100 0C0001 0C0001"), "8F00030B\n");
@@ -117,9 +139,9 @@ fn order_4_to_8_on_one_line() {
     assert_eq!(out("010021000100"), "8F000104\n");
     assert_eq!(out("010000000000"), "8F000104\n");
     assert_eq!(out("010000000101"), "8F000104\n");
-    let full = "010000010100".to_string() + &" 0A00".repeat(16);
+    let full = "010000010100".to_string() + &" 0A00".repeat(32);
     assert_eq!(out(&full), "");
-    assert_eq!(out(&(full + " 0AFF")), "8F001205\n");
+    assert_eq!(out(&(full + " 0AFF")), "8F002205\n");
     let asks = "010000010100".to_string() + &" 0B0000".repeat(256);
     assert_eq!(out(&(asks.clone() + " 0B0001")), "8F010205\n");
     // Both kinds of ask share their room.
@@ -138,7 +160,7 @@ fn order_4_to_8_on_one_line() {
 
 #[test]
 fn steps_of_both_kinds_share_one_table() {
-    let mixed = "010101010100".to_string() + &" 08000000".repeat(256) + &" 09000000".repeat(256);
+    let mixed = "010101010100".to_string() + &" 08000000".repeat(512) + &" 09000000".repeat(512);
     assert_eq!(out(&mixed), "");
-    assert_eq!(out(&(mixed + " 09000000")), "8F020205\n");
+    assert_eq!(out(&(mixed + " 09000000")), "8F040205\n");
 }

@@ -17,7 +17,7 @@ const FACTS: &str = "010202030600 020040 024101 020143 030001 050002 060000 0700
 
 /// What its rounds add: (1, 2) for Deed and ∃(signs backward), (2, 4) for both and ∃(holds backward); (1, 4) for the first
 /// two; (0, 5) for Owner and ∃signs.
-const ADDED: [u16; 3] = [5, 2, 2];
+const ADDED: [u32; 3] = [5, 2, 2];
 
 /// Case 10 without its asks.
 const TEN: &str = "010202020300 020040 020042 060000 08000001 08010302 0A02";
@@ -32,13 +32,24 @@ fn lines(words: &str) -> Vec<u8> {
     words.split(' ').map(|line| format!("{line}\n")).collect::<String>().into_bytes()
 }
 
+/// How many digits a count has, by the states that line 1 declares.
+fn digits(words: &str) -> usize {
+    if words[8..10] <= *"10" {
+        4
+    } else {
+        8
+    }
+}
+
 /// The same outcome from all three: desk lines with the marks that each round adds, library calls with both areas, model
 /// (and the sheet to the letter).
-fn agree(words: &str, (first, second): (u8, u8), (number, count): (u8, u16), added: &[u16]) -> Vec<u8> {
+fn agree(words: &str, (first, second): (u8, u8), (number, count): (u8, u32), added: &[u32]) -> Vec<u8> {
     let asked = format!("{words} 0B{first:02X}{second:02X}");
     let rounds = added.iter().enumerate();
-    let rounds: String = rounds.map(|(before, added)| format!("8A{:04X}{added:04X}\n", before + 1)).collect();
-    let output = format!("{rounds}8B{first:02X}{second:02X}{number:02X}{count:04X}\n");
+    let wide = digits(words);
+    let rounds: String =
+        rounds.map(|(before, added)| format!("8A{:0wide$X}{added:0wide$X}\n", before + 1)).collect();
+    let output = format!("{rounds}8B{first:02X}{second:02X}{number:02X}{count:0wide$X}\n");
     assert_eq!(desk(&lines(&asked)), output.into_bytes());
 
     let file = read(&lines(&asked)).expect("a sound file");
@@ -47,7 +58,7 @@ fn agree(words: &str, (first, second): (u8, u8), (number, count): (u8, u16), add
     assert_eq!(ask(&call, [first.into(), second.into()], &mut area, &mut spare), (number, count));
     // A yes and a no are both 0 here.
     let (mut other, mut other_spare) = (vec![0x5A; AREA], vec![0xA5; AREA]);
-    let told = marks(&call, file.allowance().into(), &mut other, &mut other_spare);
+    let told = marks(&call, file.allowance() as usize, &mut other, &mut other_spare);
     let added_there = (number != 2).then(|| added.to_vec());
     assert_eq!(told, (if number == 1 { 0 } else { number }, added_there));
     assert!(other == area && other_spare == spare);
@@ -57,10 +68,10 @@ fn agree(words: &str, (first, second): (u8, u8), (number, count): (u8, u16), add
         assert!(area.iter().all(|byte| *byte == 0x5A) && spare.iter().all(|byte| *byte == 0xA5));
     } else {
         let sheets = letter::all_rounds(&known);
-        assert_eq!(area, holding(sheets[usize::from(count)].iter().copied()));
-        assert_eq!(letter::added(&sheets[..=usize::from(count)]), added);
+        assert_eq!(area, holding(sheets[count as usize].iter().copied()));
+        assert_eq!(letter::added(&sheets[..=count as usize]), added);
         assert!(spare.iter().all(|byte| *byte == 0));
-        assert_eq!(number == 3, sheets.len() - 1 > usize::from(count));
+        assert_eq!(number == 3, sheets.len() - 1 > count as usize);
     }
     let answer = model::ask(&file.collection, Ask::Pair(Individual(first), Individual(second)))
         .expect("a small model");
@@ -70,12 +81,13 @@ fn agree(words: &str, (first, second): (u8, u8), (number, count): (u8, u16), add
 }
 
 /// The same outcome of one individual from all three.
-fn agree_from(words: &str, first: u8, number: u8, count: u16) {
+fn agree_from(words: &str, first: u8, number: u8, count: u32) {
     let asked = format!("{words} 0E{first:02X}");
     let output = String::from_utf8(desk(&lines(&asked))).expect("text");
     let rounds = output.lines().take_while(|line| line.starts_with("8A")).count();
-    assert_eq!(rounds, usize::from(count));
-    assert!(output.ends_with(&format!("8E{first:02X}{number:02X}{count:04X}\n")));
+    assert_eq!(rounds, count as usize);
+    let wide = digits(words);
+    assert!(output.ends_with(&format!("8E{first:02X}{number:02X}{count:0wide$X}\n")));
     assert_eq!(output.lines().count(), rounds + 1);
 
     let file = read(&lines(&asked)).expect("a sound file");
@@ -129,9 +141,9 @@ fn case_1_with_tables_written_by_hand() {
     assert_eq!(ask(&call, [0, 0], &mut area, &mut spare), (1, 2));
     // Owner and ∃signs go down to a deed and come back, (0, 3, 0) and (0, 3, 64): places 384 and 448.
     assert_eq!(area[48..64], [1, 0, 0, 0, 0, 0, 0, 0, 1, 0, 0, 0, 0, 0, 0, 0]);
-    // Of the six concepts 0, 1 and 64 to 67 the four states lead to themselves: places 0, 2,176, 4,352 and 6,528 on.
+    // Of the six concepts 0, 1 and 64 to 67 the four states lead to themselves: places 0, 4,224, 8,448 and 12,672 on.
     for state in 0..4 {
-        let row: [u8; 16] = area[state * 272..][..16].try_into().expect("16 bytes");
+        let row: [u8; 16] = area[state * 528..][..16].try_into().expect("16 bytes");
         assert_eq!(row, [0b11, 0, 0, 0, 0, 0, 0, 0, 0b1111, 0, 0, 0, 0, 0, 0, 0]);
     }
 }
@@ -149,6 +161,7 @@ fn without_a_given_allowance_the_most_rounds_are_allowed() {
         let [names, roles, individuals, states, start] = counts;
         Counts::new(names, roles, individuals, states, start).expect("counts in range").most_rounds()
     };
+    assert_eq!(most([64, 32, 255, 32, 31]), 126_976);
     assert_eq!(most([64, 32, 255, 16, 15]), 30_720);
     assert_eq!(most([2, 2, 2, 4, 0]), 72);
     // One state, or no concept at all.
@@ -160,6 +173,9 @@ fn without_a_given_allowance_the_most_rounds_are_allowed() {
     assert_eq!(allowed(&format!("{B} 0C0000")), 0);
     assert_eq!(allowed(&format!("{B} 0C0040")), 64);
     assert_eq!(allowed(&format!("{B} 0CFFFF")), 65_535);
+    assert_eq!(allowed(&format!("{B} 0C00000040")), 64);
+    assert_eq!(allowed(&format!("{B} 0C00010000")), 65_536);
+    assert_eq!(allowed(&format!("{B} 0CFFFFFFFF")), u32::MAX);
 }
 
 #[test]
@@ -268,10 +284,31 @@ fn facts_walked_along_and_backward() {
 }
 
 #[test]
+fn cases_22_to_25_of_more_than_16_states() {
+    let last = "010202021100 020040 024101 060000 08000010 0910010F 080F010E 0A0E";
+    let sheet = agree(last, (0, 0), (1, 2), &[2, 2]);
+    assert_eq!(standing(&sheet), 106);
+    agree(last, (0, 1), (0, 2), &[2, 2]);
+    agree_from(last, 0, 1, 2);
+    agree_from(last, 1, 0, 2);
+    agree(&format!("{last} 0C0001"), (0, 0), (3, 1), &[2]);
+    agree(&format!("{last} 030141"), (0, 0), (2, 0), &[]);
+    let test = "01010002201F 060000 091F0010 0A10";
+    let sheet = agree(test, (0, 0), (1, 1), &[1]);
+    assert_eq!(standing(&sheet), 33);
+    // (31, 16, Owner): place 31 × 4,096 + 16 × 128.
+    assert_eq!(sheet[16_128], 1);
+    agree(test, (1, 1), (0, 1), &[1]);
+    agree(&format!("{test} 0C00000000"), (0, 0), (3, 0), &[]);
+}
+
+#[test]
 fn case_12_limits() {
     assert_eq!(fault("010202FF1000"), "");
-    assert_eq!(fault("010202FF1100"), "8F000104\n");
+    assert_eq!(fault("010202FF2000"), "");
+    assert_eq!(fault("010202FF2100"), "8F000104\n");
     assert_eq!(fault("010202FF1000 0600FE 0BFEFE 0A00"), "8BFEFE010000\n");
+    assert_eq!(fault("010202FF1100 0600FE 0BFEFE 0A00"), "8BFEFE0100000000\n");
     assert_eq!(fault("010202FF1000 0600FF"), "8F000206\n");
     assert_eq!(fault("010202FF1000 0700FEFF"), "8F000206\n");
     assert_eq!(fault("010202FF1000 0B00FF"), "8F000208\n");
@@ -279,20 +316,20 @@ fn case_12_limits() {
 
 #[test]
 fn case_12_in_the_library() {
-    let mut call = Call { counts: [2, 2, 255, 16, 15], tables: Default::default(), allowance: 0 };
+    let mut call = Call { counts: [2, 2, 255, 32, 31], tables: Default::default(), allowance: 0 };
     let (mut area, mut spare) = (vec![0; AREA], vec![0; AREA]);
     let mut number = |call: &Call, second| ask(call, [254, second], &mut area, &mut spare).0;
     assert_eq!(number(&call, 254), 0);
     assert_eq!(number(&call, 255), 8);
     call.tables[4] = vec![0, 255, 0];
     assert_eq!(number(&call, 255), 6);
-    call.counts[3] = 17;
+    call.counts[3] = 33;
     assert_eq!(number(&call, 255), 4);
 }
 
 #[test]
 fn the_refusals_of_the_call_for_the_marks_of_rounds() {
-    let mut call = Call { counts: [2, 2, 255, 16, 15], tables: Default::default(), allowance: 3 };
+    let mut call = Call { counts: [2, 2, 255, 32, 31], tables: Default::default(), allowance: 3 };
     let number = |call: &Call, room, spare| marks(call, room, &mut vec![0; AREA], &mut vec![0; spare]).0;
     assert_eq!(number(&call, 3, AREA), 0);
     assert_eq!(number(&call, 2, AREA), 5);
@@ -300,7 +337,7 @@ fn the_refusals_of_the_call_for_the_marks_of_rounds() {
     call.tables[4] = vec![0, 255, 0];
     assert_eq!(number(&call, 3, AREA), 6);
     assert_eq!(number(&call, 2, AREA), 5);
-    call.counts[3] = 17;
+    call.counts[3] = 33;
     assert_eq!(number(&call, 2, AREA), 4);
 }
 

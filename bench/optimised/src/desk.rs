@@ -1,11 +1,11 @@
 //! The desk: whole input to whole output.
 
 use crate::answer::answers;
-use crate::bits::Places;
+use crate::bits::{Places, States};
 use crate::clash::{individuals, Excluded};
 use crate::leave::leaving;
 use crate::order::Orders;
-use crate::read::{read, Fault, File, ANY};
+use crate::read::{begin, go_on, read, Fault, File, Question, ANY, NARROW};
 use crate::sheet::{along, close};
 use crate::walk::Map;
 
@@ -18,38 +18,56 @@ const SPENT: u8 = 3;
 const ROUNDS: usize = 64;
 
 /// The answer is the same for all asks, or is to be looked up in the walk.
-enum Outcome {
-    Same(u8, u16),
-    Walked(Box<Walked>),
+enum Outcome<S: States> {
+    Same(u8, u32),
+    Walked(Box<Walked<S>>),
 }
 
 /// Who is joined to whom, in which states a path leaves each individual (where that is asked), and the rounds needed.
-struct Walked {
-    map: Map,
-    leaving: [u16; 256],
-    rounds: u16,
+struct Walked<S: States> {
+    map: Map<S>,
+    leaving: [S; 256],
+    rounds: u32,
 }
 
-pub fn desk(input: Vec<u8>) -> Vec<u8> {
+pub fn desk(mut input: Vec<u8>) -> Vec<u8> {
     let mut file = File::empty();
-    if let Err(Fault { line, number }) = read(input, &mut file) {
-        let [high, low] = line.to_be_bytes();
-        return written(&[0x8F, high, low, number]);
+    match begin(&mut input, &mut file) {
+        Err(fault) => refused(fault),
+        Ok(end) if file.states > NARROW => worked::<u32>(input, end, &mut file),
+        Ok(end) => worked::<u16>(input, end, &mut file),
     }
+}
+
+fn refused(Fault { line, number }: Fault) -> Vec<u8> {
+    let [high, low] = line.to_be_bytes();
+    let mut output = Vec::new();
+    // A fault has no count, so its line is as long for every file.
+    put_line::<u16, 4, 0>(&mut output, [0x8F, high, low, number], []);
+    output
+}
+
+/// What is written for a file whose line 1 was read.
+fn worked<S: States>(input: Vec<u8>, end: usize, file: &mut File) -> Vec<u8> {
+    let mut question = Question::empty();
+    if let Err(fault) = go_on(&input, end, file, &mut question) {
+        return refused(fault);
+    }
+    drop(input);
     if file.asks.is_empty() {
         return Vec::new();
     }
-    let mut output = Vec::with_capacity(13 * file.asks.len() + 11 * ROUNDS);
-    match outcome(&file, &mut output) {
+    let mut output = Vec::with_capacity(LONGEST * (file.asks.len() + ROUNDS));
+    match outcome::<S>(file, &question, &mut output) {
         Outcome::Same(number, count) => {
             for &ask in &file.asks {
-                answer(&mut output, ask, number, count);
+                answer::<S>(&mut output, ask, number, count);
             }
         }
         Outcome::Walked(walked) => {
             let Walked { map, leaving, rounds } = *walked;
-            for (&ask, yes) in file.asks.iter().zip(answers(&file, &map, &leaving)) {
-                answer(&mut output, ask, if yes { YES } else { NO }, rounds);
+            for (&ask, yes) in file.asks.iter().zip(answers(file, &question, &map, &leaving)) {
+                answer::<S>(&mut output, ask, if yes { YES } else { NO }, rounds);
             }
         }
     }
@@ -57,69 +75,67 @@ pub fn desk(input: Vec<u8>) -> Vec<u8> {
 }
 
 /// What the asks are answered with; the lines of the rounds are written as these are worked.
-fn outcome(file: &File, output: &mut Vec<u8>) -> Outcome {
+fn outcome<S: States>(file: &File, question: &Question<S>, output: &mut Vec<u8>) -> Outcome<S> {
     let orders = Orders::of(file);
     let excluded = Excluded::of(file, &orders);
     if individuals(file, &orders, &excluded).is_none() {
         return Outcome::Same(CONTRADICTION, 0);
     }
-    let along = along(file, &orders);
+    let along = along(file, question, &orders);
     let Some(mut map) = Map::of(file, &orders, &excluded, &along) else {
         return Outcome::Same(CONTRADICTION, 0);
     };
-    let told = |round: u16, added: u16| {
-        let ([high, low], [more, less]) = (round.to_be_bytes(), added.to_be_bytes());
-        output.extend_from_slice(&line::<5, 11>([0x8A, high, low, more, less]));
-    };
-    let sheet = close(file, &orders, &along, file.allowance(), told);
+    let told = |round: u32, added: u32| put_line::<S, 1, 2>(output, [0x8A], [round, added]);
+    let sheet = close(file, question, &orders, &along, told);
     if sheet.spent {
         return Outcome::Same(SPENT, sheet.rounds);
     }
     map.put_staying(file, &orders, &sheet);
     let asks_of_one = file.asks.iter().any(|ask| ask.1 == ANY);
-    let leaving = if asks_of_one { leaving(file, &orders, &along, &sheet) } else { [0; 256] };
+    let leaving = if asks_of_one { leaving(file, question, &orders, &along, &sheet) } else { [S::NONE; 256] };
     Outcome::Walked(Box::new(Walked { map, leaving, rounds: sheet.rounds }))
 }
 
 #[inline(always)]
-fn answer(output: &mut Vec<u8>, (first, second): (u8, u8), number: u8, count: u16) {
-    let [high, low] = count.to_be_bytes();
+fn answer<S: States>(output: &mut Vec<u8>, (first, second): (u8, u8), number: u8, count: u32) {
     match second {
-        ANY => output.extend_from_slice(&line::<5, 11>([0x8E, first, number, high, low])),
-        _ => output.extend_from_slice(&line::<6, 13>([0x8B, first, second, number, high, low])),
+        ANY => put_line::<S, 3, 1>(output, [0x8E, first, number], [count]),
+        _ => put_line::<S, 4, 1>(output, [0x8B, first, second, number], [count]),
     }
 }
 
-/// Bytes as capital hexadecimal and the end of the line.
+/// The characters of the longest line, with its end.
+const LONGEST: usize = 19;
+
+/// Bytes and then counts as capital hexadecimal, and the end of the line.
 #[inline(always)]
-fn line<const BYTES: usize, const LONG: usize>(bytes: [u8; BYTES]) -> [u8; LONG] {
-    let mut line = [b'\n'; LONG];
-    for (place, byte) in bytes.into_iter().enumerate() {
-        line[2 * place] = DIGITS[usize::from(byte >> 4)];
-        line[2 * place + 1] = DIGITS[usize::from(byte & 15)];
+fn put_line<S: States, const BYTES: usize, const COUNTS: usize>(
+    output: &mut Vec<u8>,
+    bytes: [u8; BYTES],
+    counts: [u32; COUNTS],
+) {
+    let mut line = [b'\n'; LONGEST];
+    let mut length = 0;
+    let mut put = |byte: u8| {
+        line[length] = DIGITS[usize::from(byte >> 4)];
+        line[length + 1] = DIGITS[usize::from(byte & 15)];
+        length += 2;
+    };
+    bytes.into_iter().for_each(&mut put);
+    for count in counts {
+        count.to_be_bytes()[4 - S::COUNT_BYTES..].iter().copied().for_each(&mut put);
     }
-    line
+    output.extend_from_slice(&line[..length + 1]);
 }
 
 const DIGITS: [u8; 16] = *b"0123456789ABCDEF";
 
-fn written(bytes: &[u8]) -> Vec<u8> {
-    let mut line = Vec::new();
-    for byte in bytes {
-        line.extend([DIGITS[usize::from(byte >> 4)], DIGITS[usize::from(byte & 15)]]);
-    }
-    line.push(b'\n');
-    line
-}
-
 /// How many marks the sheet has that answers rest on; None after a fault or a contradiction. For the tests.
-pub fn marks(input: Vec<u8>) -> Option<usize> {
-    let mut file = File::empty();
-    read(input, &mut file).ok()?;
+pub fn marks(input: Vec<u8>) -> Option<u32> {
+    let (file, question) = read(input).ok()?;
     let orders = Orders::of(&file);
     individuals(&file, &orders, &Excluded::of(&file, &orders))?;
-    let sheet = close(&file, &orders, &along(&file, &orders), file.allowance(), |_, _| ());
+    let sheet = close(&file, &question, &orders, &along(&file, &question, &orders), |_, _| ());
     let concepts = Places(crate::order::all_concepts(&file));
-    let rows = concepts.flat_map(|concept| sheet.of_concept(&orders, concept).0);
-    Some(rows.map(|row| row.count_ones() as usize).sum())
+    Some(concepts.map(|concept| sheet.of_concept(&orders, concept).count()).sum())
 }

@@ -2,12 +2,12 @@
 
 use crate::bits::Places;
 use crate::order::{neighbour, Orders};
-use crate::read::{read, File};
+use crate::read::{read, NARROW};
 use std::collections::{BTreeMap, BTreeSet};
 
 /// Most records by frame kind; role steps and test steps share one table, kept here under 8.
 const MOST: [(u8, usize); 8] =
-    [(2, 512), (3, 512), (4, 128), (5, 128), (6, 1_024), (7, 4_096), (8, 512), (10, 16)];
+    [(2, 512), (3, 512), (4, 128), (5, 128), (6, 1_024), (7, 4_096), (8, 1_024), (10, 32)];
 
 /// splitmix64, one for each table, so that a table's size changes no other table.
 pub struct Dice(u64);
@@ -81,9 +81,12 @@ impl Draft {
         }
     }
 
-    /// Repeated records mean nothing more, but they fill the tables.
+    /// Repeated records mean nothing more, but they fill the tables. In files of at most sixteen states the tables of
+    /// the question are half full: such files are measured side by side with what they took before.
     pub fn fill(&mut self) {
+        let narrow = self.first[4] <= NARROW;
         for (table, most) in MOST {
+            let most = if narrow && matches!(table, 8 | 10) { most / 2 } else { most };
             let mut dice = Dice::of(self.seed, table + 100);
             if let Some(frames) = self.tables.get_mut(&table) {
                 let different = frames.len();
@@ -141,8 +144,7 @@ pub struct Shown {
 
 impl Shown {
     pub fn of(text: &[u8]) -> Shown {
-        let mut file = File::empty();
-        read(text.to_vec(), &mut file).expect("a sound file");
+        let (file, _) = read(text.to_vec()).expect("a sound file");
         let orders = Orders::of(&file);
         let mut elements = Vec::new();
         for individual in 0..usize::from(file.individuals) {

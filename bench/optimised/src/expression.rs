@@ -1,6 +1,7 @@
 //! A question typed as an expression: its fixed automaton, from one pass over the marks.
 
-use crate::read::File;
+use crate::bits::States;
+use crate::read::{File, Question};
 use std::iter::{Copied, Peekable};
 use std::slice::Iter;
 
@@ -10,8 +11,8 @@ const OR: u8 = 0x82;
 const TIMES: u8 = 0x83;
 const MOST_OPEN: i8 = 8;
 
-/// Puts the steps and finals of the expression into the file; 6, 13, 12 or 14 where the marks are refused.
-pub fn put(marks: &[u8], file: &mut File) -> Result<(), u8> {
+/// Puts the steps and finals of the expression into the question; 6, 13, 12 or 14 where the marks are refused.
+pub fn put<S: States>(marks: &[u8], file: &File, question: &mut Question<S>) -> Result<(), u8> {
     let letters = || marks.iter().copied().filter(|mark| *mark < OPEN);
     let declared = |mark| if mark < 0x40 { mark < file.signed } else { mark - 0x40 < file.names };
     if !letters().all(declared) {
@@ -30,12 +31,12 @@ pub fn put(marks: &[u8], file: &mut File) -> Result<(), u8> {
         for (from, next) in (0..file.states).zip(reader.next) {
             match (next >> to & 1, mark) {
                 (0, _) => {}
-                (_, 0..0x40) => file.role_steps[usize::from(mark)].add(from, to),
-                _ => file.test_steps[usize::from(mark - 0x40)].add(from, to),
+                (_, 0..0x40) => question.role_steps[usize::from(mark)].add(from, to),
+                _ => question.test_steps[usize::from(mark - 0x40)].add(from, to),
             }
         }
     }
-    file.finals = whole.last as u16 | u16::from(whole.empty);
+    question.finals = S::from_wide(whole.last | u32::from(whole.empty));
     Ok(())
 }
 
@@ -57,7 +58,8 @@ struct Part {
 
 struct Reader<'a> {
     marks: Peekable<Copied<Iter<'a, u8>>>,
-    /// How many role and test marks were read; the k-th stands at place k, and a line has room for 31.
+    /// How many role and test marks were read; the k-th stands at place k. Those past the 31st have no bit: no file
+    /// declares a state for them.
     places: u32,
     /// For each place, those that may come right after it.
     next: [u32; 32],
@@ -95,7 +97,8 @@ impl Reader<'_> {
             }
             0..OPEN => {
                 self.places += 1;
-                Part { first: 1 << self.places, last: 1 << self.places, empty: false }
+                let place = 1u32.checked_shl(self.places).unwrap_or(0);
+                Part { first: place, last: place, empty: false }
             }
             _ => return None,
         };

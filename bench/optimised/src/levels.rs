@@ -1,18 +1,18 @@
 //! All firsts at once: for each state and individual, which firsts reach it. States are gone through in classes that
 //! lead to each other, so that no step leads back to a class that was left.
 
-use crate::bits::{Places, Relation};
+use crate::bits::{Places, Relation, States};
 use crate::walk::Map;
 
 /// A set of individuals.
 pub type Firsts = [u64; 4];
 
 /// At each place the firsts that reach a state of an individual.
-pub type Marks = [Firsts; 16 << 8];
+pub type Marks = [Firsts];
 
 #[inline(always)]
-pub fn place(state: usize, individual: usize) -> usize {
-    (state & 15) << 8 | individual & 255
+pub fn place<S: States>(state: usize, individual: usize) -> usize {
+    (state & (S::MOST - 1)) << 8 | individual & 255
 }
 
 #[inline(always)]
@@ -22,22 +22,22 @@ pub fn has(firsts: &Firsts, first: u8) -> bool {
 
 /// From these firsts in the start state. `states` has what one step or more lead to.
 #[inline(never)]
-pub fn marks(map: &Map, states: &Relation, firsts: &[bool; 256], start: u8) -> Box<Marks> {
-    let mut marks: Box<Marks> = vec![[0; 4]; 16 << 8].try_into().expect("a place for each");
+pub fn marks<S: States>(map: &Map<S>, states: &Relation<S>, firsts: &[bool; 256], start: u8) -> Box<Marks> {
+    let mut marks = vec![[0; 4]; S::MOST << 8].into_boxed_slice();
     // For each individual, the states with firsts that were not led on yet.
-    let mut behind = [0u16; 256];
+    let mut behind = [S::NONE; 256];
     for (first, _) in firsts.iter().enumerate().filter(|(_, asked)| **asked) {
-        marks[place(usize::from(start), first)][first >> 6] |= 1 << (first & 63);
-        behind[first] |= 1 << (start & 15);
+        marks[place::<S>(usize::from(start), first)][first >> 6] |= 1 << (first & 63);
+        behind[first] |= S::one(usize::from(start));
     }
     for class in classes(states) {
-        let comes_back = Places(class).any(|state| states.0[state] & class != 0);
+        let comes_back = Places(class).any(|state| states.row(state) & class != S::NONE);
         loop {
             let mut any = false;
             for here in 0..map.individuals() {
                 let here_behind = behind[here & 255] & class;
                 behind[here & 255] &= !class;
-                any |= here_behind != 0;
+                any |= here_behind != S::NONE;
                 for state in Places(here_behind) {
                     lead_on(map, (here, state), class, &mut marks, &mut behind);
                 }
@@ -52,22 +52,28 @@ pub fn marks(map: &Map, states: &Relation, firsts: &[bool; 256], start: u8) -> B
 
 /// Whoever reaches this state here reaches what one step leads to.
 #[inline(always)]
-fn lead_on(map: &Map, (here, state): (usize, usize), class: u16, marks: &mut Marks, behind: &mut [u16; 256]) {
-    let firsts = marks[place(state, here)];
+fn lead_on<S: States>(
+    map: &Map<S>,
+    (here, state): (usize, usize),
+    class: S,
+    marks: &mut Marks,
+    behind: &mut [S; 256],
+) {
+    let firsts = marks[place::<S>(state, here)];
     for (there, relation) in map.edges(here) {
-        let ends = relation.0[state & 15];
-        if ends == 0 {
+        let ends = relation.row(state);
+        if ends == S::NONE {
             continue;
         }
         behind[there] |= ends & !class;
         for end in Places(ends & !class) {
-            join(&mut marks[place(end, there)], &firsts);
+            join(&mut marks[place::<S>(end, there)], &firsts);
         }
         for end in Places(ends & class) {
-            let all = &mut marks[place(end, there)];
+            let all = &mut marks[place::<S>(end, there)];
             let before = *all;
             join(all, &firsts);
-            behind[there] |= if *all == before { 0 } else { 1 << end };
+            behind[there] |= if *all == before { S::NONE } else { S::one(end) };
         }
     }
 }
@@ -78,18 +84,18 @@ fn join(all: &mut Firsts, more: &Firsts) {
 }
 
 /// The classes of states that lead to each other, each before those that it leads to.
-fn classes(states: &Relation) -> Vec<u16> {
-    let leads_to = |state: usize| states.0[state] | 1 << state;
-    let mut classes = Vec::with_capacity(16);
+fn classes<S: States>(states: &Relation<S>) -> Vec<S> {
+    let leads_to = |state: usize| states.row(state) | S::one(state);
+    let mut classes = Vec::with_capacity(S::MOST);
     // Who leads to another class leads to more states than it.
-    for count in (1..=16).rev() {
-        let mut left = (0..16)
-            .filter(|state| leads_to(*state).count_ones() == count)
-            .fold(0, |all, state| all | 1 << state);
-        while left != 0 {
-            let state = u16::trailing_zeros(left) as usize;
-            let class = Places(leads_to(state)).filter(|other| leads_to(*other) >> state & 1 == 1);
-            let class = class.fold(0, |all, other| all | 1 << other);
+    for count in (1..=S::MOST as u32).rev() {
+        let mut left = (0..S::MOST)
+            .filter(|state| leads_to(*state).size() == count)
+            .fold(S::NONE, |all, state| all | S::one(state));
+        while left != S::NONE {
+            let state = left.lowest();
+            let class = Places(leads_to(state)).filter(|other| leads_to(*other).has(state));
+            let class = class.fold(S::NONE, |all, other| all | S::one(other));
             classes.push(class);
             left &= !class;
         }
@@ -99,11 +105,11 @@ fn classes(states: &Relation) -> Vec<u16> {
 
 /// The firsts that reach some individual in one of these states of it.
 #[inline(never)]
-pub fn together(marks: &Marks, ends: &[u16; 256]) -> Firsts {
+pub fn together<S: States>(marks: &Marks, ends: &[S; 256]) -> Firsts {
     let mut together = [0; 4];
     for (there, states) in ends.iter().enumerate() {
         for state in Places(*states) {
-            join(&mut together, &marks[place(state, there)]);
+            join(&mut together, &marks[place::<S>(state, there)]);
         }
     }
     together

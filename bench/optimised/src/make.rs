@@ -10,17 +10,19 @@ pub fn make(kind: &str, size: Option<usize>) -> Option<Vec<u8>> {
     match (kind, size) {
         ("least", None) => return Some(b"010000000100\n".to_vec()),
         ("chain", None) => return Some(chain()),
-        ("laps", None) => return Some(laps()),
+        ("laps", None) => return Some(laps(&LAPS)),
+        ("wide-laps", None) => return Some(laps(&WIDE_LAPS)),
         _ => {}
     }
     let sizes = match (kind, size) {
         ("medium", None) => MEDIUM,
         ("dense", None) => DENSE,
         ("layered", None) => LAYERED,
+        ("wide", None) => WIDE,
         ("facts", _) => series(4_096).map(|n| Sizes { role_facts: n, concept_facts: n / 4, ..GROWING })?,
         ("rules", _) => series(512).map(|n| Sizes { rules: n, role_rules: n / 4, ..GROWING })?,
         ("states", _) => {
-            series(16).filter(|n| *n > 0).map(|n| Sizes { states: n, steps: 32 * n, ..GROWING })?
+            series(32).filter(|n| *n > 0).map(|n| Sizes { states: n, steps: 32 * n, ..GROWING })?
         }
         ("asks", _) => series(256).map(|n| Sizes { asks: n, ..GROWING })?,
         _ => return None,
@@ -46,6 +48,8 @@ struct Sizes {
     steps: usize,
     finals: usize,
     asks: usize,
+    /// How many asks of a hundred are of one individual.
+    of_one: usize,
     /// Repeats fill every table.
     full: bool,
 }
@@ -66,6 +70,7 @@ const MEDIUM: Sizes = Sizes {
     steps: 64,
     finals: 1,
     asks: 64,
+    of_one: 0,
     full: false,
 };
 
@@ -85,10 +90,14 @@ const LAYERED: Sizes = Sizes {
     steps: 512,
     finals: 1,
     asks: 256,
+    of_one: 0,
     full: true,
 };
 
 const DENSE: Sizes = Sizes { layers: 1, groups: 1, finals: 4, ..LAYERED };
+
+/// As many states as there are, and asks of both kinds.
+const WIDE: Sizes = Sizes { states: 32, steps: 1_024, of_one: 50, ..LAYERED };
 
 /// What the series change one size of.
 const GROWING: Sizes = Sizes {
@@ -152,17 +161,19 @@ fn thrown(sizes: &Sizes) -> Vec<u8> {
         Some(vec![10, state as u8])
     });
     draft.throw_exclusions(sizes.exclusions, sizes.role_exclusions);
-    throw_asks(&mut draft, sizes.asks);
+    throw_asks(&mut draft, sizes.asks, sizes.of_one);
     if sizes.full {
         draft.fill();
     }
     draft.text()
 }
 
-fn throw_asks(draft: &mut Draft, asks: usize) {
+fn throw_asks(draft: &mut Draft, asks: usize, of_one: usize) {
     let individuals = usize::from(draft.first[3]);
-    draft
-        .throw(11, asks, |dice| Some(vec![11, dice.below(individuals) as u8, dice.below(individuals) as u8]));
+    draft.throw(11, asks, |dice| {
+        let [first, second] = [0; 2].map(|_| dice.below(individuals) as u8);
+        Some(if of_one > 0 && dice.percent(of_one) { vec![14, first] } else { vec![11, first, second] })
+    });
 }
 
 /// Full tables that need 1,954 rounds: a ring of 31 children under one wider role, walked down in a ring of
@@ -189,64 +200,30 @@ fn chain() -> Vec<u8> {
     }
     draft.put(10, vec![10, DOWN]);
     draft.put(12, vec![12, 0xFF, 0xFF]);
-    filled(draft, RING)
+    filled(draft, RING, 0)
 }
 
 /// With facts on the first roles in four groups of individuals, harmless exclusions, 256 asks and every table full.
-fn filled(mut draft: Draft, roles: u8) -> Vec<u8> {
+fn filled(mut draft: Draft, roles: u8, of_one: usize) -> Vec<u8> {
     draft.throw(6, 1_024, |dice| Some(vec![6, dice.below(64) as u8, dice.below(255) as u8]));
     draft.throw(7, 4_096, |dice| {
         let [role, first, second] = [usize::from(roles), 255, 255].map(|end| dice.below(end));
         (first != second && first % 4 == second % 4).then(|| vec![7, role as u8, first as u8, second as u8])
     });
     draft.throw_exclusions(512, 128);
-    throw_asks(&mut draft, 256);
+    throw_asks(&mut draft, 256, of_one);
     draft.fill();
     draft.text()
 }
 
-/// The most rounds that we could make a file need. The children by a ring of roles promise one another, and under one
-/// wider role every state goes straight down and straight up: a mark (t, u) goes round the ring, one child a round. One
-/// role of the ring turns the states in cycles instead, so that the mark comes back as the next of its orbit: that is a
-/// lap. Two bridges start an orbit where another is through: their children have the same marks below them as the ring,
-/// and lead a few of these to another place. All marks of all orbits come, and as good as each lap adds one.
-fn laps() -> Vec<u8> {
-    const RING: u8 = 31 - BRIDGES.len() as u8;
-    const STRAIGHT: u8 = 31;
-    let mut draft = Draft::new(SEED, [64, 32, 255, 16, 0]);
-    // The neighbour by the role itself and by its inverse.
-    let (down, up) = (|role: u8| 64 + 2 * role, |role: u8| 65 + 2 * role);
-    for role in 0..RING {
-        draft.put(2, vec![2, up(role), down((role + 1) % RING)]);
-        if role > 0 {
-            draft.put(4, vec![4, 2 * role, 2 * STRAIGHT]);
-        }
-    }
-    for (first, length) in CYCLES {
-        for place in 0..length {
-            let (state, next) = (first + place, first + (place + 1) % length);
-            draft.put(8, vec![8, state, 2 * STRAIGHT, state]);
-            draft.put(8, vec![8, state, 2 * STRAIGHT + 1, state]);
-            draft.put(8, vec![8, state, 0, next]);
-            draft.put(8, vec![8, next, 1, state]);
-        }
-    }
-    for (role, bridge) in (RING..).zip(BRIDGES) {
-        draft.put(2, vec![2, up(role), down(0)]);
-        draft.put(2, vec![2, up(RING - 1), down(role)]);
-        for &(from, to) in bridge.down {
-            draft.put(8, vec![8, from, 2 * role, to]);
-        }
-        for &(from, to) in bridge.up {
-            draft.put(8, vec![8, from, 2 * role + 1, to]);
-        }
-    }
-    draft.put(10, vec![10, 15]);
-    filled(draft, RING)
+/// The question of a file of laps.
+struct Laps {
+    /// How long each cycle of states is, one after the other.
+    cycles: &'static [u8],
+    bridges: &'static [Bridge],
+    /// How many asks of a hundred are of one individual.
+    of_one: usize,
 }
-
-/// Where each cycle of states begins, and how long it is.
-const CYCLES: [(u8, u8); 4] = [(0, 3), (3, 4), (7, 4), (11, 5)];
 
 /// The steps of a bridge, each from a state to a state: with (s, t) down and (u, v) up the mark (t, u) leads to (s, v).
 struct Bridge {
@@ -254,8 +231,68 @@ struct Bridge {
     up: &'static [(u8, u8)],
 }
 
-/// Found by trying.
-const BRIDGES: [Bridge; 2] = [
-    Bridge { down: &[(3, 3), (7, 7), (14, 14)], up: &[(0, 9), (5, 0), (9, 11)] },
-    Bridge { down: &[(1, 9), (5, 7), (7, 8), (8, 10), (9, 5), (9, 14), (14, 1)], up: &[(5, 5), (12, 4)] },
-];
+/// The most rounds that we could make a file need. The children by a ring of roles promise one another, and under one
+/// wider role every state goes straight down and straight up: a mark (t, u) goes round the ring, one child a round. One
+/// role of the ring turns the states in cycles instead, so that the mark comes back as the next of its orbit: that is a
+/// lap. Two bridges start an orbit where another is through: their children have the same marks below them as the ring,
+/// and lead a few of these to another place. All marks of all orbits come, and as good as each lap adds one.
+fn laps(question: &Laps) -> Vec<u8> {
+    let ring = 31 - question.bridges.len() as u8;
+    const STRAIGHT: u8 = 31;
+    let states: u8 = question.cycles.iter().sum();
+    let mut draft = Draft::new(SEED, [64, 32, 255, usize::from(states), 0]);
+    // The neighbour by the role itself and by its inverse.
+    let (down, up) = (|role: u8| 64 + 2 * role, |role: u8| 65 + 2 * role);
+    for role in 0..ring {
+        draft.put(2, vec![2, up(role), down((role + 1) % ring)]);
+        if role > 0 {
+            draft.put(4, vec![4, 2 * role, 2 * STRAIGHT]);
+        }
+    }
+    let mut first = 0;
+    for &length in question.cycles {
+        for place in 0..length {
+            let (state, next) = (first + place, first + (place + 1) % length);
+            draft.put(8, vec![8, state, 2 * STRAIGHT, state]);
+            draft.put(8, vec![8, state, 2 * STRAIGHT + 1, state]);
+            draft.put(8, vec![8, state, 0, next]);
+            draft.put(8, vec![8, next, 1, state]);
+        }
+        first += length;
+    }
+    for (role, bridge) in (ring..).zip(question.bridges) {
+        draft.put(2, vec![2, up(role), down(0)]);
+        draft.put(2, vec![2, up(ring - 1), down(role)]);
+        for &(from, to) in bridge.down {
+            draft.put(8, vec![8, from, 2 * role, to]);
+        }
+        for &(from, to) in bridge.up {
+            draft.put(8, vec![8, from, 2 * role + 1, to]);
+        }
+    }
+    draft.put(10, vec![10, states - 1]);
+    filled(draft, ring, question.of_one)
+}
+
+/// Sixteen states; found by trying.
+const LAPS: Laps = Laps {
+    cycles: &[3, 4, 4, 5],
+    bridges: &[
+        Bridge { down: &[(3, 3), (7, 7), (14, 14)], up: &[(0, 9), (5, 0), (9, 11)] },
+        Bridge { down: &[(1, 9), (5, 7), (7, 8), (8, 10), (9, 5), (9, 14), (14, 1)], up: &[(5, 5), (12, 4)] },
+    ],
+    of_one: 0,
+};
+
+/// Thirty-two; found by trying too.
+const WIDE_LAPS: Laps = Laps {
+    cycles: &[3, 5, 9, 7, 8],
+    bridges: &[
+        Bridge {
+            down: &[(0, 2), (2, 8), (3, 1), (13, 4), (17, 14), (25, 18), (31, 26)],
+            up: &[(0, 1), (6, 7), (8, 16), (16, 29), (22, 21), (30, 29)],
+        },
+        Bridge { down: &[(1, 27)], up: &[(6, 2), (10, 6), (22, 16), (25, 22)] },
+    ],
+    of_one: 50,
+};

@@ -1,27 +1,27 @@
 //! Firsts that lead to each other are answered together: a walk on from one of them, and a walk back to it.
 
-use crate::bits::Relation;
+use crate::bits::{Relation, States};
 use crate::walk::{turned, Map, Reached};
 
 /// So many walks in a row may tell of nobody but their own first.
 const MISSES: usize = 2;
 
-pub struct Parts<'a> {
-    map: &'a Map,
+pub struct Parts<'a, S: States> {
+    map: &'a Map<S>,
     start: u8,
     /// For each relation, all states that it leads to.
-    ends: Vec<u16>,
+    ends: Vec<S>,
     /// For each first that was told, the number of what it reaches.
     told: [Option<u16>; 256],
-    reached: Vec<Reached>,
+    reached: Vec<Reached<S>>,
 }
 
-impl Parts<'_> {
-    pub fn new(map: &Map, start: u8) -> Parts<'_> {
+impl<S: States> Parts<'_, S> {
+    pub fn new(map: &Map<S>, start: u8) -> Parts<'_, S> {
         Parts { map, start, ends: Vec::new(), told: [None; 256], reached: Vec::new() }
     }
 
-    pub fn reached(&self, first: u8) -> Option<&Reached> {
+    pub fn reached(&self, first: u8) -> Option<&Reached<S>> {
         self.told[usize::from(first)].map(|number| &self.reached[usize::from(number)])
     }
 
@@ -36,9 +36,10 @@ impl Parts<'_> {
             }
             let (ahead, taken) = self.ahead(first);
             let back = self.leading_back(first, &ahead);
-            let bit = 1 << (self.start & 15);
+            let start = usize::from(self.start);
+            let both = |other: &usize| (ahead[*other] & back[*other]).has(start);
             let mut told = 0;
-            for other in (0..self.map.individuals()).filter(|other| ahead[*other] & back[*other] & bit != 0) {
+            for other in (0..self.map.individuals()).filter(both) {
                 self.told[other] = Some(self.reached.len() as u16);
                 told += usize::from(left[other]);
                 left[other] = false;
@@ -53,32 +54,32 @@ impl Parts<'_> {
 
     /// What this first reaches, and whether it reaches one that was told before, and so all that one does.
     #[inline(never)]
-    fn ahead(&self, first: usize) -> (Reached, bool) {
-        let (mut reached, mut behind) = ([0u16; 256], [0u16; 256]);
+    fn ahead(&self, first: usize) -> (Reached<S>, bool) {
+        let (mut reached, mut behind) = ([S::NONE; 256], [S::NONE; 256]);
         let mut waiting = Vec::with_capacity(256);
         let mut taken = false;
-        let start = 1u16 << (self.start & 15);
+        let start = S::one(usize::from(self.start));
         (reached[first], behind[first]) = (start, start);
         waiting.push(first as u8);
         while let Some(here) = waiting.pop() {
             let here = usize::from(here);
-            let mut from = std::mem::take(&mut behind[here]);
-            if from & start != 0 {
+            let mut from = std::mem::replace(&mut behind[here], S::NONE);
+            if from & start != S::NONE {
                 if let Some(number) = self.told[here] {
                     let more = &self.reached[usize::from(number)];
-                    reached.iter_mut().zip(more).for_each(|(all, more)| *all |= more);
+                    reached.iter_mut().zip(more).for_each(|(all, more)| *all |= *more);
                     taken = true;
                     from &= !start;
                 }
             }
-            let lanes = lanes(from);
+            let lanes = lanes::<S>(from);
             for (there, relation) in self.map.numbered(here) {
-                if self.ends[relation] & !reached[there] == 0 {
+                if self.ends[relation] & !reached[there] == S::NONE {
                     continue;
                 }
                 let new = image(&self.map.relations()[relation], &lanes) & !reached[there];
-                if new != 0 {
-                    if behind[there] == 0 {
+                if new != S::NONE {
+                    if behind[there] == S::NONE {
                         waiting.push(there as u8);
                     }
                     reached[there] |= new;
@@ -91,22 +92,23 @@ impl Parts<'_> {
 
     /// Of these nodes the ones that lead to the first in its start state.
     #[inline(never)]
-    fn leading_back(&self, first: usize, within: &Reached) -> Reached {
-        let (mut back, mut behind) = ([0u16; 256], [0u16; 256]);
+    fn leading_back(&self, first: usize, within: &Reached<S>) -> Reached<S> {
+        let (mut back, mut behind) = ([S::NONE; 256], [S::NONE; 256]);
         let mut waiting = Vec::with_capacity(256);
-        (back[first], behind[first]) = (1 << (self.start & 15), 1 << (self.start & 15));
+        let start = S::one(usize::from(self.start));
+        (back[first], behind[first]) = (start, start);
         waiting.push(first as u8);
         while let Some(here) = waiting.pop() {
             let here = usize::from(here);
-            let ends = std::mem::take(&mut behind[here]);
+            let ends = std::mem::replace(&mut behind[here], S::NONE);
             for (there, relation) in self.map.numbered(here) {
                 let missing = within[there] & !back[there];
-                if missing == 0 {
+                if missing == S::NONE {
                     continue;
                 }
-                let new = leading_to(&self.map.relations()[turned(relation)], ends) & missing;
-                if new != 0 {
-                    if behind[there] == 0 {
+                let new = self.map.relations()[turned(relation)].leading_to(ends) & missing;
+                if new != S::NONE {
+                    if behind[there] == S::NONE {
                         waiting.push(there as u8);
                     }
                     back[there] |= new;
@@ -120,19 +122,16 @@ impl Parts<'_> {
 
 /// All ones for each state of a set.
 #[inline(always)]
-fn lanes(states: u16) -> [u16; 16] {
-    std::array::from_fn(|state| if states & 1 << state != 0 { u16::MAX } else { 0 })
+fn lanes<S: States>(states: S) -> S::Rows {
+    let mut lanes = S::NO_ROWS;
+    for (state, lane) in lanes.as_mut().iter_mut().enumerate() {
+        *lane = if states.has(state) { S::ALL } else { S::NONE };
+    }
+    lanes
 }
 
 /// What the relation leads to from the states with all ones.
 #[inline(always)]
-fn image(relation: &Relation, lanes: &[u16; 16]) -> u16 {
-    relation.0.iter().zip(lanes).fold(0, |all, (row, lane)| all | row & lane)
-}
-
-/// The states from which the relation leads to one of these.
-#[inline(always)]
-fn leading_to(relation: &Relation, ends: u16) -> u16 {
-    let rows = relation.0.iter().enumerate();
-    rows.fold(0, |all, (state, row)| all | if row & ends != 0 { 1 << state } else { 0 })
+fn image<S: States>(relation: &Relation<S>, lanes: &S::Rows) -> S {
+    relation.rows().iter().zip(lanes.as_ref()).fold(S::NONE, |all, (row, lane)| all | *row & *lane)
 }

@@ -1,10 +1,15 @@
 //! The reader: one pass over the input, eight characters at a time, each record put at once where it is used.
 
-use crate::bits::Relation;
+use crate::bits::{Relation, States};
 use crate::expression;
 
-/// No line beyond the 7,187th is reached, and a line is decided by its first 65 characters.
-pub const MOST_READ: usize = 7_187 * 65;
+/// No line beyond the 7,715th is reached, and a line is decided by its first 65 characters, or by its first 131 where it
+/// begins with 0D; no more than two of these are reached.
+pub const MOST_READ: usize = 7_715 * 65 + 2 * 66;
+
+/// A file of more states than this is worked in thirty-two bits, and no file has more than those.
+pub const NARROW: u8 = u16::MOST as u8;
+const MOST_STATES: u8 = u32::MOST as u8;
 
 #[derive(Clone, Copy, Debug, PartialEq, Eq)]
 pub struct Fault {
@@ -23,7 +28,7 @@ pub struct Fact {
     pub second: u8,
 }
 
-/// A whole file. Rows are direct here; nothing is closed yet.
+/// A whole file but its question. Rows are direct here; nothing is closed yet.
 pub struct File {
     pub names: u8,
     /// Twice the declared roles.
@@ -44,13 +49,9 @@ pub struct File {
     /// How many role facts each individual is in.
     pub degrees: [u16; 256],
     pub facts: Vec<Fact>,
-    /// For each signed role and each name, the steps on just it.
-    pub role_steps: [Relation; 64],
-    pub test_steps: [Relation; 64],
-    pub finals: u16,
     /// Two individuals, or one and `ANY`.
     pub asks: Vec<(u8, u8)>,
-    allowance: Option<u16>,
+    allowance: Option<u32>,
     /// Whether there is any exclusion of roles.
     pub excludes_roles: bool,
 }
@@ -71,9 +72,6 @@ impl File {
             typed_roles: [0; 256],
             degrees: [0; 256],
             facts: Vec::new(),
-            role_steps: [Relation::EMPTY; 64],
-            test_steps: [Relation::EMPTY; 64],
-            finals: 0,
             asks: Vec::new(),
             allowance: None,
             excludes_roles: false,
@@ -81,15 +79,29 @@ impl File {
     }
 
     /// Without a frame 0C as many rounds as can be needed: concepts × states × (states − 1).
-    pub fn allowance(&self) -> u16 {
-        let states = u16::from(self.states);
-        let most = (u16::from(self.names) + u16::from(self.signed)) * states * (states - 1);
+    pub fn allowance(&self) -> u32 {
+        let states = u32::from(self.states);
+        let most = (u32::from(self.names) + u32::from(self.signed)) * states * (states - 1);
         self.allowance.unwrap_or(most)
     }
 
     #[inline(always)]
     fn has_concept(&self, number: u8) -> bool {
         number < self.names || number.wrapping_sub(64) < self.signed
+    }
+}
+
+/// The question: its steps and its final states.
+pub struct Question<S: States> {
+    /// For each signed role and each name, the steps on just it.
+    pub role_steps: [Relation<S>; 64],
+    pub test_steps: [Relation<S>; 64],
+    pub finals: S,
+}
+
+impl<S: States> Question<S> {
+    pub fn empty() -> Question<S> {
+        Question { role_steps: [Relation::EMPTY; 64], test_steps: [Relation::EMPTY; 64], finals: S::NONE }
     }
 }
 
@@ -119,7 +131,7 @@ fn word(input: &[u8], at: usize) -> u64 {
     u64::from_le_bytes(input[at..at + 8].try_into().expect("eight characters"))
 }
 
-/// The characters of a line by its kind, without a deed number; 0 where there is no such kind after the first line.
+/// The characters of a line by its kind, without a deed number and with an allowance of two bytes; 0 where there is no such kind after the first line.
 const LENGTHS: [u8; 256] = {
     let mut lengths = [0; 256];
     let mut kind = 2;
@@ -135,14 +147,14 @@ const LENGTHS: [u8; 256] = {
     lengths
 };
 
-/// The characters of a deed number, which may end a fact. It is looked at for its digits only: no answer depends on it.
-const DEED: usize = 4;
+/// The characters of two more bytes, which may end a fact or an allowance. A deed number is looked at for its digits only: no answer depends on it.
+const MORE: usize = 4;
 
-/// Behind a deed number that stands there; the same place where none does.
+/// Behind two more bytes that stand there; the same place where none do.
 #[inline(always)]
-fn behind_deed(input: &[u8], at: usize) -> usize {
-    if no_digit(word(input, at)) << (64 - 8 * DEED) == 0 {
-        at + DEED
+fn behind_more(input: &[u8], at: usize) -> usize {
+    if no_digit(word(input, at)) << (64 - 8 * MORE) == 0 {
+        at + MORE
     } else {
         at
     }
@@ -151,9 +163,9 @@ fn behind_deed(input: &[u8], at: usize) -> usize {
 /// Room for reading eight characters at once behind the last line, and the end that line may lack.
 pub const BEHIND: usize = 16;
 
-/// Reads into an empty file.
+/// Reads line 1 into an empty file, and gives the input's end, where the input has room behind it from now on.
 #[inline(never)]
-pub fn read(mut input: Vec<u8>, file: &mut File) -> Result<(), Fault> {
+pub fn begin(input: &mut Vec<u8>, file: &mut File) -> Result<usize, Fault> {
     if input.is_empty() {
         return Err(Fault { line: 1, number: 11 });
     }
@@ -163,9 +175,28 @@ pub fn read(mut input: Vec<u8>, file: &mut File) -> Result<(), Fault> {
     }
     let end = input.len();
     input.resize(end + BEHIND, 0);
-    first_line(&input, end, file).map_err(|number| Fault { line: 1, number })?;
+    first_line(input, end, file).map_err(|number| Fault { line: 1, number })?;
+    Ok(end)
+}
+
+/// Reads all other lines.
+#[inline(never)]
+pub fn go_on<S: States>(
+    input: &[u8],
+    end: usize,
+    file: &mut File,
+    question: &mut Question<S>,
+) -> Result<(), Fault> {
     let mut line = 1;
-    other_lines(&input, end, file, &mut line).map_err(|number| Fault { line, number })
+    other_lines(input, end, file, question, &mut line).map_err(|number| Fault { line, number })
+}
+
+/// A whole file, of any number of states.
+pub fn read(mut input: Vec<u8>) -> Result<(File, Question<u32>), Fault> {
+    let (mut file, mut question) = (File::empty(), Question::empty());
+    let end = begin(&mut input, &mut file)?;
+    go_on(&input, end, &mut file, &mut question)?;
+    Ok((file, question))
 }
 
 fn first_line(input: &[u8], end: usize, file: &mut File) -> Result<(), u8> {
@@ -183,11 +214,20 @@ fn first_line(input: &[u8], end: usize, file: &mut File) -> Result<(), u8> {
     if file.names > 64 || roles > 32 {
         return Err(4);
     }
-    if file.states == 0 || file.states > 16 || file.start >= file.states {
+    if file.states == 0 || file.states > MOST_STATES || file.start >= file.states {
         return Err(4);
     }
     file.signed = 2 * roles;
     Ok(())
+}
+
+/// How many characters a line may have, by how it begins.
+fn most_characters(line: &[u8]) -> usize {
+    if line.starts_with(b"0D") {
+        130
+    } else {
+        64
+    }
 }
 
 /// What is wrong with a line that is no frame of its place: 9, 10, then 11. These bytes begin with the line.
@@ -196,7 +236,8 @@ fn first_line(input: &[u8], end: usize, file: &mut File) -> Result<(), u8> {
 fn broken_line(from_here: &[u8]) -> u8 {
     let line = from_here.split(|byte| *byte == b'\n').next().expect("a line");
     let digit = |byte: &u8| matches!(byte, b'0'..=b'9' | b'A'..=b'F');
-    if line.is_empty() || line.len() > 64 || line.len() % 2 == 1 || !line.iter().all(digit) {
+    if line.is_empty() || line.len() > most_characters(line) || line.len() % 2 == 1 || !line.iter().all(digit)
+    {
         return 9;
     }
     let wanted = match line[..2] {
@@ -208,8 +249,8 @@ fn broken_line(from_here: &[u8]) -> u8 {
         [b'0', low @ b'A'..=b'E'] => LENGTHS[usize::from(low - b'A' + 10)],
         _ => 0,
     };
-    let by_a_deed = matches!(line[..2], [b'0', b'6' | b'7']) && line.len() == usize::from(wanted) + DEED;
-    if line.len() == usize::from(wanted) || by_a_deed {
+    let by_more = matches!(line[..2], [b'0', b'6' | b'7' | b'C']) && line.len() == usize::from(wanted) + MORE;
+    if line.len() == usize::from(wanted) || by_more {
         11
     } else {
         10
@@ -220,14 +261,20 @@ fn broken_line(from_here: &[u8]) -> u8 {
 fn marks(from_here: &[u8]) -> Option<Vec<u8>> {
     let line = from_here.split(|byte| *byte == b'\n').next()?;
     let digit = |byte: &u8| matches!(byte, b'0'..=b'9' | b'A'..=b'F');
-    let whole = line.len() <= 64 && line.len() % 2 == 0 && line.iter().all(digit);
+    let whole = line.len() <= most_characters(line) && line.len() % 2 == 0 && line.iter().all(digit);
     let value = |byte: u8| (byte & 15) + 9 * (byte >> 6);
     let bytes = |line: &[u8]| line.chunks(2).map(|pair| value(pair[0]) << 4 | value(pair[1])).collect();
     whole.then(|| bytes(line.get(2..).unwrap_or_default()))
 }
 
 #[inline(never)]
-fn other_lines(input: &[u8], end: usize, file: &mut File, line: &mut u16) -> Result<(), u8> {
+fn other_lines<S: States>(
+    input: &[u8],
+    end: usize,
+    file: &mut File,
+    question: &mut Question<S>,
+    line: &mut u16,
+) -> Result<(), u8> {
     let mut rules = 0;
     let mut exclusions = 0;
     let mut role_rules = 0;
@@ -248,7 +295,7 @@ fn other_lines(input: &[u8], end: usize, file: &mut File, line: &mut u16) -> Res
             if expressed || steps + finals > 0 {
                 return Err(11);
             }
-            expression::put(&marks, file)?;
+            expression::put(&marks, file, question)?;
             expressed = true;
             at += 2 * marks.len() + 3;
             continue;
@@ -258,12 +305,13 @@ fn other_lines(input: &[u8], end: usize, file: &mut File, line: &mut u16) -> Res
             return Err(broken_line(&input[at..end]));
         }
         let mut behind = at + length;
-        if matches!(kind, 6 | 7) && input[behind] != b'\n' {
-            behind = behind_deed(input, behind);
+        if matches!(kind, 6 | 7 | 12) && input[behind] != b'\n' {
+            behind = behind_more(input, behind);
         }
         if input[behind] != b'\n' {
             return Err(broken_line(&input[at..end]));
         }
+        let begin = at;
         at = behind + 1;
         match kind {
             2 => {
@@ -310,16 +358,16 @@ fn other_lines(input: &[u8], end: usize, file: &mut File, line: &mut u16) -> Res
             }
             8..=10 if expressed => return Err(11),
             8 => {
-                put(&mut steps, 512, x < states && y < signed && z < states)?;
-                file.role_steps[usize::from(y & 63)].add(x, z);
+                put(&mut steps, 1_024, x < states && y < signed && z < states)?;
+                question.role_steps[usize::from(y & 63)].add(x, z);
             }
             9 => {
-                put(&mut steps, 512, x < states && y < names && z < states)?;
-                file.test_steps[usize::from(y & 63)].add(x, z);
+                put(&mut steps, 1_024, x < states && y < names && z < states)?;
+                question.test_steps[usize::from(y & 63)].add(x, z);
             }
             10 => {
-                put(&mut finals, 16, x < states)?;
-                file.finals |= 1 << (x & 15);
+                put(&mut finals, 32, x < states)?;
+                question.finals |= S::one(usize::from(x));
             }
             11 | 14 => {
                 if file.asks.len() == 256 {
@@ -334,7 +382,11 @@ fn other_lines(input: &[u8], end: usize, file: &mut File, line: &mut u16) -> Res
                 if file.allowance.is_some() {
                     return Err(11);
                 }
-                file.allowance = Some(u16::from_be_bytes([x, y]));
+                file.allowance = Some(if behind == begin + length {
+                    u32::from(u16::from_be_bytes([x, y]))
+                } else {
+                    u32::from_be_bytes([x, y, z, self::bytes(word(input, begin + 8)) as u8])
+                });
             }
         }
     }

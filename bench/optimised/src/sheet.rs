@@ -1,57 +1,58 @@
 //! The loop sheet, round by round: each works out only what the marks of the one before it can add.
 
-use crate::bits::{Places, Relation};
+use crate::bits::{Places, Relation, States};
 use crate::order::{all_roles, neighbour, Orders};
-use crate::read::File;
+use crate::read::{File, Question};
 
-pub struct Sheet {
+pub struct Sheet<S: States> {
     /// The marks of each concept that is the lowest of its kind.
-    pub loops: [Relation; 128],
-    pub rounds: u16,
+    pub loops: [Relation<S>; 128],
+    pub rounds: u32,
     /// One more round would have added marks, and the allowance is spent.
     pub spent: bool,
 }
 
 /// For each signed role, the role steps along an edge which was made by it.
 #[inline(never)]
-pub fn along(file: &File, orders: &Orders) -> [Relation; 64] {
+pub fn along<S: States>(file: &File, question: &Question<S>, orders: &Orders) -> [Relation<S>; 64] {
     let mut stepped = 0u64;
-    for (role, steps) in file.role_steps.iter().enumerate() {
+    for (role, steps) in question.role_steps.iter().enumerate() {
         stepped |= u64::from(!steps.is_empty()) << role;
     }
     let mut along = [Relation::EMPTY; 64];
     for role in Places(all_roles(file)) {
         for upper in Places(orders.roles[role] & stepped) {
-            along[role].join(&file.role_steps[upper & 63]);
+            along[role].join(&question.role_steps[upper & 63]);
         }
     }
     along
 }
 
-struct Closing<'a> {
-    along: &'a [Relation; 64],
+struct Closing<'a, S: States> {
+    along: &'a [Relation<S>; 64],
     /// For each signed role R, the concepts (lowest of their kind) B with B ≤ ∃R.
     below: [u128; 64],
     /// For each concept, the signed roles R (lowest of their kind) for which it is ∃(inverse of R).
     coming: [u64; 128],
-    loops: [Relation; 128],
+    loops: [Relation<S>; 128],
     /// Down by the role, a loop below, and up again: what was worked out so far.
-    excursions: [Relation; 64],
+    excursions: [Relation<S>; 64],
     /// What the marks of the last round add, and for which concepts.
-    found: [Relation; 128],
+    found: [Relation<S>; 128],
     touched: u128,
 }
 
 /// Each round worked is told, with the marks that it added.
 #[inline(never)]
-pub fn close(
+pub fn close<S: States>(
     file: &File,
+    question: &Question<S>,
     orders: &Orders,
-    along: &[Relation; 64],
-    allowance: u16,
-    mut told: impl FnMut(u16, u16),
-) -> Sheet {
-    let mut closing = Closing::round_zero(file, orders, along);
+    along: &[Relation<S>; 64],
+    mut told: impl FnMut(u32, u32),
+) -> Sheet<S> {
+    let allowance = file.allowance();
+    let mut closing = Closing::round_zero(file, question, orders, along);
     let mut added = [Relation::EMPTY; 128];
     let mut rounds = 0;
     let spent = loop {
@@ -64,16 +65,21 @@ pub fn close(
         }
         rounds += 1;
         // What was added for a concept was added for all that are equal to it.
-        let marks = |concept: usize| added[concept & 127].count() * u16::from(orders.kin[concept & 127]);
+        let marks = |concept: usize| added[concept & 127].count() * u32::from(orders.kin[concept & 127]);
         told(rounds, Places(changed).map(marks).sum());
         closing.round(changed, &added);
     };
     Sheet { loops: closing.loops, rounds, spent }
 }
 
-impl Closing<'_> {
+impl<S: States> Closing<'_, S> {
     /// Round 0, and what it adds: all tests, and the excursions that turn at once.
-    fn round_zero<'a>(file: &File, orders: &'a Orders, along: &'a [Relation; 64]) -> Closing<'a> {
+    fn round_zero<'a>(
+        file: &File,
+        question: &Question<S>,
+        orders: &'a Orders,
+        along: &'a [Relation<S>; 64],
+    ) -> Closing<'a, S> {
         let mut closing = Closing {
             along,
             below: [0; 64],
@@ -88,14 +94,14 @@ impl Closing<'_> {
             standing.add(state, state);
         }
         let mut tested = 0u64;
-        for (name, steps) in file.test_steps.iter().enumerate() {
+        for (name, steps) in question.test_steps.iter().enumerate() {
             tested |= u64::from(!steps.is_empty()) << name;
         }
         for concept in Places(orders.lowest) {
             closing.loops[concept] = standing;
             let row = orders.concepts[concept];
             for name in Places(row as u64 & tested) {
-                closing.found[concept].join(&file.test_steps[name & 63]);
+                closing.found[concept].join(&question.test_steps[name & 63]);
             }
             for role in Places((row >> 64) as u64 & orders.lowest_roles) {
                 closing.below[role & 63] |= 1 << concept;
@@ -110,7 +116,7 @@ impl Closing<'_> {
     }
 
     /// Down by the role, one of these loops, and up again; for every concept that has the child.
-    fn excursion(&mut self, role: usize, loops: &Relation) {
+    fn excursion(&mut self, role: usize, loops: &Relation<S>) {
         let (down, up) = (&self.along[role & 63], &self.along[(role ^ 1) & 63]);
         let mut to_bottom = Relation::EMPTY;
         to_bottom.join_product(down, loops);
@@ -129,7 +135,7 @@ impl Closing<'_> {
     }
 
     /// What was found and did not stand yet, and the concepts where there is any.
-    fn take_found(&mut self, added: &mut [Relation; 128]) -> u128 {
+    fn take_found(&mut self, added: &mut [Relation<S>; 128]) -> u128 {
         let mut changed = 0;
         for concept in Places(self.touched) {
             let new = self.found[concept & 127].without(&self.loops[concept & 127]);
@@ -144,7 +150,7 @@ impl Closing<'_> {
     }
 
     /// The added marks stand from now on; what they lead to is found, for the round after.
-    fn round(&mut self, changed: u128, added: &[Relation; 128]) {
+    fn round(&mut self, changed: u128, added: &[Relation<S>; 128]) {
         self.touched = changed;
         for concept in Places(changed) {
             let new = &added[concept & 127];
@@ -154,7 +160,7 @@ impl Closing<'_> {
             let mut found = Relation::EMPTY;
             found.join_product(new, &loops);
             for middle in Places(new.starts()) {
-                found.lead_on(&loops, middle, new.0[middle & 15]);
+                found.lead_on(&loops, middle, new.row(middle));
             }
             self.found[concept & 127].join(&found);
             for role in Places(self.coming[concept & 127]) {
@@ -164,9 +170,9 @@ impl Closing<'_> {
     }
 }
 
-impl Sheet {
+impl<S: States> Sheet<S> {
     #[inline(always)]
-    pub fn of_concept(&self, orders: &Orders, concept: usize) -> &Relation {
+    pub fn of_concept(&self, orders: &Orders, concept: usize) -> &Relation<S> {
         &self.loops[usize::from(orders.same[concept & 127] & 127)]
     }
 }

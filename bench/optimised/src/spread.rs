@@ -11,6 +11,7 @@ struct Size {
     names: usize,
     roles: usize,
     individuals: usize,
+    least_states: usize,
     states: usize,
     rules: usize,
     role_rules: usize,
@@ -26,6 +27,7 @@ const LARGE: Size = Size {
     names: 64,
     roles: 32,
     individuals: 255,
+    least_states: 8,
     states: 16,
     rules: 320,
     role_rules: 64,
@@ -41,6 +43,7 @@ const SMALL: Size = Size {
     names: 12,
     roles: 6,
     individuals: 24,
+    least_states: 4,
     states: 8,
     rules: 24,
     role_rules: 6,
@@ -52,6 +55,11 @@ const SMALL: Size = Size {
     lines: 150,
 };
 
+/// Files of more than sixteen states are thrown like the others, and have as many steps for each state.
+const WIDE_LARGE: Size = Size { least_states: 17, states: 32, steps: 768, ..LARGE };
+
+const WIDE_SMALL: Size = Size { least_states: 17, states: 32, steps: 128, ..SMALL };
+
 /// What is thrown beside the tables has dice of these numbers.
 const SHAPE: u8 = 200;
 const ORDER: u8 = 201;
@@ -62,6 +70,8 @@ pub fn make(kind: &str, size: &str, seed: u64) -> Option<Vec<u8>> {
     let size = match size {
         "large" => LARGE,
         "small" => SMALL,
+        "wide-large" => WIDE_LARGE,
+        "wide-small" => WIDE_SMALL,
         _ => return None,
     };
     KINDS.contains(&kind).then(|| Thrown::new(kind, size, seed).text())
@@ -87,7 +97,7 @@ impl Thrown<'_> {
             "many-roles" => size.roles,
             _ => dice.between(size.roles / 2, size.roles),
         };
-        size.states = dice.between(size.states / 2, size.states);
+        size.states = dice.between(size.least_states, size.states);
         // From questions of a step or two for each state to full ones.
         size.steps = dice.pick(&[2 * size.states, size.steps / 4, size.steps]);
         size.asks = dice.between(size.asks / 2, size.asks);
@@ -243,12 +253,13 @@ fn shuffled(dice: &mut Dice, individuals: usize) -> Vec<u8> {
     order
 }
 
-/// An expression with so many role and test marks, which fits on a line.
+/// An expression with so many role and test marks, which fits on a line: of 31 marks, and of 64 where it has more than 15
+/// role and test marks.
 fn expression(dice: &mut Dice, letters: &[u8], marks: usize) -> Vec<u8> {
     loop {
         let mut row = Vec::new();
         either(dice, letters, marks, 3, &mut row);
-        if row.len() <= 31 {
+        if row.len() <= if marks <= 15 { 31 } else { 64 } {
             return row;
         }
     }

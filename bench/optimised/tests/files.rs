@@ -15,9 +15,13 @@ fn answers(kind: &str, size: Option<usize>) -> (BTreeMap<String, usize>, usize) 
     let mut rounds = 0;
     let told = output.lines().take_while(|line| line.starts_with("8A")).count();
     for line in output.lines().skip(told) {
-        assert_eq!(&line[..2], "8B", "{kind}: {line}");
-        *numbers.entry(line[6..8].to_string()).or_default() += 1;
-        rounds = usize::from_str_radix(&line[8..], 16).expect("a count");
+        let number = match &line[..2] {
+            "8B" => 6,
+            "8E" => 4,
+            _ => panic!("{kind}: {line}"),
+        };
+        *numbers.entry(line[number..number + 2].to_string()).or_default() += 1;
+        rounds = usize::from_str_radix(&line[number + 2..], 16).expect("a count");
         assert_eq!(told, rounds, "{kind}: {line}");
     }
     (numbers, rounds)
@@ -64,9 +68,32 @@ fn the_laps_need_3271_rounds_without_a_given_allowance() {
     assert_eq!(lines("laps"), 7_185);
 }
 
+/// How many asks of a pair a file has, and how many of one individual.
+fn asks(kind: &str) -> [usize; 2] {
+    let file = String::from_utf8(make(kind, None).expect("a kind")).expect("text");
+    ["0B", "0E"].map(|ask| file.lines().filter(|line| line.starts_with(ask)).count())
+}
+
+#[test]
+fn the_wide_files_have_32_states_full_tables_and_asks_of_both_kinds() {
+    for (kind, least) in [("wide", 5), ("wide-laps", WIDE_LAPS)] {
+        let (numbers, rounds) = answers(kind, None);
+        assert_eq!((numbers.len(), rounds), (2, least), "{kind}");
+        assert!(numbers.keys().all(|number| number == "00" || number == "01"), "{kind}: {numbers:?}");
+        let [pairs, ones] = asks(kind);
+        assert!(pairs + ones == 256 && pairs > 64 && ones > 64, "{kind}: {pairs}, {ones}");
+        // Every table at its most, 256 asks and line 1; no allowance, which is 128 × 32 × 31.
+        assert_eq!(lines(kind), 7_713, "{kind}");
+        assert_eq!(&make(kind, None).expect("a kind")[8..10], b"20", "{kind}");
+    }
+}
+
+/// So many rounds the file of laps with 32 states needs.
+const WIDE_LAPS: usize = 12_473;
+
 #[test]
 fn the_series_are_answered_and_end_where_a_table_ends() {
-    for (kind, least, most) in [("facts", 0, 4_096), ("rules", 0, 512), ("states", 1, 16), ("asks", 1, 256)] {
+    for (kind, least, most) in [("facts", 0, 4_096), ("rules", 0, 512), ("states", 1, 32), ("asks", 1, 256)] {
         for size in [least, most / 2, most] {
             let (numbers, _) = answers(kind, Some(size));
             assert!(
@@ -92,11 +119,13 @@ fn the_plot_has_a_panel_for_each_series_and_a_line_for_each_program() {
 
 #[test]
 fn the_spread_is_sound_and_of_its_size() {
-    for (size, most) in [("large", 5_001), ("small", 151)] {
+    for (size, most) in [("large", 5_001), ("small", 151), ("wide-large", 5_001), ("wide-small", 151)] {
         for (kind, seed) in spread::KINDS.into_iter().flat_map(|kind| [(kind, 1), (kind, 2)]) {
             let file = spread::make(kind, size, seed).expect("a kind and a size");
             let lines = file.split(|byte| *byte == b'\n').count() - 1;
             assert!((most * 4 / 5..=most).contains(&lines), "{kind} {size} {seed}: {lines} lines");
+            let states = u8::from_str_radix(std::str::from_utf8(&file[8..10]).expect("text"), 16);
+            assert_eq!(states.expect("a number") > 16, size.starts_with("wide"), "{kind} {size} {seed}");
             let output = String::from_utf8(desk(file)).expect("text");
             let numbers = output.lines().filter_map(|line| match &line[..2] {
                 "8B" => Some(&line[6..8]),

@@ -126,9 +126,86 @@ fn asks_of_one_individual() {
 }
 
 #[test]
+fn counts_are_wide_where_more_than_16_states_are_declared() {
+    let wide = |states: &str| B.replace("010202020400", &format!("01020202{states}00"));
+    let narrow = "8A00010002\n8A00020002\n8B0000010002\n8E00010002\n";
+    assert_eq!(output(&format!("{} 0B0000 0E00", wide("10"))), narrow);
+    for states in ["11", "20"] {
+        let whole = "8A0000000100000002\n8A0000000200000002\n8B00000100000002\n8E000100000002\n";
+        assert_eq!(output(&format!("{} 0B0000 0E00", wide(states))), whole);
+        let spent = "8A0000000100000002\n8B00000300000001\n8E000300000001\n";
+        assert_eq!(output(&format!("{} 0C0001 0B0000 0E00", wide(states))), spent);
+        let against = "8B00000200000000\n8E000200000000\n";
+        assert_eq!(output(&format!("{} 030141 0B0000 0E00", wide(states))), against);
+        // A fault has no count.
+        assert_eq!(output(&format!("{} 0B0002", wide(states))), "8F000908\n");
+    }
+    assert_eq!(output(&format!("{} 0B0000", wide("21"))), "8F000104\n");
+    assert_eq!(output("010202022020"), "8F000104\n");
+    assert_eq!(output("01020202201F 0A1F 0E01"), "8E010100000000\n");
+}
+
+/// Base collection B with its states numbered otherwise, the start among them.
+fn renumbered(states: [u8; 4]) -> String {
+    let [start, owned, signed, last] = states;
+    let steps = format!("08{start:02X}00{owned:02X} 09{owned:02X}01{signed:02X} 08{signed:02X}01{last:02X}");
+    let (rules, _) = B.split_once(" 08").expect("steps");
+    format!("{} {steps} 0A{last:02X}", rules.replace("010202020400", &format!("0102020220{start:02X}")))
+}
+
+#[test]
+fn states_are_told_apart_by_more_than_their_last_four_bits() {
+    for states in [[0, 16, 1, 17], [31, 15, 30, 14], [3, 19, 0, 16], [28, 29, 30, 31]] {
+        let rounds = "8A0000000100000002\n8A0000000200000002\n";
+        let answers = "8B00000100000002\n8B00010000000002\n8E000100000002\n8E010000000002\n";
+        let asked = format!("{} 0B0000 0B0001 0E00 0E01", renumbered(states));
+        assert_eq!(output(&asked), format!("{rounds}{answers}"), "{states:?}");
+        assert_eq!(marks(lines(&renumbered(states))), Some(32 * 6 + 4), "{states:?}");
+    }
+}
+
+#[test]
+fn allowances_of_two_bytes_and_of_four() {
+    for (allowed, number, rounds) in
+        [("0001", 3, 1), ("00000001", 3, 1), ("0002", 1, 2), ("00000002", 1, 2), ("00010000", 1, 2)]
+    {
+        asked(&format!("{B} 0C{allowed}"), (0, 0), (number, rounds), &[2, 2][..usize::from(rounds)]);
+    }
+    for bytes in [0, 1, 3, 5, 6] {
+        assert_eq!(output(&format!("010202020400 0C{}", "00".repeat(bytes))), "8F00020A\n", "{bytes}");
+    }
+    assert_eq!(output("010202020400 0C00000001 0C0001"), "8F00030B\n");
+    assert_eq!(output("0C00000001"), "8F00010B\n");
+    assert_eq!(String::from_utf8(desk(b"010202020400\n0C00000001".to_vec())).expect("text"), "");
+    assert_eq!(output("010202020400 0C0000000g"), "8F000209\n");
+}
+
+#[test]
+fn expressions_of_31_marks_and_lines_of_130_characters() {
+    // A role mark 31 times over: down from each to the next of 32 individuals.
+    let facts: Vec<String> = (0..31).map(|first| format!("0700{first:02X}{:02X}", first + 1)).collect();
+    let typed = |marks: &str| format!("010001202000 {} 0D{marks} 0B001F 0B001E", facts.join(" "));
+    let answers = "8B001F0100000000\n8B001E0000000000\n";
+    assert_eq!(output(&typed(&"00".repeat(31))), answers);
+    // Each mark in brackets of its own, but the last: 64 marks with one 83 after them.
+    let longest = format!("{}00{}83", "800081".repeat(15), "00".repeat(15));
+    assert!(longest.len() < 128);
+    assert_eq!(output(&typed(&longest)), answers.replace("001E00", "001E01"));
+    assert_eq!(output(&typed(&"00".repeat(32))), "8F00210E\n");
+    assert_eq!(output(&typed(&"00".repeat(64))), "8F00210E\n");
+    assert_eq!(output(&typed(&"83".repeat(64))), "8F00210C\n");
+    assert_eq!(output(&typed(&"00".repeat(65))), "8F002109\n");
+    assert_eq!(output(&format!("010202020400 07{}", "00".repeat(31))), "8F00020A\n");
+    assert_eq!(output(&format!("010202020400 07{}", "00".repeat(32))), "8F000209\n");
+    assert_eq!(output(&format!("0D{}", "00".repeat(64))), "8F00010B\n");
+    assert_eq!(output(&format!("0D{}", "00".repeat(65))), "8F000109\n");
+}
+
+#[test]
 fn case_12_limits() {
     assert_eq!(output("010202FF1000"), "");
-    assert_eq!(output("010202FF1100"), "8F000104\n");
+    assert_eq!(output("010202FF2100"), "8F000104\n");
+    assert_eq!(output("010202FF1100 0600FE 0BFEFE 0A10"), "8BFEFE0000000000\n");
     assert_eq!(output("010202FF1000 0600FE 0BFEFE 0A00"), "8BFEFE010000\n");
     assert_eq!(output("010202FF1000 0600FF"), "8F000206\n");
     assert_eq!(output("010202FF1000 0700FEFF"), "8F000206\n");

@@ -12,7 +12,7 @@ use kinds::{Individual, SignedRole};
 #[derive(Clone, Copy)]
 pub struct PackedEdge(pub u16);
 
-// A packed edge is this many times its role, and its individual beside that: individuals have numbers below it, and so have signed roles.
+// A packed edge is its role times this number, plus its individual. Individuals have smaller numbers, and so have signed roles.
 const RADIX: u16 = 256;
 
 impl PackedEdge {

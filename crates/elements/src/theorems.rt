@@ -17,7 +17,8 @@ pub fn unique()
         → AtMostOneOf (ConceptRows most_individuals)
         (λ rows. Concepts names roles order (concept_marks rows)) }
     ensures one_generating { (concepts order : ℕ → ℕ → Bool)
-        → AtMostOneOf (λ set. set < 2 ^ role_width) (λ set. AreGenerating concepts order (has set)) }
+        → AtMostOneOf (λ set. set < 2 ^ role_width)
+        (λ set. AreGenerating concepts order (has set)) }
     ensures one_gathered { (h : ℕ) (m : ℕ → ℕ → Bool) → AtMostOne (Gathers h m) }
 {}
 

@@ -5,7 +5,7 @@ use Rattle.std.proofs.lemmas.List.{length-drop, get_or-replicate, get_or-set_sam
 use Rattle.std.proofs.lemmas.Nat.Bits.{bit_at-zero}
 use Rattle.std.proofs.Math.Decide.{ℕ_discrete, dec_lt}
 use Rattle.kinds.specs.declared.State.{State}
-use Rattle.kinds.specs.Kinds.{state}
+use Rattle.kinds.specs.Kinds.{most_states, state}
 use Rattle.laws.specs.Member.{◌∈◌}
 use Rattle.meaning.specs.Collection.{Letter, Step, step}
 use Rattle.meaning.specs.Lent.{records, step_width, step_at, final_width, final_at}
@@ -20,7 +20,7 @@ use Rattle.expression.specs.Ends.{ExpressionEnds}
 use Rattle.expression.specs.Depth.{TooDeep}
 use Rattle.expression.specs.Automaton.{IsAutomaton}
 use Rattle.expression.specs.Listed.{Listed, Lists, step_numbers, final_number}
-use Rattle.expression.specs.Listing.{step_of, steps_below, finals_below}
+use Rattle.expression.specs.Listing.{places_from, step_of, steps_below, finals_below}
 use Rattle.expression.specs.Parts.{InRow, Knows, IsFinals}
 use Rattle.expression.specs.Reader.{Reads, Nothing}
 use Rattle.expression.specs.Answer.{IsNoExpression, HasMarks}
@@ -61,10 +61,10 @@ moved p q x = rw (p, q) x
 
 -- no row yet
 abbrev none : List StateSet
-none = replicate 16 no_states
+none = replicate most_states no_states
 
 abbrev unread : List ℕ
-unread = replicate 16 0
+unread = replicate most_states 0
 
 abbrev from-of : Step → State
 from-of (step s l t) = s
@@ -114,19 +114,19 @@ module _ (row : List ℕ) where
       ends-within (nothing h) = omega arith
       ends-within (ending h) = (last-in known.numbered h).high
 
-      nothing-yet : (j k : ℕ) → j < 16 → InRow none j k → ⊥
-      nothing-yet j k h x = let e = get_or-replicate 16 j no_states no_states h in let z = bit_at-zero k in let y = rw e at x in omega arith
+      nothing-yet : (j k : ℕ) → j < most_states → InRow none j k → ⊥
+      nothing-yet j k h x = let e = get_or-replicate most_states j no_states no_states h in let z = bit_at-zero k in let y = rw e at x in omega arith
 
-      module _ (long : 0 < length rows) (few : c < 16) where
+      module _ (long : 0 < length rows) (few : c < most_states) where
         abbrev all : List StateSet
         all = set rows 0 a.first
 
-        row_zero : (k : ℕ) → k < 16 → InRow all 0 k ↔ MayPrecede g.tree 0 k
+        row_zero : (k : ℕ) → k < most_states → InRow all 0 k ↔ MayPrecede g.tree 0 k
         row_zero k h =
             let e = get_or-set_same rows 0 a.first no_states long in
             rw e (λ x. start ((known.first.at k h).0 x), λ x. (known.first.at k h).1 (from_zero x))
 
-        row_other : (j k : ℕ) → 0 < j → j < 16 → k < 16 → InRow all j k ↔ MayPrecede g.tree j k
+        row_other : (j k : ℕ) → 0 < j → j < most_states → k < most_states → InRow all j k ↔ MayPrecede g.tree j k
         row_other j k z h i =
             let e = get_or-set_other rows 0 j a.first no_states (λ q. omega arith) in
             rw e (
@@ -134,68 +134,70 @@ module _ (row : List ℕ) where
               λ x. (known.rows j k h i).1 (inr (from-other x z)),
             )
 
-        in-row : (j k : ℕ) → j < 16 → k < 16 → InRow all j k ↔ MayPrecede g.tree j k
+        in-row : (j k : ℕ) → j < most_states → k < most_states → InRow all j k ↔ MayPrecede g.tree j k
         in-row j k h i = elim (ℕ_discrete j 0) [ yes e ↦ rw e (row_zero k i) | no e ↦ row_other j k (omega arith) h i ]
 
         -- the steps listed
-        step-in : (s : State) (l : Letter) (t : State) → StepsInto g.tree s.0 l t.0 → step s l t ∈ steps_below all letters 256
+        step-in : (s : State) (l : Letter) (t : State) → StepsInto g.tree s.0 l t.0 → step s l t ∈ steps_below all letters (places_from (c + 1))
         step-in s l t x =
             let i = (entered x.before).high in
             let o = left-from x.before in
-            let p = 16 * s.0 + t.0 in
-            let ps : p / 16 ≡ s.0 = omega arith in
-            let pt : p % 16 ≡ t.0 = omega arith in
+            let p = most_states * s.0 + t.0 in
+            let ps : p / most_states ≡ s.0 = omega arith in
+            let pt : p % most_states ≡ t.0 = omega arith in
             let y = (in-row s.0 t.0 (omega arith) (omega arith)).1 x.before in
-            let z : InRow all (p / 16) (p % 16) = rw (ps, pt) y in
-            let m = steps-full all letters 256 p (omega arith) z in
-            let r : l ≡ mark_letter (slice_index_or letters (p % 16) 0) = rw pt (known.reads t.0 l (omega arith) x.reads) in
+            let z : InRow all (p / most_states) (p % most_states) = rw (ps, pt) y in
+            let m = steps-full all letters (places_from (c + 1)) p (omega arith) z in
+            let r : l ≡ mark_letter (slice_index_or letters (p % most_states) 0) = rw pt (known.reads t.0 l (omega arith) x.reads) in
             let e : step_of letters p ≡ step s l t = λ i. step (state (ps i)) (sym r i) (state (pt i)) in
             rw e at m
 
-        step-out : (s : State) (l : Letter) (t : State) → step s l t ∈ steps_below all letters 256 → StepsInto g.tree s.0 l t.0
+        step-out : (s : State) (l : Letter) (t : State) → step s l t ∈ steps_below all letters (places_from (c + 1)) → StepsInto g.tree s.0 l t.0
         step-out s l t x =
-            let y = steps-sound all letters 256 (step s l t) x in
+            let y = steps-sound all letters (places_from (c + 1)) (step s l t) x in
             let p = y.0 in
             let o = y.1 in
-            let ps : s.0 ≡ p / 16 = ap (λ (z : Step). (from-of z).0) y.3 in
-            let pt : t.0 ≡ p % 16 = ap (λ (z : Step). (to-of z).0) y.3 in
-            let r : l ≡ mark_letter (slice_index_or letters (p % 16) 0) = ap letter-of y.3 in
-            let b = (in-row (p / 16) (p % 16) (omega arith) (omega arith)).0 y.2 in
+            let ps : s.0 ≡ p / most_states = ap (λ (z : Step). (from-of z).0) y.3 in
+            let pt : t.0 ≡ p % most_states = ap (λ (z : Step). (to-of z).0) y.3 in
+            let r : l ≡ mark_letter (slice_index_or letters (p % most_states) 0) = ap letter-of y.3 in
+            let b = (in-row (p / most_states) (p % most_states) (omega arith) (omega arith)).0 y.2 in
             let w = has-mark known.numbered (entered b) in
-            let z : w.0 ≡ l = known.reads (p % 16) w.0 (omega arith) w.1 ∙ sym r in
+            let z : w.0 ≡ l = known.reads (p % most_states) w.0 (omega arith) w.1 ∙ sym r in
             let m = w.1 in
             moved ps pt (record { before = b; reads = rw z at m })
 
         module _ {f : StateSet} (w : IsFinals a f) where
-          final-in : (t : State) → EndsAt g.tree t.0 → t ∈ finals_below f 16
+          final-in : (t : State) → EndsAt g.tree t.0 → t ∈ finals_below f (c + 1)
           final-in t x =
               let i = ends-within x in
-              let h : t.0 < 16 = omega arith in
-              finals-full f 16 t h ((w.at t.0 h).1 (go x h))
+              let h : t.0 < most_states = omega arith in
+              finals-full f (c + 1) t (omega arith) ((w.at t.0 h).1 (go x h))
             where
-              go : {k : ℕ} → EndsAt g.tree k → k < 16 → Has a.last.0 k ⊎ ((a.empty ≡ true) × (k ≡ 0))
+              go : {k : ℕ} → EndsAt g.tree k → k < most_states → Has a.last.0 k ⊎ ((a.empty ≡ true) × (k ≡ 0))
               go (nothing y) h = inr (known.empty.1 y, refl)
               go {k} (ending y) h = inl ((known.last.at k h).1 y)
 
-          final-out : (t : State) → t ∈ finals_below f 16 → EndsAt g.tree t.0
+          final-out : (t : State) → t ∈ finals_below f (c + 1) → EndsAt g.tree t.0
           final-out t x =
-              let y = finals-sound f 16 t x in
-              ⊎_elim (λ z. ending ((known.last.at t.0 y.0).0 z)) (λ z. let e = z.1 in rw e (nothing (known.empty.0 z.0))) ((w.at t.0 y.0).0 y.1)
+              let y = finals-sound f (c + 1) t x in
+              let l = y.0 in
+              let h : t.0 < most_states = omega arith in
+              ⊎_elim (λ z. ending ((known.last.at t.0 h).0 z)) (λ z. let e = z.1 in rw e (nothing (known.empty.0 z.0))) ((w.at t.0 h).0 y.1)
 
-          tables : IsAutomaton g.tree (steps_below all letters 256) (finals_below f 16)
+          tables : IsAutomaton g.tree (steps_below all letters (places_from (c + 1))) (finals_below f (c + 1))
           tables = record {
             steps = λ s l t. (step-out s l t, step-in s l t);
             finals = λ t. (final-out t, final-in t);
           }
 
-          all-listed : (b : Listed) → b.steps ≡ flat_map step_numbers (steps_below all letters 256) → b.finals ≡ map final_number (finals_below f 16) → Lists g.tree b
+          all-listed : (b : Listed) → b.steps ≡ flat_map step_numbers (steps_below all letters (places_from (c + 1))) → b.finals ≡ map final_number (finals_below f (c + 1)) → Lists g.tree b
           all-listed b p q =
-              let x = steps-are g.tree (steps_below all letters 256) (finals_below f 16) tables b p q in
-              let y = finals-are g.tree (steps_below all letters 256) (finals_below f 16) tables b p q in
+              let x = steps-are g.tree (steps_below all letters (places_from (c + 1))) (finals_below f (c + 1)) tables b p q in
+              let y = finals-are g.tree (steps_below all letters (places_from (c + 1))) (finals_below f (c + 1)) tables b p q in
               record {
                 are = rw (x, y) tables;
-                steps_rise = rw x (steps-rise all letters 256);
-                finals_rise = rw y (finals-rise f 16);
+                steps_rise = rw x (steps-rise all letters (places_from (c + 1)));
+                finals_rise = rw y (finals-rise f (c + 1));
                 steps_only = p ∙ ap (flat_map step_numbers) (sym x);
                 finals_only = q ∙ ap (map final_number) (sym y);
               }
@@ -203,11 +205,11 @@ module _ (row : List ℕ) where
       has-marks : (TooDeep row → ⊥) → HasMarks row c
       has-marks d = record { shallow = d; tree = g.tree; is = is-it }
 
-      pub many-marks : (TooDeep row → ⊥) → 16 ≤ c → Answered row (Err (refusal.TooManyMarks c))
-      many-marks d m = too_many c (record { marks = has-marks d; more = m })
+      pub many-marks : (TooDeep row → ⊥) → (c < most_states → ⊥) → Answered row (Err (refusal.TooManyMarks c))
+      many-marks d m = too_many c (record { marks = has-marks d; more = omega arith })
 
-      pub it-is : (TooDeep row → ⊥) → c < 16 → 0 < length rows → {f : StateSet} → IsFinals a f → (b : Listed) → b.states ≡ c + 1
-          → b.steps ≡ flat_map step_numbers (steps_below (set rows 0 a.first) letters 256) → b.finals ≡ map final_number (finals_below f 16) → Answered row (Ok b)
+      pub it-is : (TooDeep row → ⊥) → c < most_states → 0 < length rows → {f : StateSet} → IsFinals a f → (b : Listed) → b.states ≡ c + 1
+          → b.steps ≡ flat_map step_numbers (steps_below (set rows 0 a.first) letters (places_from (c + 1))) → b.finals ≡ map final_number (finals_below f (c + 1)) → Answered row (Ok b)
       it-is d few long {f} w b s p q =
           answered b (record { count = c; marks = has-marks d; few = few })
           (record { tree = g.tree; marks = c; is = is-it; few = few; states = s; lists = all-listed long few w b p q })

@@ -5,6 +5,7 @@ use Rattle.std.proofs.lemmas.List.{length-map, get_or-append-add}
 use mathlib.Core.List.Memᴰ
 use Rattle.kinds.specs.declared.Counts.{Counts}
 use Rattle.kinds.specs.declared.State.{State}
+use Rattle.kinds.specs.Kinds.{most_states}
 use Rattle.laws.specs.Member.{◌∈◌}
 use Rattle.laws.specs.Numbers.{numbered-out}
 use Rattle.meaning.specs.Collection.{Letter, role, test, Step, step, LetterDeclared, StepDeclared}
@@ -16,6 +17,7 @@ use Rattle.expression.specs.Tree.{Tree, both, either, MarkReads, itself, in_firs
 use Rattle.expression.specs.Numbered.{Numbered}
 use Rattle.expression.specs.Grammar.{Atom, letter, bracket, Item, once, repeated, Sequence, items, Items, no_item, item, Expression, sequences, Sequences, no_sequence, or_else}
 use Rattle.expression.specs.Listed.{Listed, step_numbers, final_number, step_rank, steps_of, finals_of, Rises, begins}
+use Rattle.expression.specs.Listing.{places}
 use Rattle.expression.specs.Fits.{FitsTables, NeedsMarks}
 use Rattle.expression.specs.Answer.{IsAutomatonOf}
 use Rattle.expression.proofs.Words.{first-in, last-in, next-from, next-to}
@@ -137,10 +139,10 @@ module _ {row : List ℕ} (a : Listed) (x : IsAutomatonOf row a) where
   step-into : (s : State) (l : Letter) (t : State) → step s l t ∈ steps_of a → StepsInto x.tree s.0 l t.0
   step-into s l t m = (x.lists.are.steps s l t).0 m
 
-  rank-below : (y : Step) → y ∈ steps_of a → step_rank y < 256
+  rank-below : (y : Step) → y ∈ steps_of a → step_rank y < places
   rank-below (step s l t) m = let w = into (step-into s l t m).before in let f = x.few in let p = w.0 in let q = w.1 in omega arith
 
-  final-below : (t : State) → t ∈ finals_of a → t.0 < 16
+  final-below : (t : State) → t ∈ finals_of a → t.0 < most_states
   final-below t m = let w = ends ((x.lists.are.finals t).0 m) in let f = x.few in omega arith
 
   steps-long : length a.steps ≡ 4 * length (steps_of a)
@@ -153,8 +155,8 @@ module _ {row : List ℕ} (a : Listed) (x : IsAutomatonOf row a) where
   pub fits-tables : FitsTables a
   unfolding records
   fits-tables =
-      let p = few step_rank (steps_of a) 0 256 (omega arith) x.lists.steps_rise (λ y m. omega arith) rank-below in
-      let q = few final_number (finals_of a) 0 16 (omega arith) x.lists.finals_rise (λ y m. omega arith) final-below in
+      let p = few step_rank (steps_of a) 0 places (omega arith) x.lists.steps_rise (λ y m. omega arith) rank-below in
+      let q = few final_number (finals_of a) 0 most_states (omega arith) x.lists.finals_rise (λ y m. omega arith) final-below in
       record {
         steps = record { unbroken = omega (arith, steps-long); few = omega (arith, steps-long) };
         finals = record { unbroken = omega arith; few = omega (arith, finals-long) };

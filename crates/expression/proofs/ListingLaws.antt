@@ -6,7 +6,7 @@ use Rattle.std.proofs.lemmas.List.{map-append, take_more_set}
 use Rattle.std.proofs.Math.Decide.{ℕ_discrete}
 use mathlib.Core.List.Memᴰ
 use Rattle.kinds.specs.declared.State.{State}
-use Rattle.kinds.specs.Kinds.{state}
+use Rattle.kinds.specs.Kinds.{most_states, state}
 use Rattle.laws.specs.Member.{◌∈◌}
 use Rattle.laws.specs.Search.{pick}
 use Rattle.laws.specs.Truth.{test-fails}
@@ -90,28 +90,28 @@ module _ {A : Type 0} (rank : A → ℕ) where
 -- the loop over places, and the steps that it lists
 module _ (rows : List StateSet) (letters : List ℕ) where
   abbrev at_place : ℕ → Bool
-  at_place p = state_marks rows (p / 16) (p % 16)
+  at_place p = state_marks rows (p / most_states) (p % most_states)
 
   pub steps_none : [] ≡ flat_map step_numbers (steps_below rows letters 0)
   unfolding listed_below
   steps_none = refl
 
-  pub steps_on : (p : ℕ) → InRow rows (p / 16) (p % 16) → {t u v : List ℕ} → t ≡ flat_map step_numbers (steps_below rows letters p)
+  pub steps_on : (p : ℕ) → InRow rows (p / most_states) (p % most_states) → {t u v : List ℕ} → t ≡ flat_map step_numbers (steps_below rows letters p)
       → u ≡ step_numbers (step_of letters p) → v ≡ t ++ u → v ≡ flat_map step_numbers (steps_below rows letters (p + 1))
   steps_on p h {t} {u} {v} x y z =
       z ∙ ap₂ ◌++◌ x (y ∙ sym (append-nil (step_numbers (step_of letters p))))
       ∙ sym (flat_map-append step_numbers (steps_below rows letters p) (step_of letters p ∷ []))
       ∙ ap (flat_map step_numbers) (sym (more-on at_place (step_of letters) p ((has_fact _ _).1 h)))
 
-  pub steps_off : (p : ℕ) → (InRow rows (p / 16) (p % 16) → ⊥) → {t : List ℕ} → t ≡ flat_map step_numbers (steps_below rows letters p)
+  pub steps_off : (p : ℕ) → (InRow rows (p / most_states) (p % most_states) → ⊥) → {t : List ℕ} → t ≡ flat_map step_numbers (steps_below rows letters p)
       → t ≡ flat_map step_numbers (steps_below rows letters (p + 1))
   steps_off p h x = x ∙ ap (flat_map step_numbers) (sym (more-off at_place (step_of letters) p (test-fails (has_fact _ _) h)))
 
   pub steps-sound : (i : ℕ) (s : Step) → s ∈ steps_below rows letters i
-      → (p : ℕ) × (p < i) × InRow rows (p / 16) (p % 16) × (s ≡ step_of letters p)
+      → (p : ℕ) × (p < i) × InRow rows (p / most_states) (p % most_states) × (s ≡ step_of letters p)
   steps-sound i s m = let w = sound at_place (step_of letters) i s m in (w.0, w.1, (has_fact _ _).0 w.2, w.3)
 
-  pub steps-full : (i p : ℕ) → p < i → InRow rows (p / 16) (p % 16) → step_of letters p ∈ steps_below rows letters i
+  pub steps-full : (i p : ℕ) → p < i → InRow rows (p / most_states) (p % most_states) → step_of letters p ∈ steps_below rows letters i
   steps-full i p h o = full at_place (step_of letters) i p h ((has_fact _ _).1 o)
 
   pub steps-rise : (i : ℕ) → Rises step_rank (steps_below rows letters i)

@@ -146,7 +146,7 @@ module _ (n h m : ℕ) (old mid before : List StateSet) (was half now : List ℕ
   kept-both : (k : ℕ) → k ≤ n → slice_index_or now k 0 ≡ slice_index_or was k 0
   kept-both k i = u.kept k (let a = rises t.numbered in omega arith) ∙ t.kept k i
 
-  reads-both : (k : ℕ) (l : Letter) → k < 16 → MarkReads e k l ⊎ MarkReads f k l → l ≡ mark_letter (slice_index_or now k 0)
+  reads-both : (k : ℕ) (l : Letter) → k < most_states → MarkReads e k l ⊎ MarkReads f k l → l ≡ mark_letter (slice_index_or now k 0)
   reads-both k l i (inl x) = t.reads k l i x ∙ ap mark_letter (sym (u.kept k (reads-in t.numbered x).high))
   reads-both k l i (inr x) = u.reads k l i x
 

@@ -9,11 +9,14 @@ use Rattle.sets.specs.Rows.{state_marks}
 use Rattle.sets.specs.declared.states.StateSet.{StateSet}
 use Rattle.expression.specs.Marks.{mark_letter}
 
--- a place for each two states
-abbrev pub places : ℕ
-places = most_states * most_states
+-- a place for each two states, those from one state together: so many are from the first n states
+abbrev pub places_from : ℕ → ℕ
+places_from n = most_states * n
 
--- the step at a place: from the state place / 16 into the state place % 16
+abbrev pub places : ℕ
+places = places_from most_states
+
+-- the step at a place: from the state p / most_states into the state p % most_states
 abbrev pub step_of : List ℕ → ℕ → Step
 step_of letters p =
     step (state (p / most_states)) (mark_letter (slice_index_or letters (p % most_states) 0))

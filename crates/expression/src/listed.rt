@@ -1,13 +1,13 @@
 // The automaton of an expression: its steps and final states, listed in tables with room for the
 // most that can be declared.
 
-ghost use Rattle.std.specs.Prelude.{◌<◌, ◌≤◌, ◌+◌, ◌≡◌, ◌++◌, ◌↔◌, ℕ, IsOk, IfOk, take, map, flat_map, length, slice_set};
+ghost use Rattle.std.specs.Prelude.{◌<◌, ◌≤◌, ◌+◌, ◌≡◌, ◌++◌, ◌↔◌, ℕ, IsTrue, IsOk, IfOk, take, map, flat_map, length, slice_set};
 ghost use Rattle.kinds.specs.Kinds.{most_states, state};
 ghost use Rattle.meaning.specs.Collection.{step};
 ghost use Rattle.expression.specs.Marks.{mark_letter};
 ghost use Rattle.expression.specs.Depth.{TooDeep};
 ghost use Rattle.expression.specs.Listed.{Listed, step_numbers, final_number};
-ghost use Rattle.expression.specs.Listing.{places, steps_below, finals_below};
+ghost use Rattle.expression.specs.Listing.{places_from, steps_below, finals_below};
 ghost use Rattle.expression.specs.Answer.{IsNoExpression, HasTooManyMarks, IsAtMostOne, HasAutomaton, IsAutomatonOf, ReadsItsWords, AsksForIt};
 ghost use Rattle.expression.specs.Fits.{FitsTables, NeedsMarks};
 ghost use Rattle.expression.specs.Parts.{IsFinals};
@@ -82,14 +82,15 @@ fn put(steps: &mut Steps, used: usize, record_of: &[u16; Step::WIDTH])
     all[used..used + Step::WIDTH].copy_from_slice(record_of);
 }
 
-// The steps, by the state left and then by the state entered: how many numbers there are.
-fn list_steps(rows: &Rows, letters: &Marks, steps: &mut Steps) -> usize
+// The steps from the first so many states, by the state left and then by the state entered: how many numbers there are.
+fn list_steps(states: usize, rows: &Rows, letters: &Marks, steps: &mut Steps) -> usize
+    requires { states ≤ most_states }
     ensures within { result ≤ ROOM }
     ensures listed { take result steps.new
-        ≡ flat_map step_numbers (steps_below rows.now letters.now places) }
+        ≡ flat_map step_numbers (steps_below rows.now letters.now (places_from states)) }
 {
     let mut used = 0;
-    for place in 0..State::PAIRS {
+    for place in 0..State::NUMBERS * states {
         let from = place / State::NUMBERS;
         let to = place % State::NUMBERS;
         if rows[from].contains(State(to as u16)) {
@@ -101,13 +102,14 @@ fn list_steps(rows: &Rows, letters: &Marks, steps: &mut Steps) -> usize
     used
 }
 
-// The final states, rising: how many there are.
-fn list_finals(set: StateSet, finals: &mut Finals) -> usize
+// The final states among the first so many, rising: how many there are.
+fn list_finals(states: usize, set: StateSet, finals: &mut Finals) -> usize
+    requires { states ≤ most_states }
     ensures within { result ≤ most_states }
-    ensures listed { take result finals.new ≡ map final_number (finals_below set most_states) }
+    ensures listed { take result finals.new ≡ map final_number (finals_below set states) }
 {
     let mut used = 0;
-    for k in 0..State::NUMBERS {
+    for k in 0..states {
         if set.contains(State(k as u16)) {
             finals[used] = k as u16;
             used += 1;
@@ -116,17 +118,18 @@ fn list_finals(set: StateSet, finals: &mut Finals) -> usize
     used
 }
 
-// The tables of what is known of the states.
+// The tables of what is known of so many states.
 fn listed(states: usize, rows: &Rows, letters: &Marks, set: StateSet) -> Automaton
+    requires { states ≤ most_states }
     ensures states { result.states ≡ states }
     ensures steps { result.steps
-        ≡ flat_map step_numbers (steps_below rows.now letters.now places) }
-    ensures finals { result.finals ≡ map final_number (finals_below set most_states) }
+        ≡ flat_map step_numbers (steps_below rows.now letters.now (places_from states)) }
+    ensures finals { result.finals ≡ map final_number (finals_below set states) }
 {
     let mut steps = [0; ROOM];
     let mut finals = [0; State::NUMBERS];
-    let steps_used = list_steps(rows, letters, &mut steps);
-    let finals_used = list_finals(set, &mut finals);
+    let steps_used = list_steps(states, rows, letters, &mut steps);
+    let finals_used = list_finals(states, set, &mut finals);
     Automaton {
         states,
         steps,
@@ -151,6 +154,13 @@ fn final_states(part: Part) -> StateSet
     part.last.union(when(part.empty, alone(0)))
 }
 
+// A state can be declared for each of so many role and test marks, and one for the start.
+fn has_states(marks: usize) -> bool
+    ensures { IsTrue result ↔ (marks < most_states) }
+{
+    marks < State::NUMBERS
+}
+
 // The one answer to a row, from which the clauses of `automaton_of` follow.
 fn answered(marks: &[u8]) -> Result<Automaton, Refusal>
     ensures { Answered marks.now result }
@@ -171,7 +181,7 @@ fn answered(marks: &[u8]) -> Result<Automaton, Refusal>
     if reader.at < marks.len() {
         return Err(Refusal::NoExpression);
     }
-    if reader.count >= State::NUMBERS {
+    if !has_states(reader.count) {
         return Err(Refusal::TooManyMarks(reader.count));
     }
     start(&mut reader.rows, part.first);

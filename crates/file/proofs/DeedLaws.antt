@@ -1,6 +1,6 @@
 -- Two inputs whose lines differ only in the deed numbers of their facts write the same text.
-use Rattle.std.specs.Prelude.{ℕ, zero, suc, ◌+◌, ◌≡◌, refl, ◌↔◌, List, [], length}
-use Rattle.std.proofs.Common.{subst}
+use Rattle.std.specs.Prelude.{ℕ, zero, suc, ◌+◌, ◌≡◌, refl, ◌↔◌, List, [], ◌++◌, length}
+use Rattle.std.proofs.Common.{sym, ap, subst}
 use Rattle.meaning.specs.Lent.{Call}
 use Rattle.meaning.specs.Deeds.{lent_with}
 use Rattle.meaning.proofs.DeedLaws.{one-collection, deeds-decide-nothing}
@@ -16,8 +16,9 @@ use Rattle.reading.specs.Deeds.{SameButDeed, same, concept, role, SameLine, same
 use Rattle.reading.specs.Deeds.{SameVerdict, both-faulty, both-sound}
 use Rattle.reading.proofs.DeedLaws.{Alike, alike-length, entries-same, table-same, declared-same, allowance-same}
 use Rattle.reading.proofs.DeedLaws.{question-same, tables-alike, reads-without-deeds}
-use Rattle.file.specs.Text.{fault_line}
-use Rattle.file.specs.Writes.{Answers, Answered, collection_read, FileRounds, Writes, fault, answers}
+use Rattle.file.specs.Text.{count_width, fault_line}
+use Rattle.file.specs.Rounds.{round_lines}
+use Rattle.file.specs.Writes.{Answers, Answered, collection_read, frames_width, FileRounds, Writes, fault, answers}
 
 -- it works both ways
 frame_turned : {f g : Frame} → SameButDeed f g → SameButDeed g f
@@ -38,16 +39,20 @@ module _ {fs gs : List Frame} (s : Alike fs gs) (q : Listed) where
   asked-same : (k : ℕ) → lent_with (asked fs q k) (tables_of gs q) ≡ asked gs q k
   asked-same k = rw (declared-same s, allowance-same s, table-same asks tt s) refl
 
-  answer-same : (k : ℕ) (x : List ℕ) → Answers (asked fs q k) x → Answers (asked gs q k) x
-  answer-same k x a =
+  answer-same : (width k : ℕ) (x : List ℕ) → Answers width (asked fs q k) x → Answers width (asked gs q k) x
+  answer-same width k x a =
       let o = (deeds-decide-nothing (asked fs q k) (tables_of gs q) (tables-alike s q) a.answer a.outcome.0 a.outcome.1).0 a.outcome.2 in
-      subst (λ (c : Call). Answers c x) (asked-same k)
+      subst (λ (c : Call). Answers width c x) (asked-same k)
       (record { answer = a.answer; outcome = (a.outcome.0, a.outcome.1, o); written = a.written })
 
-  answered-same : (n : ℕ) (out : List ℕ) → Answered (asked fs q) n out → Answered (asked gs q) n out
+  answered-same : (width n : ℕ) (out : List ℕ) → Answered width (asked fs q) n out → Answered width (asked gs q) n out
   unfolding Answered
-  answered-same zero out e = e
-  answered-same (suc n) out (x, y, a, b, e) = (x, y, answered-same n x a, answer-same n y b, e)
+  answered-same width zero out e = e
+  answered-same width (suc n) out (x, y, a, b, e) = (x, y, answered-same width n x a, answer-same width n y b, e)
+
+  -- and their counts are as wide
+  width-same : frames_width fs ≡ frames_width gs
+  width-same = ap count_width (declared-same s)
 
   -- what they mean is the same collection
   read-same : collection_read fs q ≡ collection_read gs q
@@ -77,12 +82,14 @@ module _ (input other : List ℕ) (s : InStep SameLine (lines input) (lines othe
   writes-same (fault before r h) =
       let w = reads-without-deeds (lines input) (lines other) s (faulty before r) h in
       fault-same w.1 w.2 before r refl
-  writes-same (answers fs q counts out h t a) =
-      let w = reads-without-deeds (lines input) (lines other) s (sound fs) h.sound in
+  writes-same (answers fs q counts out h is t a) =
+      let w = reads-without-deeds (lines input) (lines other) s (sound fs) h in
       let v = sound-same w.1 w.2 fs refl in
       let d = v.1 in
-      answers v.0 q counts out (record { sound = v.2; question = question-same d q h.question }) (rounds-same d q counts t)
-      (rw (entries-same asks d) at (answered-same d q (entries asks fs) out a))
+      let e = width-same d q in
+      subst (λ (n : ℕ). Writes other (round_lines n 0 counts ++ out)) (sym e)
+      (answers v.0 q counts out v.2 (question-same d q is) (rounds-same d q counts t)
+      (rw (entries-same asks d, e) at (answered-same d q (frames_width fs) (entries asks fs) out a)))
 
 -- THEOREM: what is written does not depend on deed numbers
 pub writes-without-deeds : (input other : List ℕ) → InStep SameLine (lines input) (lines other) → (text : List ℕ)

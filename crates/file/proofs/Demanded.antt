@@ -21,8 +21,8 @@ use Rattle.reading.specs.File.{asked}
 use Rattle.reading.specs.Reading as read
 use Rattle.reading.proofs.Accepted.{whole-accepted, reading-taken}
 use Rattle.reading.proofs.Questions.{row-taken}
-use Rattle.file.specs.Text.{answer_line}
-use Rattle.file.specs.Writes.{IsAsking}
+use Rattle.file.specs.Text.{count_width, answer_line}
+use Rattle.file.specs.Writes.{IsAsking, frames_width}
 use Rattle.file.specs.Demands.{LinesSayAsModel, LinesSayOfExpression, SameAsk, SpellsWordOf, LinesGrow, LinesReturn, RoundsSuffice}
 use Rattle.file.proofs.Told.{line-answers, number-of, names-of}
 use Rattle.file.specs.Told.{Names}
@@ -89,7 +89,9 @@ lines-return input other text out w v fs gs q r s t j k h i m n =
     let o' = subst (λ (c : Call). Outcome c a.answer (a.outcome.0) (a.outcome.1)) m.same o in
     let u = (outcome-unique (asked gs r k) b.outcome.2 o').0 in
     let same : (asked gs r k).ask ≡ (asked fs q j).ask = ap (λ (c : Call). c.ask) (sym m.same) in
-    b.written ∙ ap (answer_line (asked gs r k).ask) u ∙ ap (λ (ask : Ask). answer_line ask a.answer) same ∙ sym a.written
+    let wide : frames_width gs ≡ frames_width fs = ap (λ (c : Call). count_width c.counts) (sym m.same) in
+    b.written ∙ ap (answer_line (frames_width gs) (asked gs r k).ask) u ∙ ap₂ (λ (n : ℕ) (ask : Ask). answer_line n ask a.answer) wide same
+    ∙ sym a.written
 
 -- THEOREM: concepts × states × (states − 1) rounds always suffice
 pub rounds-enough : RoundsSuffice

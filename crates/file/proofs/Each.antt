@@ -13,7 +13,7 @@ use Rattle.reading.specs.File.{held_ask, held_call, IsQuestion}
 use Rattle.reading.specs.Reads.{IsRead}
 use Rattle.file.specs.Text.{IsInBytes, answer_line}
 use Rattle.file.specs.Writes.{Answers}
-use Rattle.file.specs.Replying.{ask_count, IsAnswer, AnswersEach}
+use Rattle.file.specs.Replying.{ask_count, held_width, IsAnswer, AnswersEach}
 use Rattle.file.proofs.Asks.{few_asks, in_bytes}
 
 -- what is still to come: the asks from one on, and their answers
@@ -47,7 +47,8 @@ module _ (file : File) (q : Listed) (s t : Records Ask) (ask : Ask) (r : Answer)
   pub ask_in_bytes : IsRead file → IsQuestion file q → IsInBytes ask
   ask_in_bytes read is = rw ask_is (in_bytes file read q is s.next inside)
 
-  pub answered_next : (line : List ℕ) → line ≡ answer_line ask r → Answers (held_call file q s.next) line
+  pub answered_next : (line : List ℕ) → line ≡ answer_line (held_width file) ask r
+      → Answers (held_width file) (held_call file q s.next) line
   answered_next line d =
       let h : IfSome (slice_get (r ∷ rest) 0) (IsAnswer file q (s.next + 0)) = rw e at (w.answers 0 (omega (arith, inside))) in
       let z : s.next + 0 ≡ s.next = omega arith in

@@ -1,12 +1,14 @@
 -- Theorems: an input writes one text, what stands on its lines, and what is demanded of them.
 pub mod WritesLaws
 pub mod DeedLaws
+pub mod FormerLaws
 pub mod Listed
 pub mod Lined
 pub mod Told
 pub mod Demanded
 pub mod Default
 -- Laws that the functions' proofs cite.
+pub mod Widths
 pub mod Spelling
 pub mod Asks
 pub mod Rounds

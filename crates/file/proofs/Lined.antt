@@ -56,14 +56,14 @@ text_line bytes = record {
   first = λ rest. ap lines (append_assoc (flat_map characters bytes) (0x0A ∷ []) rest) ∙ bytes_first bytes rest;
 }
 
-round_is_line : (round marks : ℕ) → IsLine (round_line round marks)
+round_is_line : (width round marks : ℕ) → IsLine (round_line width round marks)
 unfolding round_line
-round_is_line round marks = text_line _
+round_is_line width round marks = text_line _
 
-answer_is_line : (ask : Ask) (r : Answer) → IsLine (answer_line ask r)
+answer_is_line : (width : ℕ) (ask : Ask) (r : Answer) → IsLine (answer_line width ask r)
 unfolding answer_line
-answer_is_line (Pair a b) r = text_line _
-answer_is_line (From a) r = text_line _
+answer_is_line width (Pair a b) r = text_line _
+answer_is_line width (From a) r = text_line _
 
 -- whole lines, n of them
 pub record AreLines (text : List ℕ) (n : ℕ) : Type 0 where
@@ -110,35 +110,35 @@ line_of_one : {line : List ℕ} → IsLine line → line_in line 0 ≡ line
 line_of_one l = ap (λ (ls : List (List ℕ)). slice_index_or ls 0 [] ++ 0x0A ∷ []) (lone l) ∙ l.is
 
 -- the lines of rounds, each at its place
-pub rounds_lined : (before : ℕ) (counts : List ℕ) → AreLines (round_lines before counts) (length counts)
+pub rounds_lined : (width before : ℕ) (counts : List ℕ) → AreLines (round_lines width before counts) (length counts)
 unfolding round_lines
-rounds_lined before [] = no_lines
-rounds_lined before (m ∷ counts) =
+rounds_lined width before [] = no_lines
+rounds_lined width before (m ∷ counts) =
     let n : 1 + length counts ≡ suc (length counts) = omega arith in
-    subst (AreLines (round_line (suc before) m ++ round_lines (suc before) counts)) n
-    (both_lines (one_line (round_is_line (suc before) m)) (rounds_lined (suc before) counts))
+    subst (AreLines (round_line width (suc before) m ++ round_lines width (suc before) counts)) n
+    (both_lines (one_line (round_is_line width (suc before) m)) (rounds_lined width (suc before) counts))
 
-pub round-is : (before : ℕ) (counts : List ℕ) (k : ℕ) → k < length counts
-    → line_in (round_lines before counts) k ≡ round_line (before + k + 1) (slice_index counts k)
+pub round-is : (width before : ℕ) (counts : List ℕ) (k : ℕ) → k < length counts
+    → line_in (round_lines width before counts) k ≡ round_line width (before + k + 1) (slice_index counts k)
 unfolding round_lines
-round-is before [] k h = absurd (omega arith)
-round-is before (m ∷ counts) zero h =
+round-is width before [] k h = absurd (omega arith)
+round-is width before (m ∷ counts) zero h =
     let n : before + 0 + 1 ≡ suc before = omega arith in
-    let l = round_is_line (suc before) m in
-    line_before (one_line l) (round_lines (suc before) counts) 0 (omega arith) ∙ line_of_one l ∙ ap (λ r. round_line r m) (sym n)
-round-is before (m ∷ counts) (suc k) h =
+    let l = round_is_line width (suc before) m in
+    line_before (one_line l) (round_lines width (suc before) counts) 0 (omega arith) ∙ line_of_one l ∙ ap (λ r. round_line width r m) (sym n)
+round-is width before (m ∷ counts) (suc k) h =
     let n : suc before + k + 1 ≡ before + suc k + 1 = omega arith in
     let e : suc k ≡ 1 + k = omega arith in
-    ap (λ i. line_in (round_line (suc before) m ++ round_lines (suc before) counts) i) e
-    ∙ line_after (one_line (round_is_line (suc before) m)) (round_lines (suc before) counts) k
-    ∙ round-is (suc before) counts k (omega arith) ∙ ap (λ r. round_line r (slice_index counts k)) n
+    ap (λ i. line_in (round_line width (suc before) m ++ round_lines width (suc before) counts) i) e
+    ∙ line_after (one_line (round_is_line width (suc before) m)) (round_lines width (suc before) counts) k
+    ∙ round-is width (suc before) counts k (omega arith) ∙ ap (λ r. round_line width r (slice_index counts k)) n
 
 -- the lines of answers, each at its place
-answers_line : {call : Call} {line : List ℕ} → Answers call line → IsLine line
-answers_line {call} w = subst IsLine (sym w.written) (answer_is_line call.ask w.answer)
+answers_line : {width : ℕ} {call : Call} {line : List ℕ} → Answers width call line → IsLine line
+answers_line {width} {call} w = subst IsLine (sym w.written) (answer_is_line width call.ask w.answer)
 
-module _ (call : ℕ → Call) where
-  pub answers_lined : (n : ℕ) (out : List ℕ) → Answered call n out → AreLines out n
+module _ (width : ℕ) (call : ℕ → Call) where
+  pub answers_lined : (n : ℕ) (out : List ℕ) → Answered width call n out → AreLines out n
   unfolding Answered
   answers_lined zero out e = subst (λ (x : List ℕ). AreLines x 0) (sym e) no_lines
   answers_lined (suc n) out (x, y, a, b, e) =
@@ -147,19 +147,19 @@ module _ (call : ℕ → Call) where
       subst (λ (l : List ℕ). AreLines l (suc n)) (sym e) (rw m at w)
 
   -- line k of the lines for n calls is that of call k
-  pub answer-at : (n : ℕ) (out : List ℕ) → Answered call n out → (k : ℕ) → k < n → Answers (call k) (line_in out k)
+  pub answer-at : (n : ℕ) (out : List ℕ) → Answered width call n out → (k : ℕ) → k < n → Answers width (call k) (line_in out k)
   unfolding Answered
   answer-at zero out e k h = absurd (omega arith)
   answer-at (suc n) out (x, y, a, b, e) k h =
-      subst (λ (l : List ℕ). Answers (call k) (line_in l k)) (sym e) (by (λ i. answer-at n x a k i) (nat_lt k n) refl)
+      subst (λ (l : List ℕ). Answers width (call k) (line_in l k)) (sym e) (by (λ i. answer-at n x a k i) (nat_lt k n) refl)
     where
-      by : (k < n → Answers (call k) (line_in x k)) → (t : Bool) → nat_lt k n ≡ t → Answers (call k) (line_in (x ++ y) k)
+      by : (k < n → Answers width (call k) (line_in x k)) → (t : Bool) → nat_lt k n ≡ t → Answers width (call k) (line_in (x ++ y) k)
       by earlier true d =
           let i : k < n = grind (arith, nat_tests) in
-          subst (Answers (call k)) (sym (line_before (answers_lined n x a) y k i)) (earlier i)
+          subst (Answers width (call k)) (sym (line_before (answers_lined n x a) y k i)) (earlier i)
       by earlier false d =
           let i : n + 0 ≡ k = grind (arith, nat_tests) in
           let j : n ≡ k = omega (arith, i) in
           let last : line_in (x ++ y) (n + 0) ≡ y = line_after (answers_lined n x a) y 0 ∙ line_of_one (answers_line b) in
           let here : line_in (x ++ y) k ≡ y = ap (λ i. line_in (x ++ y) i) (sym i) ∙ last in
-          subst (Answers (call k)) (sym here) (subst (λ (m : ℕ). Answers (call m) y) j b)
+          subst (Answers width (call k)) (sym here) (subst (λ (m : ℕ). Answers width (call m) y) j b)

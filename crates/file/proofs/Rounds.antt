@@ -3,48 +3,51 @@ use Rattle.std.specs.Prelude.{ℕ, suc, ◌+◌, ◌*◌, ◌<◌, ◌≤◌, �
 use Rattle.std.proofs.Common.{sym, ap, ◌∙◌, subst, append_assoc, append-nil, length-append, ⊎_elim, arith}
 use Rattle.std.proofs.Math.Nat.{min-le_left}
 use Rattle.laws.specs.Rounds.{least-once}
+use Rattle.kinds.specs.declared.Counts.{Counts}
 use Rattle.meaning.specs.Collection.{Collection, WellFormed}
 use Rattle.meaning.specs.Model.{Contradiction}
 use Rattle.theory.specs.Sheet.{Needed, Unchanged}
 use Rattle.meaning.specs.Lite.{lite}
 use Rattle.theory.specs.Marks.{RoundCounts}
 use Rattle.theory.proofs.MarksLaws.{round-counts-once}
+use Rattle.meaning.specs.Demands.{most_rounds}
 use Rattle.meaning.proofs.Demands.{most-rounds}
 use Rattle.meaning.proofs.LiteMarks.{lite-most}
-use Rattle.file.specs.Text.{text, round_line}
+use Rattle.file.specs.Text.{round_line}
 use Rattle.file.specs.Rounds.{round_lines, RoundsTold, no-ask, contradiction, rounds}
-use Rattle.file.specs.declared.text.TheConstants.{ROUND_LINE}
+use Rattle.file.specs.Told.{round_length}
+use Rattle.file.proofs.Widths.{IsWidth, round-length}
 
-pub round-length : (round marks : ℕ) → length (round_line round marks) ≡ ROUND_LINE
-unfolding round_line text
-round-length round marks = refl
+module _ (width : ℕ) where
+  pub rounds-length : {c : Counts} → IsWidth c width → (before : ℕ) (counts : List ℕ)
+      → length (round_lines width before counts) ≡ round_length width * length counts
+  unfolding round_lines
+  rounds-length w before [] = omega arith
+  rounds-length w before (m ∷ counts) =
+      omega (
+        arith,
+        length-append (round_line width (suc before) m) (round_lines width (suc before) counts),
+        round-length w (suc before) m,
+        rounds-length w (suc before) counts,
+      )
 
-pub rounds-length : (before : ℕ) (counts : List ℕ) → length (round_lines before counts) ≡ ROUND_LINE * length counts
-unfolding round_lines
-rounds-length before [] = refl
-rounds-length before (m ∷ counts) =
-    omega (
-      arith,
-      length-append (round_line (suc before) m) (round_lines (suc before) counts),
-      round-length (suc before) m,
-      rounds-length (suc before) counts,
-    )
+  -- the lines of some rounds, and then those of more
+  pub rounds-append : (before : ℕ) (x y : List ℕ)
+      → round_lines width before (x ++ y) ≡ round_lines width before x ++ round_lines width (before + length x) y
+  unfolding round_lines
+  rounds-append before [] y = ap (λ n. round_lines width n y) (omega arith)
+  rounds-append before (m ∷ x) y =
+      let later : suc before + length x ≡ before + suc (length x) = omega arith in
+      ap (λ (l : List ℕ). round_line width (suc before) m ++ l)
+      (rounds-append (suc before) x y ∙ ap (λ n. round_lines width (suc before) x ++ round_lines width n y) later)
+      ∙ sym (append_assoc (round_line width (suc before) m) (round_lines width (suc before) x) _)
 
--- the lines of some rounds, and then those of more
-pub rounds-append : (before : ℕ) (x y : List ℕ) → round_lines before (x ++ y) ≡ round_lines before x ++ round_lines (before + length x) y
-unfolding round_lines
-rounds-append before [] y = ap (λ n. round_lines n y) (omega arith)
-rounds-append before (m ∷ x) y =
-    let later : suc before + length x ≡ before + suc (length x) = omega arith in
-    ap (λ (l : List ℕ). round_line (suc before) m ++ l)
-    (rounds-append (suc before) x y ∙ ap (λ n. round_lines (suc before) x ++ round_lines n y) later)
-    ∙ sym (append_assoc (round_line (suc before) m) (round_lines (suc before) x) _)
-
-pub rounds-last : (counts : List ℕ) (m : ℕ) → round_lines 0 (counts ++ m ∷ []) ≡ round_lines 0 counts ++ round_line (suc (length counts)) m
-unfolding round_lines
-rounds-last counts m =
-    rounds-append 0 counts (m ∷ []) ∙ ap (λ (l : List ℕ). round_lines 0 counts ++ l)
-    (append-nil (round_line (suc (0 + length counts)) m) ∙ ap (λ n. round_line (suc n) m) (omega arith))
+  pub rounds-last : (counts : List ℕ) (m : ℕ)
+      → round_lines width 0 (counts ++ m ∷ []) ≡ round_lines width 0 counts ++ round_line width (suc (length counts)) m
+  unfolding round_lines
+  rounds-last counts m =
+      rounds-append 0 counts (m ∷ []) ∙ ap (λ (l : List ℕ). round_lines width 0 counts ++ l)
+      (append-nil (round_line width (suc (0 + length counts)) m) ∙ ap (λ n. round_line width (suc n) m) (omega arith))
 
 module _ {𝓒 : Collection} {allowance asks : ℕ} where
   -- THEOREM: one row of counts is told
@@ -76,14 +79,21 @@ module _ {𝓒 : Collection} {allowance asks : ℕ} where
         by (rounds {n = m} {counts = x} p sane' need' c) =
             subst (λ k. RoundCounts (lite 𝓒) (min k allowance) x) (least-once (Unchanged (lite 𝓒)) m n need' need) c
 
-    -- THEOREM: and of no more than 128 × 16 × 15
-    pub few-told : (0 < asks → WellFormed 𝓒) → length counts ≤ 30720
+    -- THEOREM: and of no more than concepts × states × (states − 1)
+    pub few-told : (0 < asks → WellFormed 𝓒) → length counts ≤ most_rounds 𝓒.counts
     few-told fine = by t
       where
-        by : {x : List ℕ} → RoundsTold 𝓒 allowance asks x → length x ≤ 30720
+        by : {x : List ℕ} → RoundsTold 𝓒 allowance asks x → length x ≤ most_rounds 𝓒.counts
         by (no-ask e) = omega arith
         by (contradiction h) = omega arith
         by (rounds {n = n} {counts = x} p sane need c) =
-            let ok = fine p in
-            let most = lite-most 𝓒 ok n need (min n allowance) (min-le_left n allowance) x c in
-            omega (arith, most, most-rounds 𝓒.counts ok.counts)
+            lite-most 𝓒 (fine p) n need (min n allowance) (min-le_left n allowance) x c
+
+    -- so of no more than there ever are
+    pub few-most : (0 < asks → WellFormed 𝓒) → length counts ≤ 126976
+    few-most fine = by t (few-told fine)
+      where
+        by : {x : List ℕ} → RoundsTold 𝓒 allowance asks x → length x ≤ most_rounds 𝓒.counts → length x ≤ 126976
+        by (no-ask e) h = omega arith
+        by (contradiction c) h = omega arith
+        by (rounds p sane need c) h = omega (arith, h, most-rounds 𝓒.counts (fine p).counts)

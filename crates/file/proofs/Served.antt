@@ -1,5 +1,5 @@
 -- What reading found decides what is written.
-use Rattle.std.specs.Prelude.{ℕ, ◌≡◌, refl, List, Option, None, Some, IfSome, Result, Ok, Err, OnOk, IfErr}
+use Rattle.std.specs.Prelude.{ℕ, ◌≡◌, refl, List, ◌++◌, Option, None, Some, IfSome, Result, Ok, Err, OnOk, IfErr}
 use Rattle.std.proofs.Common.{[], sym, subst}
 use Rattle.std.specs.Io.KnownBytes.{Appends}
 use Rattle.streams.specs.Lines.{lines}
@@ -11,13 +11,15 @@ use Rattle.reading.specs.Tables.{asks, entries, allowance_given, rounds_allowed}
 use Rattle.reading.specs.File.{file_of, asked, held_call}
 use Rattle.reading.specs.Reads.{told_of}
 use Rattle.shell.specs.Reports.{OneOf, Reports}
-use Rattle.file.specs.Rounds.{RoundsTold}
-use Rattle.file.specs.Writes.{IsSound, IsAsking, Answered, collection_read, FileRounds, SameButDeeds, Writes, fault, answers}
-use Rattle.file.specs.Serves.{Serves, AppendsUnspent}
-use Rattle.file.specs.Replying.{ask_count, HeldRounds, Tells, IsReply}
+use Rattle.file.specs.Rounds.{round_lines, RoundsTold}
+use Rattle.file.specs.Writes.{IsSound, Answered, collection_read, frames_width, FileRounds, SameButDeeds, Writes, fault, answers}
+use Rattle.file.specs.Former.{WasSound}
+use Rattle.file.specs.Serves.{Serves, FormerServes, AppendsUnspent}
+use Rattle.file.specs.Replying.{ask_count, held_width, HeldRounds, Tells, IsReply}
 use Rattle.file.proofs.Asks.{ask_entries}
 use Rattle.file.proofs.WritesLaws.{writes-once}
 use Rattle.file.proofs.DeedLaws.{writes-without-deeds}
+use Rattle.file.proofs.FormerLaws.{writes-as-it-did}
 use Rattle.file.proofs.Default.{never-spent}
 
 -- what is told with P is a reply of which P holds
@@ -50,12 +52,14 @@ told : (input : List ℕ) (file : File) (P : List ℕ → Type 0) (v : Verdict) 
 told input file P (sound fs) r e t =
     let q = t.question in
     let rounds : HeldRounds (file_of fs) q t.counts = subst (λ (f : File). HeldRounds f q t.counts) e t.told in
-    let own : Answered (asked fs q) (ask_count (file_of fs)) t.text =
-    subst (λ (f : File). Answered (held_call f q) (ask_count f) t.text) e t.answered in
-    let asking : IsAsking input fs q = record { sound = r; question = rw e at t.is } in
+    let own : Answered (frames_width fs) (asked fs q) (ask_count (file_of fs)) t.text =
+    subst (λ (f : File). Answered (held_width f) (held_call f q) (ask_count f) t.text) e t.answered in
+    let so : P (round_lines (frames_width fs) 0 t.counts ++ t.text) =
+    subst (λ (f : File). P (round_lines (held_width f) 0 t.counts ++ t.text)) e t.so in
     let all : FileRounds fs q t.counts =
     subst (λ (n : ℕ). RoundsTold (collection_read fs q) (rounds_allowed fs) n t.counts) (ask_entries fs) rounds in
-    (_, answers fs q t.counts t.text asking all (subst (λ (n : ℕ). Answered (asked fs q) n t.text) (ask_entries fs) own), t.so)
+    let each = subst (λ (n : ℕ). Answered (frames_width fs) (asked fs q) n t.text) (ask_entries fs) own in
+    (_, answers fs q t.counts t.text r (rw e at t.is) all each, so)
 told input file P (faulty before n) r e q = (_, fault before n r, q)
 
 -- THEOREM: what is put for what reading finds of an input is the text of the input
@@ -101,3 +105,10 @@ served-unspent None a b o = tt
 served-unspent (Some input) a b o = λ fs s none.
     let w = reply-writes o.is in
     record { text = o.text; is = w; so = record { appends = o.so; unspent = never-spent input o.text w fs s none } }
+
+-- and one that was read whole writes what it wrote
+pub served-former : (known : Option (List ℕ)) (P : List ℕ → Type 0) → IfSome known (λ input. OneOf (Reports IsReply input) P)
+    → IfSome known (λ input. (fs : List Frame) → WasSound input fs → FormerServes input P)
+served-former None P o = tt
+served-former (Some input) P o = λ fs s.
+    record { text = o.text; is = (writes-as-it-did input fs s o.text).0 (reply-writes o.is); so = o.so }

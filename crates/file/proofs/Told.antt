@@ -1,10 +1,13 @@
 -- What stands on the lines that an input writes: each line at its place, and its bytes read back.
-use Rattle.std.specs.Prelude.{ℕ, ◌+◌, ◌*◌, ◌/◌, ◌%◌, ◌^◌, ◌<◌, ◌≤◌, ◌≡◌, ◌⊎◌, refl, Bool, true, false, nat_lt, List, ◌++◌}
-use Rattle.std.specs.Prelude.{if◌then◌else◌, length, min, slice_index}
-use Rattle.std.proofs.Common.{sym, ap, ◌∙◌, subst, length-append, arith}
+use Rattle.std.specs.Prelude.{ℕ, zero, suc, ◌+◌, ◌*◌, ◌/◌, ◌%◌, ◌^◌, ◌<◌, ◌≤◌, ◌≡◌, ◌⊎◌, refl, Bool, true, false, nat_lt}
+use Rattle.std.specs.Prelude.{List, [], ◌∷◌, ◌++◌, if◌then◌else◌, length, min, slice_index}
+use Rattle.std.specs.Int.{bytes_high_first}
+use Rattle.std.specs.List.{flat_map}
+use Rattle.std.proofs.Common.{sym, ap, ◌∙◌, subst, append-nil, length-append, arith}
 use Rattle.std.proofs.lemmas.Bool.Decides.{nat_tests}
 use Rattle.kinds.specs.declared.Answer.{Answer}
 use Rattle.kinds.specs.declared.Ask.{Ask}
+use Rattle.kinds.specs.declared.Counts.{Counts}
 use Rattle.kinds.specs.Answer.{answer_number, answer_count, number-listed}
 use Rattle.meaning.specs.Collection.{WellFormed}
 use Rattle.meaning.specs.Model.{Contradiction}
@@ -21,23 +24,26 @@ use Rattle.reading.specs.declared.Refusal.{Refusal}
 use Rattle.reading.specs.Refusal.{refusal_number}
 use Rattle.streams.specs.Lines.{lines}
 use Rattle.expression.specs.Listed.{Listed}
-use Rattle.reading.specs.Tables.{asks, entries, table, rounds_allowed}
+use Rattle.reading.specs.Tables.{asks, entries, table, declared_by, rounds_allowed}
 use Rattle.reading.specs.File.{file_of, asked}
 use Rattle.reading.proofs.Once.{reading-once}
 use Rattle.reading.proofs.Questions.{question-once}
 use Rattle.reading.proofs.Accepted.{whole-accepted}
 use Rattle.reading.proofs.Listed.{refusals-listed}
-use Rattle.file.specs.Text.{character, text, fault_line, round_line, answer_line, IsInBytes}
+use Rattle.file.specs.Text.{character, characters, text, count_width, fault_line, round_line, answer_line, IsInBytes}
 use Rattle.file.specs.Rounds.{round_lines}
-use Rattle.file.specs.Writes.{Answers, Answered, IsSound, IsAsking, IsFaulty, collection_read, FileRounds, Writes, fault, answers}
-use Rattle.file.specs.Told.{line_in, rounds_in, line_at, round_length, fault_length, answers_length, number_on, count_on}
+use Rattle.file.specs.Writes.{Answers, Answered, IsSound, IsAsking, IsFaulty, collection_read, frames_width, FileRounds, Writes, fault, answers}
+use Rattle.frames.specs.Frames.{number_in}
+use Rattle.file.specs.Told.{line_in, rounds_in, line_at, round_length, answers_length, number_on, count_on}
 use Rattle.file.specs.Told.{Names, TellsOutcome, IsRoundLine, IsFaultLine}
 use Rattle.file.specs.Laws.{AnswersEachAsk, TellsRounds}
 use Rattle.tables.specs.Asks.{read_ask}
 use Rattle.file.proofs.Asks.{small}
-use Rattle.file.proofs.Turns.{line-length, answered-length}
+use Rattle.file.proofs.Widths.{IsWidth, is-width, narrow, rounds-fit, high-long, bytes-at, number-back}
+use Rattle.file.proofs.Widths.{round-length, answer-length, fault-length}
+use Rattle.file.proofs.Turns.{answered-length}
 use Rattle.file.proofs.Lined.{AreLines, both_lines, line_before, line_after, rounds_lined, round-is, answers_lined, answer-at}
-use Rattle.file.proofs.Rounds.{round-length, rounds-length, told-once, none-told, rounds-told, few-told}
+use Rattle.file.proofs.Rounds.{rounds-length, told-once, none-told, rounds-told, few-told}
 use Rattle.file.proofs.WritesLaws.{fault-line}
 use Rattle.file.proofs.Listed.{sound-listed, count-fits}
 
@@ -54,68 +60,92 @@ digit-back d h = by (nat_lt d 10) refl
 byte-back : (x : ℕ) → x < 256 → 16 * digit_of (character (x / 16)) + digit_of (character (x % 16)) ≡ x
 byte-back x h = omega (arith, digit-back (x / 16) (omega arith), digit-back (x % 16) (omega arith))
 
+-- the two characters of byte k of a line of bytes,
+characters-at : (bytes end : List ℕ) (k : ℕ) → k < length bytes
+    → (slice_index (flat_map characters bytes ++ end) (2 * k) ≡ character (slice_index bytes k / 16))
+    × (slice_index (flat_map characters bytes ++ end) (2 * k + 1) ≡ character (slice_index bytes k % 16))
+characters-at [] end k h = absurd (omega arith)
+characters-at (b ∷ bytes) end zero h = (refl, refl)
+characters-at (b ∷ bytes) end (suc k) h =
+    let high : 2 * suc k ≡ suc (suc (2 * k)) = omega arith in
+    let low : 2 * suc k + 1 ≡ suc (suc (2 * k + 1)) = omega arith in
+    rw (low, high) (characters-at bytes end k (omega arith))
+
+characters-long : (bytes end : List ℕ) → length (flat_map characters bytes ++ end) ≡ 2 * length bytes + length end
+characters-long [] end = omega arith
+characters-long (b ∷ bytes) end = omega (arith, characters-long bytes end)
+
+-- so that it is read back
+byte-at : (bytes : List ℕ) (k : ℕ) → k < length bytes → slice_index bytes k < 256 → byte_of (text bytes) k ≡ slice_index bytes k
+unfolding text byte_of
+byte-at bytes k h b =
+    let inside : k < length (flat_map characters bytes ++ 0x0A ∷ []) / 2 = omega (arith, characters-long bytes (0x0A ∷ [])) in
+    let two = characters-at bytes (0x0A ∷ []) k h in
+    let e : nat_lt k (length (flat_map characters bytes ++ 0x0A ∷ []) / 2) ≡ true = grind (arith, nat_tests) in
+    rw (e, two.0, two.1) (byte-back (slice_index bytes k) b)
+
+-- and a number among them
+high-below : (width n i : ℕ) → slice_index (bytes_high_first width n) i < 256
+high-below zero n i = omega arith
+high-below (suc zero) n zero = omega arith
+high-below (suc (suc width)) n zero = omega arith
+high-below (suc width) n (suc i) = high-below width n i
+
+module _ (front rest : List ℕ) {c : Counts} {width : ℕ} (w : IsWidth c width) (n : ℕ) (fits : n < 2 ^ (8 * width)) where
+  abbrev around : List ℕ
+  around = front ++ (bytes_high_first width n ++ rest)
+
+  number-at : number_in width (byte_of (text around)) (length front) ≡ n
+  number-at =
+      number-back (byte_of (text around)) (length front) n w fits (λ i h.
+      let at = bytes-at front rest width n i h in
+      let long = length-append front (bytes_high_first width n ++ rest) in
+      let more = length-append (bytes_high_first width n) rest in
+      byte-at around (length front + i) (omega (arith, long, more, high-long width n)) (omega (arith, at, high-below width n i)) ∙ at)
+
 -- the bytes of a line of an answer
-module _ (r : Answer) where
-  names-is : (ask : Ask) → IsInBytes ask → Names ask (answer_line ask r)
-  unfolding answer_line text byte_of
-  names-is (Pair a b) h = (byte-back 0x8B (omega arith), byte-back a.0 h.0, byte-back b.0 h.1)
-  names-is (From a) h = (byte-back 0x8E (omega arith), byte-back a.0 h)
+module _ (width : ℕ) (r : Answer) where
+  names-is : (ask : Ask) → IsInBytes ask → Names ask (answer_line width ask r)
+  unfolding answer_line
+  names-is (Pair a b) h = (byte-at _ 0 (omega arith) (omega arith), byte-at _ 1 (omega arith) h.0, byte-at _ 2 (omega arith) h.1)
+  names-is (From a) h = (byte-at _ 0 (omega arith) (omega arith), byte-at _ 1 (omega arith) h)
 
-  number-is : (ask : Ask) → number_on (answer_line ask r) ≡ answer_number r
-  unfolding answer_line text byte_of
+  number-is : (ask : Ask) → number_on (answer_line width ask r) ≡ answer_number r
+  unfolding answer_line
   number-is (Pair a b) =
-      let k : byte_of (answer_line (Pair a b) r) 0 ≡ 0x8B = byte-back 0x8B (omega arith) in
-      let n : byte_of (answer_line (Pair a b) r) 3 ≡ answer_number r = byte-back (answer_number r) (omega (arith, number-listed r)) in
-      rw k n
+      let k : byte_of (answer_line width (Pair a b) r) 0 ≡ 0x8B = byte-at _ 0 (omega arith) (omega arith) in
+      rw k (byte-at _ 3 (omega arith) (omega (arith, number-listed r)))
   number-is (From a) =
-      let k : byte_of (answer_line (From a) r) 0 ≡ 0x8E = byte-back 0x8E (omega arith) in
-      let n : byte_of (answer_line (From a) r) 2 ≡ answer_number r = byte-back (answer_number r) (omega (arith, number-listed r)) in
-      rw k n
+      let k : byte_of (answer_line width (From a) r) 0 ≡ 0x8E = byte-at _ 0 (omega arith) (omega arith) in
+      rw k (byte-at _ 2 (omega arith) (omega (arith, number-listed r)))
 
-  count-is : answer_count r < 2 ^ 16 → (ask : Ask) → count_on (answer_line ask r) ≡ answer_count r
-  unfolding answer_line text byte_of
-  count-is h (Pair a b) =
-      let k : byte_of (answer_line (Pair a b) r) 0 ≡ 0x8B = byte-back 0x8B (omega arith) in
-      let high : byte_of (answer_line (Pair a b) r) 4 ≡ answer_count r / 2 ^ 8 = byte-back (answer_count r / 2 ^ 8) (omega arith) in
-      let low : byte_of (answer_line (Pair a b) r) 5 ≡ answer_count r % 2 ^ 8 = byte-back (answer_count r % 2 ^ 8) (omega arith) in
-      rw k (omega (arith, high, low))
-  count-is h (From a) =
-      let k : byte_of (answer_line (From a) r) 0 ≡ 0x8E = byte-back 0x8E (omega arith) in
-      let high : byte_of (answer_line (From a) r) 3 ≡ answer_count r / 2 ^ 8 = byte-back (answer_count r / 2 ^ 8) (omega arith) in
-      let low : byte_of (answer_line (From a) r) 4 ≡ answer_count r % 2 ^ 8 = byte-back (answer_count r % 2 ^ 8) (omega arith) in
-      rw k (omega (arith, high, low))
+  module _ {c : Counts} (w : IsWidth c width) (h : answer_count r < 2 ^ (8 * width)) where
+    count-is : (ask : Ask) → count_on width (answer_line width ask r) ≡ answer_count r
+    unfolding answer_line
+    count-is (Pair a b) =
+        let k : byte_of (answer_line width (Pair a b) r) 0 ≡ 0x8B = byte-at _ 0 (omega arith) (omega arith) in
+        let n = number-at (0x8B ∷ a.0 ∷ b.0 ∷ answer_number r ∷ []) [] w (answer_count r) h in
+        rw k (rw (append-nil (bytes_high_first width (answer_count r))) at n)
+    count-is (From a) =
+        let k : byte_of (answer_line width (From a) r) 0 ≡ 0x8E = byte-at _ 0 (omega arith) (omega arith) in
+        let n = number-at (0x8E ∷ a.0 ∷ answer_number r ∷ []) [] w (answer_count r) h in
+        rw k (rw (append-nil (bytes_high_first width (answer_count r))) at n)
 
 -- and of a line of a fault
 module _ (line : ℕ) (r : Refusal) where
-  fault-kind : byte_of (fault_line line (refusal_number r)) 0 ≡ 0x8F
-  unfolding fault_line text byte_of
-  fault-kind = byte-back 0x8F (omega arith)
-
-  fault-high : line < 2 ^ 16 → byte_of (fault_line line (refusal_number r)) 1 ≡ line / 2 ^ 8
-  unfolding fault_line text byte_of
-  fault-high h = byte-back (line / 2 ^ 8) (omega arith)
-
-  fault-low : byte_of (fault_line line (refusal_number r)) 2 ≡ line % 2 ^ 8
-  unfolding fault_line text byte_of
-  fault-low = byte-back (line % 2 ^ 8) (omega arith)
-
   fault-number : number_on (fault_line line (refusal_number r)) ≡ refusal_number r
-  unfolding fault_line text byte_of
+  unfolding fault_line
   fault-number =
       let l = refusals-listed r in
-      let k : byte_of (fault_line line (refusal_number r)) 0 ≡ 0x8F = byte-back 0x8F (omega arith) in
-      let n : byte_of (fault_line line (refusal_number r)) 3 ≡ refusal_number r = byte-back (refusal_number r) (omega (arith, l.1)) in
-      rw k n
-
-  fault-long : length (fault_line line (refusal_number r)) ≡ fault_length
-  unfolding fault_line text
-  fault-long = refl
+      let k : byte_of (fault_line line (refusal_number r)) 0 ≡ 0x8F = byte-at _ 0 (omega arith) (omega arith) in
+      rw k (byte-at _ 3 (omega arith) (omega (arith, l.1)))
 
   fault-is : line < 2 ^ 16 → IsFaultLine line r (fault_line line (refusal_number r))
+  unfolding fault_line
   fault-is h = record {
-    long = fault-long;
-    kind = fault-kind;
-    place = omega (arith, fault-high h, fault-low);
+    long = fault-length line (refusal_number r);
+    kind = byte-at _ 0 (omega arith) (omega arith);
+    place = number-at (0x8F ∷ []) (refusal_number r ∷ []) narrow line h;
     refused = fault-number;
     listed =
         let l = refusals-listed r in
@@ -123,34 +153,19 @@ module _ (line : ℕ) (r : Refusal) where
   }
 
 -- and of a line of a round
-module _ (round marks : ℕ) where
-  round-kind : byte_of (round_line round marks) 0 ≡ 0x8A
-  unfolding round_line text byte_of
-  round-kind = byte-back 0x8A (omega arith)
-
-  round-high : round < 2 ^ 16 → byte_of (round_line round marks) 1 ≡ round / 2 ^ 8
-  unfolding round_line text byte_of
-  round-high h = byte-back (round / 2 ^ 8) (omega arith)
-
-  round-low : byte_of (round_line round marks) 2 ≡ round % 2 ^ 8
-  unfolding round_line text byte_of
-  round-low = byte-back (round % 2 ^ 8) (omega arith)
-
-  marks-high : marks < 2 ^ 16 → byte_of (round_line round marks) 3 ≡ marks / 2 ^ 8
-  unfolding round_line text byte_of
-  marks-high h = byte-back (marks / 2 ^ 8) (omega arith)
-
-  marks-low : byte_of (round_line round marks) 4 ≡ marks % 2 ^ 8
-  unfolding round_line text byte_of
-  marks-low = byte-back (marks % 2 ^ 8) (omega arith)
-
-  round-line-is : round < 2 ^ 16 → marks < 2 ^ 16 → IsRoundLine round marks (round_line round marks)
-  round-line-is h k = record {
-    long = round-length round marks;
-    kind = round-kind;
-    round = omega (arith, round-high h, round-low);
-    marks = omega (arith, marks-high k, marks-low);
-  }
+module _ {c : Counts} {width : ℕ} (w : IsWidth c width) (round marks : ℕ) where
+  round-line-is : round < 2 ^ (8 * width) → marks < 2 ^ (8 * width) → IsRoundLine width round marks (round_line width round marks)
+  unfolding round_line
+  round-line-is h k =
+      let front = 0x8A ∷ bytes_high_first width round in
+      let e : length front ≡ 1 + width = omega (arith, high-long width round) in
+      let n = number-at front [] w marks k in
+      record {
+        long = round-length w round marks;
+        kind = byte-at _ 0 (omega arith) (omega arith);
+        round = number-at (0x8A ∷ []) (bytes_high_first width marks) w round h;
+        marks = rw (e, append-nil (bytes_high_first width marks)) at n;
+      }
 
 module _ {input text : List ℕ} (w : Writes input text) where
   -- the lines for a sound input's rounds and asks
@@ -158,19 +173,19 @@ module _ {input text : List ℕ} (w : Writes input text) where
     pub counts : List ℕ
     pub told : FileRounds fs q counts
     pub out : List ℕ
-    pub lines-are : Answered (asked fs q) (entries asks fs) out
-    pub whole : x ≡ round_lines 0 counts ++ out
+    pub lines-are : Answered (frames_width fs) (asked fs q) (entries asks fs) out
+    pub whole : x ≡ round_lines (frames_width fs) 0 counts ++ out
 
   pub question-of : (fs : List Frame) → IsSound input fs → (q : Listed) × IsAsking input fs q × IsAnswered fs q text
   question-of fs s = by w
     where
       by : {x : List ℕ} → Writes input x → (q : Listed) × IsAsking input fs q × IsAnswered fs q x
       by (fault before r h) = let e = reading-once h s in absurd cc
-      by (answers gs q counts out h t a) =
-          let e = reading-once h.sound s in
+      by (answers gs q counts out h is t a) =
+          let e = reading-once h s in
           let d : gs ≡ fs = cc in
-          subst (λ (f : List Frame). (q : Listed) × IsAsking input f q × IsAnswered f q (round_lines 0 counts ++ out)) d
-          (q, h, record { counts = counts; told = t; out = out; lines-are = a; whole = refl })
+          subst (λ (f : List Frame). (q : Listed) × IsAsking input f q × IsAnswered f q (round_lines (frames_width gs) 0 counts ++ out)) d
+          (q, record { sound = h; question = is }, record { counts = counts; told = t; out = out; lines-are = a; whole = refl })
 
   module _ (fs : List Frame) (q : Listed) (s : IsAsking input fs q) where
     answered : IsAnswered fs q text
@@ -179,33 +194,37 @@ module _ {input text : List ℕ} (w : Writes input text) where
         subst (λ (r : Listed). IsAnswered fs r text) (question-once (file_of fs) a.0 q a.1.question s.question) a.2
 
     answers-lined : AreLines answered.out (entries asks fs)
-    answers-lined = answers_lined (asked fs q) (entries asks fs) answered.out answered.lines-are
+    answers-lined = answers_lined (frames_width fs) (asked fs q) (entries asks fs) answered.out answered.lines-are
+
+    wide : IsWidth (declared_by fs) (frames_width fs)
+    wide = is-width (declared_by fs)
 
     lined : AreLines text (length answered.counts + entries asks fs)
     lined = subst (λ (l : List ℕ). AreLines l (length answered.counts + entries asks fs)) (sym answered.whole)
-        (both_lines (rounds_lined 0 answered.counts) answers-lined)
+        (both_lines (rounds_lined (frames_width fs) 0 answered.counts) answers-lined)
 
     the-rounds : rounds_in (entries asks fs) text ≡ length answered.counts
     the-rounds = omega (arith, lined.many)
 
     -- line k of a sound input's answers is the library's outcome for ask k
-    pub line-answers : (k : ℕ) → k < entries asks fs → Answers (asked fs q k) (line_at (entries asks fs) text k)
+    pub line-answers : (k : ℕ) → k < entries asks fs → Answers (frames_width fs) (asked fs q k) (line_at (entries asks fs) text k)
     line-answers k h =
         let here : line_at (entries asks fs) text k ≡ line_in answered.out k =
         ap (λ (n : ℕ). line_in text (n + k)) the-rounds ∙ ap (λ (l : List ℕ). line_in l (length answered.counts + k)) answered.whole
-        ∙ line_after (rounds_lined 0 answered.counts) answered.out k in
-        subst (Answers (asked fs q k)) (sym here) (answer-at (asked fs q) (entries asks fs) answered.out answered.lines-are k h)
+        ∙ line_after (rounds_lined (frames_width fs) 0 answered.counts) answered.out k in
+        subst (Answers (frames_width fs) (asked fs q k)) (sym here) (answer-at (frames_width fs) (asked fs q) (entries asks fs) answered.out answered.lines-are k h)
 
     pub text-long : (counts : List ℕ) → FileRounds fs q counts
-        → length text ≡ round_length * length counts + answers_length (read_ask (table asks fs)) (entries asks fs)
+        → length text ≡ round_length (frames_width fs) * length counts
+        + answers_length (frames_width fs) (read_ask (table asks fs)) (entries asks fs)
     text-long counts t =
         omega (
           arith,
           ap (λ (l : List ℕ). length l) answered.whole,
-          length-append (round_lines 0 answered.counts) answered.out,
-          rounds-length 0 answered.counts,
-          ap (λ (l : List ℕ). length l) (told-once t answered.told),
-          answered-length (asked fs q) (entries asks fs) answered.out answered.lines-are,
+          length-append (round_lines (frames_width fs) 0 answered.counts) answered.out,
+          rounds-length (frames_width fs) wide 0 answered.counts,
+          ap (λ (l : List ℕ). round_length (frames_width fs) * length l) (told-once t answered.told),
+          answered-length wide (asked fs q) (entries asks fs) answered.out answered.lines-are,
         )
 
     -- as many lines as rounds are told and asks are answered
@@ -226,17 +245,19 @@ module _ {input text : List ℕ} (w : Writes input text) where
       added : RoundCounts (lite (collection_read fs q)) (min n (rounds_allowed fs)) answered.counts
       added = rounds-told answered.told some sane n need
 
-      round-told : (k : ℕ) → k < min n (rounds_allowed fs) → IsRoundLine (k + 1) (slice_index answered.counts k) (line_in text k)
+      round-told : (k : ℕ) → k < min n (rounds_allowed fs)
+          → IsRoundLine (frames_width fs) (k + 1) (slice_index answered.counts k) (line_in text k)
       round-told k h =
           let i : k < length answered.counts = omega (arith, added.long, h) in
-          let few = lite-few (collection_read fs q) well k _ (added.each k h) in
-          let here : line_in text k ≡ round_line (0 + k + 1) (slice_index answered.counts k) =
-          ap (λ (l : List ℕ). line_in l k) answered.whole ∙ line_before (rounds_lined 0 answered.counts) answered.out k i
-          ∙ round-is 0 answered.counts k i in
+          let few = rounds-fit (declared_by fs) well.counts _ (lite-few (collection_read fs q) well k _ (added.each k h)) in
+          let late = rounds-fit (declared_by fs) well.counts (k + 1) (omega (arith, i, few-told answered.told (λ _. well))) in
+          let here : line_in text k ≡ round_line (frames_width fs) (0 + k + 1) (slice_index answered.counts k) =
+          ap (λ (l : List ℕ). line_in l k) answered.whole ∙ line_before (rounds_lined (frames_width fs) 0 answered.counts) answered.out k i
+          ∙ round-is (frames_width fs) 0 answered.counts k i in
           let e : 0 + k + 1 ≡ k + 1 = omega arith in
-          subst (IsRoundLine (k + 1) (slice_index answered.counts k))
-          (sym (here ∙ ap (λ r. round_line r (slice_index answered.counts k)) e))
-          (round-line-is (k + 1) (slice_index answered.counts k) (omega (arith, i, few-told answered.told (λ _. well))) few)
+          subst (IsRoundLine (frames_width fs) (k + 1) (slice_index answered.counts k))
+          (sym (here ∙ ap (λ r. round_line (frames_width fs) r (slice_index answered.counts k)) e))
+          (round-line-is wide (k + 1) (slice_index answered.counts k) late few)
 
       pub rounds-are-told : TellsRounds fs (collection_read fs q) (min n (rounds_allowed fs)) text
       rounds-are-told = record {
@@ -256,7 +277,7 @@ module _ {input text : List ℕ} (w : Writes input text) where
           let d : bs ≡ before = cc in
           let f : q ≡ r = cc in
           rw (d, f) refl
-      by (answers gs q counts out h t a) = let e = reading-once h.sound s in absurd cc
+      by (answers gs q counts out h is t a) = let e = reading-once h s in absurd cc
 
   -- THEOREM: a faulty input writes the line of its first faulty line's number, and the number that refuses that line
   pub fault-told : (before : List Frame) (r : Refusal) → IsFaulty input before r → IsFaultLine (length before + 1) r text
@@ -265,26 +286,29 @@ module _ {input text : List ℕ} (w : Writes input text) where
       (fault-is (length before + 1) r (omega (arith, fault-line input before r s)))
 
 -- what stands on a line of an answer to a call
-module _ {call : Call} {line : List ℕ} (w : Answers call line) where
+module _ {width : ℕ} {call : Call} {line : List ℕ} (w : Answers width call line) where
   pub number-of : number_on line ≡ answer_number w.answer
-  number-of = ap number_on w.written ∙ number-is w.answer call.ask
+  number-of = ap number_on w.written ∙ number-is width w.answer call.ask
 
-  module _ (s : Sound call) where
-    pub names-of : Names call.ask line
-    names-of = subst (Names call.ask) (sym w.written) (names-is w.answer call.ask (small call.counts s.counts.individuals call.ask s.ask))
+  pub names-of : Sound call → Names call.ask line
+  names-of s = subst (Names call.ask) (sym w.written) (names-is width w.answer call.ask (small call.counts s.counts.individuals call.ask s.ask))
 
-    pub tells-outcome : TellsOutcome call line
-    tells-outcome = record {
-      answer = w.answer;
-      outcome = w.outcome;
-      told = record {
-        long = ap (λ (l : List ℕ). length l) w.written ∙ line-length call.ask w.answer;
-        names = names-of;
-        number = number-of;
-        count = ap count_on w.written ∙ count-is w.answer (count-fits call s w.outcome.2) call.ask;
-      };
-      listed = omega (arith, number-of, sound-listed call s w.outcome.2);
-    }
+module _ {call : Call} {line : List ℕ} (w : Answers (count_width call.counts) call line) (s : Sound call) where
+  pub tells-outcome : TellsOutcome call line
+  tells-outcome =
+      let width = count_width call.counts in
+      let wide = is-width call.counts in
+      record {
+        answer = w.answer;
+        outcome = w.outcome;
+        told = record {
+          long = ap (λ (l : List ℕ). length l) w.written ∙ answer-length wide call.ask w.answer;
+          names = names-of w s;
+          number = number-of w;
+          count = ap (count_on width) w.written ∙ count-is width w.answer wide (count-fits call s w.outcome.2) call.ask;
+        };
+        listed = omega (arith, number-of w, sound-listed call s w.outcome.2);
+      }
 
 module _ {input text : List ℕ} (w : Writes input text) (fs : List Frame) (s : IsSound input fs) where
   -- THEOREM: a sound input writes a line for each ask, which tells its outcome, with an answer from 0 to 3

@@ -13,7 +13,7 @@ use Rattle.reading.specs.declared.Refusal.{Refusal}
 use Rattle.reading.specs.Tables.{asks, entries, rounds_allowed}
 use Rattle.reading.specs.File.{IsQuestionOf, asked}
 use Rattle.file.specs.declared.TheConstants.{MOST_TEXT}
-use Rattle.file.specs.Writes.{IsSound, IsAsking, IsFaulty, collection_read, SameButDeeds, Writes}
+use Rattle.file.specs.Writes.{IsSound, IsAsking, IsFaulty, collection_read, frames_width, SameButDeeds, Writes}
 use Rattle.file.specs.Serves.{Serves}
 use Rattle.streams.specs.Lines.{lines}
 use Rattle.file.specs.Told.{line_in, rounds_in, line_at, TellsOutcome, IsRoundLine, IsFaultLine}
@@ -26,9 +26,9 @@ WritesOnce = (input text out : List ℕ) → Writes input text → Writes input 
 abbrev pub TextFits : Type 0
 TextFits = (input text : List ℕ) → Writes input text → length text ≤ MOST_TEXT
 
--- the first 467,155 bytes of an input, or more of them, write what the whole writes
+-- the first 1,010,665 bytes of an input, or more of them, write what the whole writes
 abbrev pub StartWrites : Type 0
-StartWrites = (input : List ℕ) (n : ℕ) → 467155 ≤ n → (text : List ℕ)
+StartWrites = (input : List ℕ) (n : ℕ) → 1010665 ≤ n → (text : List ℕ)
     → Writes (take n input) text ↔ Writes input text
 
 -- two inputs that differ only in deed numbers write the same
@@ -57,7 +57,7 @@ pub record TellsRounds
   pub counts : List ℕ
   pub added : RoundCounts (lite 𝓒) n counts
   pub each : (k : ℕ) → k < n
-      → IsRoundLine (k + 1) (slice_index counts k) (line_in text k)
+      → IsRoundLine (frames_width fs) (k + 1) (slice_index counts k) (line_in text k)
   pub stand : (m : ℕ) → Stands (lite 𝓒) n m → m ≡ sum counts + first_marks 𝓒.counts
 
 -- an input that is read whole, asks something and is no contradiction tells so of rounds 1 to the
@@ -83,10 +83,10 @@ FaultTold = (input text : List ℕ) → Writes input text
     → (before : List Frame) (r : Refusal) → IsFaulty input before r
     → IsFaultLine (length before + 1) r text
 
--- and that is at most 7,187
+-- and that is at most 7,715
 abbrev pub FaultsNear : Type 0
 FaultsNear = (input : List ℕ) (before : List Frame) (r : Refusal) → IsFaulty input before r
-    → length before + 1 ≤ 7187
+    → length before + 1 ≤ 7715
 
 -- a text holds n characters of what is written, and then what it held
 pub record IsWritten (input old : List ℕ) (n : ℕ) (text : List ℕ) : Type 0 where

@@ -2,6 +2,7 @@ pub mod Text
 pub mod Rounds
 pub mod Writes
 pub mod Serves
+pub mod Former
 pub mod Replying
 pub mod Told
 pub mod Demands

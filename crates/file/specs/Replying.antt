@@ -11,13 +11,17 @@ use Rattle.reading.specs.declared.File.{File}
 use Rattle.reading.specs.declared.Fault.{Fault}
 use Rattle.reading.specs.Refusal.{refusal_number}
 use Rattle.reading.specs.File.{IsQuestion, lent_tables, LendsTables, allowance_in, held_call}
-use Rattle.file.specs.Text.{fault_line}
+use Rattle.file.specs.Text.{count_width, fault_line}
 use Rattle.file.specs.Rounds.{round_lines, RoundsTold}
 use Rattle.file.specs.Writes.{Answered}
 
 module _ (file : File) where
   abbrev pub ask_count : ℕ
   ask_count = length file.asks / ask_width
+
+  -- how many bytes a count of it has
+  abbrev pub held_width : ℕ
+  held_width = count_width file.counts
 
   -- what the library is lent of it: its tables with its question, and its allowance
   pub record IsLentOf (lent : Lent) : Type 0 where
@@ -40,7 +44,7 @@ module _ (file : File) where
     pub is : IsQuestion file question
     pub counts : List ℕ
     pub told : HeldRounds question counts
-    pub so : P (round_lines 0 counts)
+    pub so : P (round_lines held_width 0 counts)
 
   -- and entry k is the answer to ask k
   pub record AnswersEach (answers : List Answer) (P : List ℕ → Type 0) : Type 0 where
@@ -55,8 +59,8 @@ module _ (file : File) where
     pub counts : List ℕ
     pub told : HeldRounds question counts
     pub text : List ℕ
-    pub answered : Answered (held_call file question) ask_count text
-    pub so : P (round_lines 0 counts ++ text)
+    pub answered : Answered held_width (held_call file question) ask_count text
+    pub so : P (round_lines held_width 0 counts ++ text)
 
 -- P of the text for what reading found
 abbrev pub Tells : File → Result (Unit {0}) Fault → (List ℕ → Type 0) → Type 0

@@ -8,10 +8,11 @@ use Rattle.theory.specs.Marks.{RoundCounts}
 use Rattle.file.specs.Text.{round_line}
 
 -- the lines of some rounds, each with the number of marks that it added; `before` rounds came before the
--- first of them
-unfoldable pub round_lines : ℕ → List ℕ → List ℕ
-round_lines before [] = []
-round_lines before (m ∷ counts) = round_line (suc before) m ++ round_lines (suc before) counts
+-- first of them, and a count has so many bytes
+unfoldable pub round_lines : ℕ → ℕ → List ℕ → List ℕ
+round_lines width before [] = []
+round_lines width before (m ∷ counts) =
+    round_line width (suc before) m ++ round_lines width (suc before) counts
 
 -- how many marks each round added, of the rounds that are told: of a file without an ask and of a
 -- contradiction none, else rounds 1 to the lesser of the rounds needed and the allowance

@@ -1,11 +1,15 @@
 -- The lines that are written (docs/RULES.md, section 8): two characters a byte, capital letters,
 -- and 0A at the end.
-use Rattle.std.specs.Prelude.{ℕ, ◌+◌, ◌/◌, ◌%◌, ◌^◌, ◌<◌, List, [], ◌∷◌, ◌++◌, nat_lt, if◌then◌else◌}
+use Rattle.std.specs.Prelude.{ℕ, ◌+◌, ◌/◌, ◌%◌, ◌^◌, ◌<◌, List, [], ◌∷◌, ◌++◌, nat_lt, nat_le, if◌then◌else◌}
+use Rattle.std.specs.Int.{bytes_high_first}
 use Rattle.std.specs.List.{flat_map}
+use Rattle.kinds.specs.declared.Counts.{Counts}
 use Rattle.kinds.specs.declared.Answer.{Answer}
 use Rattle.kinds.specs.Answer.{answer_number, answer_count}
 use Rattle.kinds.specs.declared.Ask.{Ask}
 use Rattle.kinds.specs.declared.Ask.TheVariants.{Pair, From}
+use Rattle.file.specs.declared.text.Width.{Width}
+use Rattle.file.specs.declared.text.Width.TheVariants.{Two, Four}
 
 -- the character of a digit: 0–9, then A–F
 abbrev pub character : ℕ → ℕ
@@ -19,23 +23,34 @@ characters byte = character (byte / 16) ∷ character (byte % 16) ∷ []
 unfoldable pub text : List ℕ → List ℕ
 text bytes = flat_map characters bytes ++ 0x0A ∷ []
 
--- a number in two bytes, high byte first
-abbrev pub two_bytes : ℕ → List ℕ
-two_bytes number = number / 2 ^ 8 ∷ number % 2 ^ 8 ∷ []
+-- the most states that a file declares whose counts have two bytes
+abbrev pub few_states : ℕ
+few_states = 16
+
+-- how many bytes a count has, and the number of a round, where line 1 declares so much
+unfoldable pub count_width : Counts → ℕ
+count_width c = if nat_le c.states few_states then 2 else 4
+
+-- how many bytes a width says
+abbrev pub bytes_of : Width → ℕ
+bytes_of Two = 2
+bytes_of Four = 4
 
 -- 8F, line number (two bytes), number
 unfoldable pub fault_line : ℕ → ℕ → List ℕ
-fault_line line number = text (0x8F ∷ two_bytes line ++ number ∷ [])
+fault_line line number = text (0x8F ∷ bytes_high_first 2 line ++ number ∷ [])
 
--- 8A, round (two bytes), marks that it added (two bytes)
-unfoldable pub round_line : ℕ → ℕ → List ℕ
-round_line round marks = text (0x8A ∷ two_bytes round ++ two_bytes marks)
+-- 8A, round, marks that it added, each as wide as a count
+unfoldable pub round_line : ℕ → ℕ → ℕ → List ℕ
+round_line width round marks =
+    text (0x8A ∷ bytes_high_first width round ++ bytes_high_first width marks)
 
--- 8B, first, second, answer, count (two bytes); and of one named end 8E, individual, answer, count
-unfoldable pub answer_line : Ask → Answer → List ℕ
-answer_line (Pair a b) r =
-    text (0x8B ∷ a.0 ∷ b.0 ∷ answer_number r ∷ two_bytes (answer_count r))
-answer_line (From a) r = text (0x8E ∷ a.0 ∷ answer_number r ∷ two_bytes (answer_count r))
+-- 8B, first, second, answer, count; and of one named end 8E, individual, answer, count
+unfoldable pub answer_line : ℕ → Ask → Answer → List ℕ
+answer_line width (Pair a b) r =
+    text (0x8B ∷ a.0 ∷ b.0 ∷ answer_number r ∷ bytes_high_first width (answer_count r))
+answer_line width (From a) r =
+    text (0x8E ∷ a.0 ∷ answer_number r ∷ bytes_high_first width (answer_count r))
 
 -- an ask's individuals go into a byte each
 abbrev pub IsInBytes : Ask → Type 0

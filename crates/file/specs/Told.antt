@@ -1,6 +1,6 @@
 -- What stands in a text that is written (docs/RULES.md, section 8), read back line by line and byte
 -- by byte.
-use Rattle.std.specs.Prelude.{ℕ, zero, suc, ◌+◌, ◌-◌, ◌<◌, ◌≤◌, ◌≡◌, ◌≢◌, List, [], ◌∷◌, ◌++◌, nat_eq, if◌then◌else◌, length, slice_index_or}
+use Rattle.std.specs.Prelude.{ℕ, zero, suc, ◌+◌, ◌-◌, ◌*◌, ◌<◌, ◌≤◌, ◌≡◌, ◌≢◌, List, [], ◌∷◌, ◌++◌, nat_eq, if◌then◌else◌, length, slice_index_or}
 use Rattle.kinds.specs.declared.Answer.{Answer}
 use Rattle.kinds.specs.Answer.{answer_number, answer_count}
 use Rattle.kinds.specs.declared.Ask.{Ask}
@@ -9,10 +9,11 @@ use Rattle.meaning.specs.Lent.{Call}
 use Rattle.meaning.specs.Outcome.{Outcome}
 use Rattle.streams.specs.Lines.{lines}
 use Rattle.frames.specs.Digits.{byte_of}
-use Rattle.frames.specs.Frames.{two_bytes}
+use Rattle.frames.specs.Frames.{number_in, two_bytes}
 use Rattle.reading.specs.declared.Refusal.{Refusal}
 use Rattle.reading.specs.Refusal.{refusal_number}
 use Rattle.reading.specs.Laws.{IsListed}
+use Rattle.file.specs.Text.{count_width}
 
 -- line k of a text, counted from 0, with its end
 abbrev pub line_in : List ℕ → ℕ → List ℕ
@@ -26,33 +27,33 @@ rounds_in asks text = length (lines text) - asks
 abbrev pub line_at : ℕ → List ℕ → ℕ → List ℕ
 line_at asks text k = line_in text (rounds_in asks text + k)
 
--- the characters of a line of a round, its end among them; of a fault; of an answer; and of the first
--- n answers
-abbrev pub round_length : ℕ
-round_length = 11
+-- the characters of a line of a round, its end among them, where a count has so many bytes; of a
+-- fault; of an answer; and of the first n answers
+abbrev pub round_length : ℕ → ℕ
+round_length width = 2 * (1 + 2 * width) + 1
 
 abbrev pub fault_length : ℕ
 fault_length = 9
 
-abbrev pub answer_length : Ask → ℕ
-answer_length (Pair a b) = 13
-answer_length (From a) = 11
+abbrev pub answer_length : ℕ → Ask → ℕ
+answer_length width (Pair a b) = 2 * (4 + width) + 1
+answer_length width (From a) = 2 * (3 + width) + 1
 
-unfoldable pub answers_length : (ℕ → Ask) → ℕ → ℕ
-answers_length ask zero = 0
-answers_length ask (suc n) = answers_length ask n + answer_length (ask n)
+unfoldable pub answers_length : ℕ → (ℕ → Ask) → ℕ → ℕ
+answers_length width ask zero = 0
+answers_length width ask (suc n) = answers_length width ask n + answer_length width (ask n)
 
 -- where the number stands on a line, an answer's or a fault's: at byte 3, and where one end is named
 -- at byte 2
 abbrev pub number_place : List ℕ → ℕ
 number_place line = if nat_eq (byte_of line 0) 0x8E then 2 else 3
 
--- the number, and behind it the count on a line of an answer, in two bytes, high byte first
+-- the number, and behind it the count on a line of an answer, high byte first
 abbrev pub number_on : List ℕ → ℕ
 number_on line = byte_of line (number_place line)
 
-abbrev pub count_on : List ℕ → ℕ
-count_on line = two_bytes (byte_of line) (number_place line + 1)
+abbrev pub count_on : ℕ → List ℕ → ℕ
+count_on width line = number_in width (byte_of line) (number_place line + 1)
 
 -- of so many answers none has number 3
 abbrev pub IsUnspent : ℕ → List ℕ → Type 0
@@ -64,25 +65,26 @@ Names (Pair a b) line = (byte_of line 0 ≡ 0x8B) × (byte_of line 1 ≡ a.0) ×
 Names (From a) line = (byte_of line 0 ≡ 0x8E) × (byte_of line 1 ≡ a.0)
 
 -- a line of an answer: what was asked, the answer's number and its count
-pub record IsAnswerLine (ask : Ask) (answer : Answer) (line : List ℕ) : Type 0 where
-  pub long : length line ≡ answer_length ask
+pub record IsAnswerLine
+    (width : ℕ) (ask : Ask) (answer : Answer) (line : List ℕ) : Type 0 where
+  pub long : length line ≡ answer_length width ask
   pub names : Names ask line
   pub number : number_on line ≡ answer_number answer
-  pub count : count_on line ≡ answer_count answer
+  pub count : count_on width line ≡ answer_count answer
 
 -- a line tells the outcome of a call of the library, of which the number is one of 0 to 3
 pub record TellsOutcome (call : Call) (line : List ℕ) : Type 0 where
   pub answer : Answer
   pub outcome : (area spare : List ℕ) × Outcome call answer area spare
-  pub told : IsAnswerLine call.ask answer line
+  pub told : IsAnswerLine (count_width call.counts) call.ask answer line
   pub listed : number_on line ≤ 3
 
--- a line of a round: 8A, its number, and how many marks it added, in two bytes each
-pub record IsRoundLine (number count : ℕ) (line : List ℕ) : Type 0 where
-  pub long : length line ≡ round_length
+-- a line of a round: 8A, its number, and how many marks it added, each as wide as a count
+pub record IsRoundLine (width number count : ℕ) (line : List ℕ) : Type 0 where
+  pub long : length line ≡ round_length width
   pub kind : byte_of line 0 ≡ 0x8A
-  pub round : two_bytes (byte_of line) 1 ≡ number
-  pub marks : two_bytes (byte_of line) 3 ≡ count
+  pub round : number_in width (byte_of line) 1 ≡ number
+  pub marks : number_in width (byte_of line) (1 + width) ≡ count
 
 -- a line of a fault: 8F, the number of the faulty line in two bytes, and the number that refuses it,
 -- one of 4 to 14, but never 7

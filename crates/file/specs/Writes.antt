@@ -12,22 +12,22 @@ use Rattle.reading.specs.declared.Refusal.{Refusal}
 use Rattle.reading.specs.Refusal.{refusal_number}
 use Rattle.reading.specs.Tables.{asks, entries, declared_by, rounds_allowed}
 use Rattle.reading.specs.File.{IsQuestionOf, tables_of, asked}
-use Rattle.reading.specs.Reading.{Reading, faulty, sound}
+use Rattle.reading.specs.Reading.{Verdict, faulty, sound, Reading}
 use Rattle.reading.specs.Deeds.{SameLine, InStep}
-use Rattle.file.specs.Text.{fault_line, answer_line}
+use Rattle.file.specs.Text.{count_width, fault_line, answer_line}
 use Rattle.file.specs.Rounds.{round_lines, RoundsTold}
 
--- the line for a call of the library: its outcome, and what it asks
-pub record Answers (call : Call) (line : List ℕ) : Type 0 where
+-- the line for a call of the library, where a count has so many bytes: its outcome, and what it asks
+pub record Answers (width : ℕ) (call : Call) (line : List ℕ) : Type 0 where
   pub answer : Answer
   pub outcome : (area spare : List ℕ) × Outcome call answer area spare
-  pub written : line ≡ answer_line call.ask answer
+  pub written : line ≡ answer_line width call.ask answer
 
 -- the lines for the first k calls, in their order
-unfoldable pub Answered : (ℕ → Call) → ℕ → List ℕ → Type 0
-Answered call zero out = out ≡ []
-Answered call (suc k) out =
-    (x y : List ℕ) × Answered call k x × Answers (call k) y × (out ≡ x ++ y)
+unfoldable pub Answered : ℕ → (ℕ → Call) → ℕ → List ℕ → Type 0
+Answered width call zero out = out ≡ []
+Answered width call (suc k) out =
+    (x y : List ℕ) × Answered width call k x × Answers width (call k) y × (out ≡ x ++ y)
 
 -- an input is read whole, as these frames
 abbrev pub IsSound : List ℕ → List Frame → Type 0
@@ -55,11 +55,21 @@ IsFaulty input before r = Reading [] (lines input) (faulty before r)
 abbrev pub SameButDeeds : List ℕ → List ℕ → Type 0
 SameButDeeds input other = InStep SameLine (lines input) (lines other)
 
--- the number of the first faulty line, from 1, and the number that refuses it; or the rounds, and
--- then each ask's answer
-pub data Writes (input : List ℕ) : List ℕ → Type 0 where
-  fault : (before : List Frame) (r : Refusal) → IsFaulty input before r
-      → Writes input (fault_line (length before + 1) (refusal_number r))
-  answers : (fs : List Frame) (q : Listed) (counts out : List ℕ) → IsAsking input fs q
-      → FileRounds fs q counts → Answered (asked fs q) (entries asks fs) out
-      → Writes input (round_lines 0 counts ++ out)
+-- how many bytes a count of some frames has
+abbrev pub frames_width : List Frame → ℕ
+frames_width fs = count_width (declared_by fs)
+
+-- what is written by a reading of the lines, and by how wide the counts of some frames are: the
+-- number of the first faulty line, from 1, and the number that refuses it; or the rounds, and then
+-- each ask's answer
+pub data WritesBy (Reads : List (List ℕ) → Verdict → Type 0) (width : List Frame → ℕ)
+    (input : List ℕ) : List ℕ → Type 0 where
+  fault : (before : List Frame) (r : Refusal) → Reads (lines input) (faulty before r)
+      → WritesBy Reads width input (fault_line (length before + 1) (refusal_number r))
+  answers : (fs : List Frame) (q : Listed) (counts out : List ℕ) → Reads (lines input) (sound fs)
+      → IsQuestionOf fs q → FileRounds fs q counts
+      → Answered (width fs) (asked fs q) (entries asks fs) out
+      → WritesBy Reads width input (round_lines (width fs) 0 counts ++ out)
+
+abbrev pub Writes : List ℕ → List ℕ → Type 0
+Writes = WritesBy (Reading []) frames_width

@@ -6,8 +6,9 @@ ghost use Rattle.std.specs.Prelude.{◌≡◌, ◌+◌, ◌*◌, ◌<◌, ◌≤
 ghost use Rattle.std.specs.Io.KnownBytes.{Keeps, Appends};
 ghost use Rattle.std.specs.declared.io.Error.{Error};
 ghost use Rattle.streams.specs.Takes.{TakesStart};
-ghost use Rattle.file.specs.Writes.{IsSound, IsAsking, IsFaulty, FileRounds, SameButDeeds, Writes};
-ghost use Rattle.file.specs.Serves.{Serves, AppendsUnspent};
+ghost use Rattle.file.specs.Writes.{IsSound, IsAsking, IsFaulty, frames_width, FileRounds, SameButDeeds, Writes};
+ghost use Rattle.file.specs.Serves.{Serves, AppendsUnspent, FormerServes};
+ghost use Rattle.file.specs.Former.{FormerWrites, WasSound};
 ghost use Rattle.streams.specs.Lines.{lines};
 ghost use Rattle.file.specs.Told.{round_length, answers_length, line_at, number_on, IsUnspent};
 ghost use Rattle.tables.specs.Asks.{read_ask};
@@ -49,8 +50,9 @@ pub fn answer(input: &[u8], text: &mut [u8; MOST_TEXT]) -> usize
     ensures only { (out : List ℕ) → Writes input.now out → out ≡ take result text.new }
     ensures long { (fs : List Frame) (q : Listed) → IsAsking input.now fs q
         → (counts : List ℕ) → FileRounds fs q counts
-        → result ≡ round_length * length counts
-        + answers_length (read_ask (table asks fs)) (entries asks fs) }
+        → let width = frames_width fs in
+        result ≡ round_length width * length counts
+        + answers_length width (read_ask (table asks fs)) (entries asks fs) }
     ensures many { (fs : List Frame) (q : Listed) → IsAsking input.now fs q
         → (counts : List ℕ) → FileRounds fs q counts
         → length (lines (take result text.new)) ≡ length counts + entries asks fs }
@@ -65,6 +67,10 @@ pub fn answer(input: &[u8], text: &mut [u8; MOST_TEXT]) -> usize
     // An input that differs only in deed numbers writes the same.
     ensures deeds { (other : List ℕ) → SameButDeeds input.now other
         → Writes other (take result text.new) }
+
+    // An input that was read whole while there were at most 16 states writes what it wrote.
+    ensures former { (fs : List Frame) → WasSound input.now fs
+        → FormerWrites input.now (take result text.new) }
 {
     match shell::answer(input, &Replies, text) {
         Some(n) => n,
@@ -90,6 +96,11 @@ pub fn serve<S: Source + Drop, K: Sink>(source: S, sink: &mut K) -> Result<(), S
     ensures deeds { OnOk result (IfSome (S.remaining source) (λ input.
         (other : List ℕ) → SameButDeeds input other
         → Serves other (Appends (K.contents sink.old) (K.contents sink.new)))) }
+
+    // An input that was read whole while there were at most 16 states writes what it wrote.
+    ensures former { OnOk result (IfSome (S.remaining source) (λ input.
+        (fs : List Frame) → WasSound input fs
+        → FormerServes input (Appends (K.contents sink.old) (K.contents sink.new)))) }
 
     // Where reading fails, the error is the source's, and the sink is as it was.
     ensures unread { (e : Error) → result ≡ Err (ServeError.Unread e) → S.fails e }

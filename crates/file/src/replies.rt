@@ -2,10 +2,11 @@
 // asks, answered from one preparation.
 ghost use Rattle.std.specs.Prelude.{◌≡◌, ◌<◌, OnOk, IfErr};
 ghost use Rattle.reading.specs.Reads.{IsRead};
-ghost use Rattle.file.specs.Text.{round_line, answer_line, IsInBytes};
-ghost use Rattle.file.specs.Replying.{ask_count, IsLentOf, RoundsAll, AnswersEach, AnswersAll, IsReply};
+ghost use Rattle.file.specs.Text.{bytes_of, round_line, answer_line, IsInBytes};
+ghost use Rattle.file.specs.Replying.{ask_count, held_width, IsLentOf, RoundsAll, AnswersEach, AnswersAll, IsReply};
 
 use crate::text;
+use crate::text::Width;
 use index::{Checked, Lent, Routes};
 use kinds::{Answer, Ask, MarkCount, RoundListener, Rounds};
 use reading::{ASKS, Fault, File};
@@ -16,15 +17,17 @@ use streams::Taker;
 // What takes the lines of rounds, as they are worked.
 #[derive(Drop)]
 struct RoundLines<'a, T: Taker> {
+    width: Width,
     to: &'a mut T,
 }
 
 impl<'a, T: Taker> RoundLines<'a, T> {
-    fn new(to: &'a mut T) -> RoundLines<'a, T>
+    fn new(width: Width, to: &'a mut T) -> RoundLines<'a, T>
         ensures same_reference { result.to.ghost_name ≡ to.entry.ghost_name }
         ensures to { result.to.now ≡ to.old }
+        ensures width { result.width ≡ width }
     {
-        RoundLines { to }
+        RoundLines { width, to }
     }
 }
 
@@ -32,13 +35,16 @@ impl<T: Taker> RoundListener for RoundLines<'_, T> {
     type Error = io::Error;
 
     ghost hears = { λ old round marks new. (new.to.ghost_name ≡ old.to.ghost_name)
-        × T.takes old.to.now (round_line round marks) new.to.now };
+        × (new.width ≡ old.width)
+        × T.takes old.to.now (round_line (bytes_of old.width) round marks) new.to.now };
 
     ghost fails = { λ old round marks e new. (new.to.ghost_name ≡ old.to.ghost_name)
-        × T.fails old.to.now (round_line round marks) e new.to.now };
+        × (new.width ≡ old.width)
+        × T.fails old.to.now (round_line (bytes_of old.width) round marks) e new.to.now };
 
     fn round_made(&mut self, round: Rounds, marks: MarkCount) -> io::Result<()> {
-        self.to.put(&text::round(round, marks))
+        let line = text::round(self.width, round, marks);
+        self.to.put(line.as_slice())
     }
 }
 
@@ -60,7 +66,8 @@ fn tell_rounds<T: Taker>(
 {
     let checked = Checked { lent };
     let mut routes = Routes::new();
-    let mut lines = RoundLines::new(to);
+    let width = Width::of(lent.collection.counts);
+    let mut lines = RoundLines::new(width, to);
     let prepared = checked.prepare_telling(&mut routes, &mut lines)?;
     let asks = file.asks();
     prepared.reply_all(&asks, answers);
@@ -68,15 +75,13 @@ fn tell_rounds<T: Taker>(
 }
 
 // The line of an answer, to what takes lines.
-fn put_answer<T: Taker>(to: &mut T, ask: Ask, answer: Answer) -> io::Result<()>
+fn put_answer<T: Taker>(to: &mut T, width: Width, ask: Ask, answer: Answer) -> io::Result<()>
     requires { IsInBytes ask }
-    ensures ok { OnOk result (T.takes to.old (answer_line ask answer) to.new) }
-    ensures err { IfErr result (λ e. T.fails to.old (answer_line ask answer) e to.new) }
+    ensures ok { OnOk result (T.takes to.old (answer_line (bytes_of width) ask answer) to.new) }
+    ensures err { IfErr result (λ e.
+        T.fails to.old (answer_line (bytes_of width) ask answer) e to.new) }
 {
-    match ask {
-        Ask::Pair(first, second) => to.put(&text::of_pair(first, second, answer)),
-        Ask::From(first) => to.put(&text::of_one(first, answer)),
-    }
+    to.put(text::answer(width, ask, answer).as_slice())
 }
 
 // The rounds of a file told, and then every ask answered, in order. Where nothing is asked nothing is worked out.
@@ -92,10 +97,11 @@ fn put_replies<T: Taker>(file: &File, to: &mut T) -> io::Result<()>
     if file.asks().is_empty() {
         return Ok(());
     }
+    let width = Width::of(lent.collection.counts);
     let mut answers = [Answer::BadAsk; ASKS];
     tell_rounds(file, lent, &mut answers, to)?;
     for (ask, answer) in file.asks().iter().zip(answers.iter()) {
-        put_answer(to, ask, *answer)?;
+        put_answer(to, width, ask, *answer)?;
     }
     Ok(())
 }
@@ -109,7 +115,7 @@ impl Report for Replies {
     fn put<T: Taker>(&self, found: Result<(), Fault>, file: &File, to: &mut T) -> io::Result<()> {
         match found {
             Ok(()) => put_replies(file, to),
-            Err(fault) => to.put(&text::fault(fault)),
+            Err(fault) => to.put(text::fault(fault).as_slice()),
         }
     }
 }

@@ -11,6 +11,13 @@ const INPUT: &[u8] =
 // Rounds 1 and 2 add 2 marks each, to states × concepts = 4 × 6 = 24.
 const OUTPUT: &[u8] = b"8A00010002\n8A00020002\n8B0000010002\n8B0001000002\n";
 
+// The same with 17 states, of which no step uses the last 13: counts have four bytes.
+const WIDE: &[u8] =
+    b"010202021100\n020040\n024101\n060000\n08000001\n09010102\n08020103\n0A03\n0B0000\n0B0001\n";
+
+const WIDE_OUTPUT: &[u8] =
+    b"8A0000000100000002\n8A0000000200000002\n8B00000100000002\n8B00010000000002\n";
+
 // The same question typed as an expression: signs, test Deed, signs backward.
 const EXPRESSED: &[u8] = b"010202020400\n020040\n024101\n060000\n0D004101\n0B0000\n0B0001\n";
 
@@ -113,7 +120,12 @@ impl Write for Taking {
 
 #[test]
 fn answers_in_memory(rt: HostRuntime) {
-    for (input, want) in [(INPUT, OUTPUT), (EXPRESSED, OUTPUT), (FAULTY, FAULT)] {
+    for (input, want) in [
+        (INPUT, OUTPUT),
+        (WIDE, WIDE_OUTPUT),
+        (EXPRESSED, OUTPUT),
+        (FAULTY, FAULT),
+    ] {
         let mut text = [b'.'; MOST_TEXT];
         let n = answer(input, &mut text);
         assert_eq!(rt; &text[..n], want);

@@ -1,11 +1,12 @@
 // The lines that are written, in characters: two for each byte, capital letters, and the end of the line.
-ghost use Rattle.std.specs.Prelude.{◌≡◌, ◌+◌, ◌*◌, ◌/◌, ◌%◌, ◌^◌, ◌<◌, [], ◌∷◌, length};
+ghost use Rattle.std.specs.Prelude.{◌≡◌, ◌+◌, ◌*◌, ◌^◌, ◌<◌, ◌≤◌, length};
 ghost use Rattle.reading.specs.Refusal.{refusal_number};
-ghost use Rattle.file.specs.Text.{character, text, fault_line, round_line, answer_line, IsInBytes};
+ghost use Rattle.file.specs.Text.{character, text, count_width, bytes_of, fault_line, round_line, answer_line, IsInBytes};
 
 use frames::BASE;
-use kinds::{Answer, Ask, Individual, MarkCount, Rounds};
+use kinds::{Answer, Ask, Counts, MarkCount, Rounds};
 use reading::Fault;
+use std::marker::Model;
 
 // The kinds of line.
 const ROUND: u8 = 0x8A;
@@ -16,14 +17,78 @@ const ANSWER_ONE: u8 = 0x8E;
 
 const FAULT: u8 = 0x8F;
 
-// The characters of each, its end among them: two for each of its bytes, the kind's own among those.
-pub(crate) const ROUND_LINE: usize = 2 * 5 + 1;
+// The most bytes of a count; of a line of an answer; and of a line of a round, which is the longest.
+const MOST_WIDTH: usize = 4;
 
-pub(crate) const ANSWER_LINE: usize = 2 * 6 + 1;
+const ANSWER_BYTES: usize = 4 + MOST_WIDTH;
 
-pub(crate) const ONE_LINE: usize = 2 * 5 + 1;
+const ROUND_BYTES: usize = 1 + 2 * MOST_WIDTH;
 
-const FAULT_LINE: usize = 2 * 4 + 1;
+// The most characters of each: two for each of its bytes, and the end.
+pub(crate) const ANSWER_LINE: usize = 2 * ANSWER_BYTES + 1;
+
+pub(crate) const ROUND_LINE: usize = 2 * ROUND_BYTES + 1;
+
+// The most states that a file declares whose counts have two bytes.
+const FEW_STATES: u16 = 16;
+
+// How many bytes a count has, and the number of a round.
+#[derive(Clone, Copy)]
+pub(crate) enum Width {
+    Two,
+    Four,
+}
+
+impl Width {
+    // Of a file that declares so much.
+    #[tactic(auto, unfolding(crate::specs::Text::count_width))]
+    pub(crate) fn of(counts: Counts) -> Width
+        ensures { bytes_of result ≡ count_width counts }
+    {
+        if counts.states <= FEW_STATES {
+            Width::Two
+        } else {
+            Width::Four
+        }
+    }
+}
+
+// A line's characters. Callers see the list of them.
+#[derive(Drop)]
+pub(crate) struct LineText {
+    characters: [u8; ROUND_LINE],
+    used: usize,
+}
+
+impl Model for LineText {
+    ghost use Rattle.std.specs.Prelude.{◌≤◌, ℕ, List, take};
+    ghost use Rattle.file.specs.declared.text.TheConstants.{ROUND_LINE};
+
+    ghost Value = { List ℕ };
+
+    ghost view = { λ l. take l.used l.characters };
+
+    ghost invariant = { λ l. l.used ≤ ROUND_LINE };
+}
+
+impl LineText {
+    // A line of those bytes.
+    fn of(bytes: &[u8]) -> LineText
+        requires { length bytes.now ≤ ROUND_BYTES }
+        ensures { result ≡ text bytes.now }
+    {
+        let used = 2 * bytes.len() + 1;
+        let mut characters = [0; ROUND_LINE];
+        spell(bytes, &mut characters[..used]);
+        LineText { characters, used }
+    }
+
+    pub(crate) fn as_slice(&self) -> &[u8]
+        ensures { result.now ≡ self.now }
+    {
+        &self.characters[..self.used]
+    }
+}
 
 // The character of a digit.
 fn character(digit: u8) -> u8
@@ -35,13 +100,6 @@ fn character(digit: u8) -> u8
     } else {
         b'A' - 10 + digit
     }
-}
-
-// High byte first.
-fn two_bytes(number: u16) -> [u8; 2]
-    ensures { result ≡ number / 2 ^ 8 ∷ number % 2 ^ 8 ∷ [] }
-{
-    number.to_be_bytes()
 }
 
 // A line of those bytes.
@@ -59,57 +117,45 @@ fn spell(bytes: &[u8], line: &mut [u8])
 
 // The line of a fault.
 #[tactic(auto, unfolding(crate::specs::Text::fault_line))]
-pub(crate) fn fault(fault: Fault) -> [u8; FAULT_LINE]
+pub(crate) fn fault(fault: Fault) -> LineText
     requires { fault.line < 2 ^ 16 }
     ensures { result ≡ fault_line fault.line (refusal_number fault.refusal) }
 {
-    let [high, low] = two_bytes(fault.line as u16);
-    let mut line = [0; FAULT_LINE];
-    spell(&[FAULT, high, low, fault.refusal.number()], &mut line);
-    line
+    let [high, low] = (fault.line as u16).to_be_bytes();
+    LineText::of(&[FAULT, high, low, fault.refusal.number()])
 }
 
 // The line of a round.
 #[tactic(auto, unfolding(crate::specs::Text::round_line))]
-pub(crate) fn round(round: Rounds, marks: MarkCount) -> [u8; ROUND_LINE]
-    ensures { result ≡ round_line round marks }
+pub(crate) fn round(width: Width, round: Rounds, marks: MarkCount) -> LineText
+    ensures { result ≡ round_line (bytes_of width) round marks }
 {
-    let [high, low] = two_bytes(round);
-    let [marks_high, marks_low] = two_bytes(marks);
-    let mut line = [0; ROUND_LINE];
-    spell(&[ROUND, high, low, marks_high, marks_low], &mut line);
-    line
+    let [a, b, c, d] = round.to_be_bytes();
+    let [e, f, g, h] = marks.to_be_bytes();
+    match width {
+        Width::Two => LineText::of(&[ROUND, c, d, g, h]),
+        Width::Four => LineText::of(&[ROUND, a, b, c, d, e, f, g, h]),
+    }
 }
 
-// The line of an answer about a pair.
+// The line of an answer about a pair, or about one named end.
 #[tactic(auto, unfolding(crate::specs::Text::answer_line))]
-pub(crate) fn of_pair(first: Individual, second: Individual, answer: Answer) -> [u8; ANSWER_LINE]
-    requires { IsInBytes (Ask.Pair first second) }
-    ensures { result ≡ answer_line (Ask.Pair first second) answer }
+pub(crate) fn answer(width: Width, ask: Ask, answer: Answer) -> LineText
+    requires { IsInBytes ask }
+    ensures { result ≡ answer_line (bytes_of width) ask answer }
 {
-    let [high, low] = two_bytes(answer.count());
-    let mut line = [0; ANSWER_LINE];
-    let bytes = [
-        ANSWER,
-        first.0 as u8,
-        second.0 as u8,
-        answer.number(),
-        high,
-        low,
-    ];
-    spell(&bytes, &mut line);
-    line
-}
-
-// The line of an answer about one named end.
-#[tactic(auto, unfolding(crate::specs::Text::answer_line))]
-pub(crate) fn of_one(first: Individual, answer: Answer) -> [u8; ONE_LINE]
-    requires { IsInBytes (Ask.From first) }
-    ensures { result ≡ answer_line (Ask.From first) answer }
-{
-    let [high, low] = two_bytes(answer.count());
-    let mut line = [0; ONE_LINE];
-    let bytes = [ANSWER_ONE, first.0 as u8, answer.number(), high, low];
-    spell(&bytes, &mut line);
-    line
+    let [a, b, c, d] = answer.count().to_be_bytes();
+    let number = answer.number();
+    match (ask, width) {
+        (Ask::Pair(i, j), Width::Two) => {
+            LineText::of(&[ANSWER, i.0 as u8, j.0 as u8, number, c, d])
+        }
+        (Ask::Pair(i, j), Width::Four) => {
+            LineText::of(&[ANSWER, i.0 as u8, j.0 as u8, number, a, b, c, d])
+        }
+        (Ask::From(i), Width::Two) => LineText::of(&[ANSWER_ONE, i.0 as u8, number, c, d]),
+        (Ask::From(i), Width::Four) => {
+            LineText::of(&[ANSWER_ONE, i.0 as u8, number, a, b, c, d])
+        }
+    }
 }

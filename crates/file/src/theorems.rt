@@ -3,6 +3,7 @@ ghost use Rattle.file.specs.Laws.{WritesOnce, TextFits, StartWrites, WrittenOnce
 ghost use Rattle.file.specs.Laws.{WritesWithoutDeeds};
 ghost use Rattle.file.specs.Laws.{AsksAnswered, RoundsAreTold, NoRoundTold, FaultTold, FaultsNear};
 ghost use Rattle.file.specs.Demands.{LinesSayAsModel, LinesSayOfExpression, LinesGrow, LinesReturn, RoundsSuffice};
+ghost use Rattle.file.specs.Former.{WritesAsItDid, WroteAsItDoes, FormerWritesOnce, FormerWritesSome};
 ghost use Rattle.file.specs.Default.{DefaultSuffices, NeverSpent, DefaultSaysAsModel, DefaultTellsAll};
 
 // One text, within its room; a start of the input decides it, and no deed number does.
@@ -39,4 +40,12 @@ pub fn default()
     ensures never_spent { NeverSpent }
     ensures model { DefaultSaysAsModel }
     ensures rounds { DefaultTellsAll }
+{}
+
+// Of what an input wrote while there were at most 16 states: a file that was read without fault writes what it wrote.
+pub fn former()
+    ensures sound { WritesAsItDid }
+    ensures any_other { WroteAsItDoes }
+    ensures once { FormerWritesOnce }
+    ensures some { FormerWritesSome }
 {}

@@ -1,6 +1,6 @@
 -- A line with its end at the front of some characters: where it has digits alone, it is sound, and its end is the first.
-use Rattle.std.specs.Prelude.{ℕ, ◌+◌, ◌*◌, ◌/◌, ◌<◌, ◌≤◌, ◌≡◌, ◌==◌, List, Bool, Some, Ok, true, false, length, min, take, position, slice_index}
-use Rattle.std.proofs.Common.{refl, sym, ◌∙◌, arith, get_or}
+use Rattle.std.specs.Prelude.{ℕ, ◌+◌, ◌*◌, ◌/◌, ◌%◌, ◌<◌, ◌≤◌, ◌≡◌, ◌==◌, List, Bool, Some, Ok, true, false, length, min, take, position, slice_index}
+use Rattle.std.proofs.Common.{refl, sym, ◌∙◌, arith, get_or, inl}
 use Rattle.std.proofs.lemmas.Bool.Decides.{nat_tests}
 use Rattle.std.proofs.lemmas.List.{get_or-take, length-take}
 use Rattle.std.proofs.lemmas.List.Elements.{All-from_get_or}
@@ -10,12 +10,14 @@ use Rattle.streams.specs.declared.TheConstants.{LINE}
 use Rattle.frames.specs.Digits.{digit_of, bytes, byte_of, LineOk}
 use Rattle.frames.specs.Frames.{frame_by, FrameOf}
 use Rattle.frames.specs.Front.{BeginsLine, BeginsFrame}
-use Rattle.frames.specs.Kinds.{kind_of, HasLength}
+use Rattle.frames.specs.Kinds.{kind_of, frame_length, HasLength}
 use Rattle.frames.specs.Measured.{IsMeasured}
 use Rattle.frames.specs.Pairs.{byte_read, Digits, HoldsPairs}
 use Rattle.frames.specs.declared.Frame.{Frame}
 use Rattle.frames.specs.declared.kind.Kind.{Kind}
+use Rattle.frames.specs.declared.kind.Kind.TheVariants.{ConceptFact, RoleFact, Allowance, Expression}
 use Rattle.frames.proofs.Bytes.{byte_within, sound_bytes, front_pairs}
+use Rattle.frames.proofs.Lengths.{may_be_short, no_longer}
 
 -- a digit is no line end
 plain : (c : ℕ) → digit_of c < 16 → (c == 0x0A) ≡ false
@@ -60,6 +62,35 @@ frame_read l kind ok named long =
     let k : kind_of (byte_of l 0) ≡ Some kind = rw same at named in
     holds ok (holds (rw k long) (rw (k, same) refl))
 
+-- a frame of each kind may have its own bytes, which are few
+pub own_length : (kind : Kind) → HasLength kind (frame_length kind)
+own_length ConceptFact = inl refl
+own_length RoleFact = inl refl
+own_length Allowance = inl refl
+own_length Expression = tt
+own_length kind = refl
+
+pub few_bytes : (kind : Kind) → (0 < frame_length kind) × (frame_length kind ≤ 6)
+few_bytes kind = grind arith
+
+-- a line of at most 12 characters, with its end behind it
+pub begins_line : (kind : Kind) (held : List ℕ) (n : ℕ) → n < length held → 0 < n → n ≤ 12 → n % 2 ≡ 0 → slice_index held n ≡ 0x0A
+    → HasLength kind (n / 2) → BeginsLine kind held (take n held)
+begins_line kind held n within some near even end long =
+    let e : length (take n held) ≡ n = omega (arith, length-take n held) in
+    record {
+      is = rw e refl;
+      within = omega (arith, e);
+      near = omega (arith, e);
+      end = rw e end;
+      measured = record {
+        some = omega (arith, e);
+        short = omega (arith, e, may_be_short (take n held));
+        even = rw e even;
+      };
+      long = rw e long;
+    }
+
 module _ (kind : Kind) (held line : List ℕ) (b : BeginsLine kind held line) where
   whole : 2 * (length line / 2) ≡ length line
   whole = omega (arith, b.measured.even)
@@ -86,6 +117,6 @@ module _ (kind : Kind) (held line : List ℕ) (b : BeginsLine kind held line) wh
       let here : Digits (take n held) n = λ j h. rw (sym b.is) (all j h) in
       record {
         within = b.within;
-        first = first_end held n b.measured.short b.within b.end here;
+        first = first_end held n (omega (arith, b.measured.short, no_longer line)) b.within b.end here;
         frame = rw (sym b.is, e) (frame_read line kind (line_ok line b.measured all) k b.long);
       }

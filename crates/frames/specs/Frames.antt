@@ -12,9 +12,14 @@ use Rattle.frames.specs.declared.Frame.TheVariants.{Declared, ConceptRule, Conce
 use Rattle.frames.specs.declared.Misread.{Misread}
 use Rattle.frames.specs.declared.Misread.TheVariants.{BadLine, BadFrame}
 
--- the number in two bytes from one on, high byte first
+-- the number in n bytes from byte k on, high byte first
+unfoldable pub number_in : ℕ → (ℕ → ℕ) → ℕ → ℕ
+number_in zero byte k = 0
+number_in (suc n) byte k = 2 ^ 8 * number_in n byte k + byte (k + n)
+
+-- the number in two bytes
 abbrev pub two_bytes : (ℕ → ℕ) → ℕ → ℕ
-two_bytes byte k = 2 ^ 8 * byte k + byte (k + 1)
+two_bytes byte k = number_in 2 byte k
 
 -- the first n bytes after the kind
 unfoldable pub marks_of : (ℕ → ℕ) → ℕ → List ℕ
@@ -33,7 +38,7 @@ module _ (byte : ℕ → ℕ) (bytes : ℕ) where
   }
 
   -- the frame of each kind, with its fields; where a line ends before its fact's deed number, the
-  -- bytes of that are 0
+  -- bytes of that are 0; all bytes of an allowance behind the kind are its number
   abbrev pub frame_by : Kind → Frame
   frame_by kind.Declared = Declared counts
   frame_by kind.ConceptRule = ConceptRule (concept_of (byte 1)) (concept_of (byte 2))
@@ -49,7 +54,7 @@ module _ (byte : ℕ → ℕ) (bytes : ℕ) where
   frame_by kind.TestStep = TestStep (state (byte 1)) (concept_name (byte 2)) (state (byte 3))
   frame_by kind.Final = Final (state (byte 1))
   frame_by kind.Ask = Ask (individual (byte 1)) (individual (byte 2))
-  frame_by kind.Allowance = Allowance (two_bytes byte 1)
+  frame_by kind.Allowance = Allowance (number_in (bytes - 1) byte 1)
   frame_by kind.Expression = Expression (marks_of byte (bytes - 1))
   frame_by kind.AskFrom = AskFrom (individual (byte 1))
 

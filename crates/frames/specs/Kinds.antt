@@ -16,8 +16,8 @@ kinds =
 unfoldable pub kind_of : ℕ → Option Kind
 kind_of byte = unwrap_or (slice_get kinds byte) None
 
--- the bytes of a frame of each kind, with the byte that names it; a fact's deed number and the
--- marks of an expression are not counted
+-- the bytes of a frame of each kind, with the byte that names it; a fact's deed number, the two
+-- bytes more of a long allowance and the marks of an expression are not counted
 abbrev pub frame_length : Kind → ℕ
 frame_length Declared = 6
 frame_length ConceptRule = 3
@@ -34,10 +34,11 @@ frame_length Allowance = 3
 frame_length Expression = 1
 frame_length AskFrom = 2
 
--- a frame of a kind may have so many bytes: a fact's two more, for a deed number at its end, and an
--- expression's any number
+-- a frame of a kind may have so many bytes: a fact's two more, for a deed number at its end, an
+-- allowance's two more, for a number of four bytes, and an expression's any number
 abbrev pub HasLength : Kind → ℕ → Type 0
 HasLength ConceptFact n = (n ≡ frame_length ConceptFact) ⊎ (n ≡ frame_length ConceptFact + 2)
 HasLength RoleFact n = (n ≡ frame_length RoleFact) ⊎ (n ≡ frame_length RoleFact + 2)
+HasLength Allowance n = (n ≡ frame_length Allowance) ⊎ (n ≡ frame_length Allowance + 2)
 HasLength Expression n = ⊤
 HasLength kind n = n ≡ frame_length kind

@@ -5,5 +5,5 @@ use Rattle.frames.specs.Digits.{line_length}
 -- what `LineOk` asks of a line's length
 pub record IsMeasured (l : List ℕ) : Type 0 where
   pub some : 0 < length l
-  pub short : length l ≤ line_length
+  pub short : length l ≤ line_length l
   pub even : length l % 2 ≡ 0

@@ -4,8 +4,8 @@ ghost use Rattle.std.specs.Bool.{OnTrue};
 ghost use Rattle.frames.specs.Kinds.{kind_of, frame_length, HasLength};
 ghost use Rattle.frames.specs.Front.{BeginsLine};
 
-// The bytes of a deed number.
-const DEED: usize = 2;
+// The bytes that some frames may have more: those of a deed number, and of an allowance that has four.
+const MORE: usize = 2;
 
 // The characters of the longest line of a known length.
 const LONGEST: usize = 12;
@@ -66,8 +66,8 @@ impl Kind {
         }
     }
 
-    // The bytes of its frame, with the byte that names it. The deed number of a fact and the marks of an expression are
-    // not counted.
+    // The bytes of its frame, with the byte that names it. The deed number of a fact, the two bytes more of a long allowance
+    // and the marks of an expression are not counted.
     fn length(self) -> usize
         ensures { result ≡ frame_length self }
     {
@@ -89,13 +89,16 @@ impl Kind {
         }
     }
 
-    // Whether its frame may have so many bytes: a deed number may end a fact, and an expression has any number of marks.
+    // Whether its frame may have so many bytes: a deed number may end a fact, an allowance has two bytes or four, and an
+    // expression has any number of marks.
     pub(crate) fn has_length(self, bytes: usize) -> bool
         ensures { IsTrue result ↔ HasLength self bytes }
     {
         let own = self.length();
         match self {
-            Kind::ConceptFact | Kind::RoleFact => bytes == own || bytes == own + DEED,
+            Kind::ConceptFact | Kind::RoleFact | Kind::Allowance => {
+                bytes == own || bytes == own + MORE
+            }
             Kind::Expression => true,
             _ => bytes == own,
         }
@@ -114,7 +117,7 @@ impl Kind {
         if held[own] == b'\n' {
             return Some(&held[..own]);
         }
-        let noted = own + 2 * DEED;
+        let noted = own + 2 * MORE;
         match self {
             Kind::ConceptFact | Kind::RoleFact if held[noted] == b'\n' => Some(&held[..noted]),
             _ => None,

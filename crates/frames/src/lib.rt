@@ -63,6 +63,7 @@ pub struct Front {
 
 // The frame of a kind, by a reader behind the byte that names it.
 #[inline(always)]
+#[tactic(auto, using(crate::proofs::Lengths::no_longer))]
 pub(crate) fn frame_of(kind: Kind, reader: &mut Reader) -> Frame
     requires behind { IsAt 1 reader.old }
     requires measured { IsMeasured reader.old.line.now }
@@ -94,7 +95,7 @@ pub(crate) fn frame_of(kind: Kind, reader: &mut Reader) -> Frame
         Kind::TestStep => Frame::TestStep(reader.field(), reader.field(), reader.field()),
         Kind::Final => Frame::Final(reader.field()),
         Kind::Ask => Frame::Ask(reader.field(), reader.field()),
-        Kind::Allowance => Frame::Allowance(reader.number()),
+        Kind::Allowance => Frame::Allowance(reader.allowance()),
         Kind::Expression => Frame::Expression(reader.marks()),
         Kind::AskFrom => Frame::AskFrom(reader.field()),
     }

@@ -1,18 +1,22 @@
 // A line read byte by byte where it stands: one pass, and what is no digit is gathered on the way.
 ghost use Rattle.std.specs.Prelude.{ℕ, ◌+◌, ◌-◌, ◌/◌, ◌<◌, ◌≤◌, ◌≡◌, ◌↔◌, ◌⊎◌, IsTrue, length, min};
 ghost use Rattle.kinds.specs.Kinds.{concept_name, role_name, individual, state, signed, deed_number, concept_of};
-ghost use Rattle.frames.specs.Digits.{bytes, line_length};
-ghost use Rattle.frames.specs.Frames.{two_bytes, marks_of};
+ghost use Rattle.frames.specs.Digits.{bytes};
+ghost use Rattle.streams.specs.declared.TheConstants.{LINE};
+ghost use Rattle.frames.specs.Frames.{number_in, two_bytes, marks_of};
 ghost use Rattle.frames.specs.Pairs.{HoldsPairs, byte_read};
 
 use crate::BASE;
 use crate::digits::digit;
 use crate::marks::Marks;
 use crate::pairs::{Pairs, one_by_one};
-use kinds::{Concept, ConceptName, DeedNumber, Individual, RoleName, SignedRole, State};
+use kinds::{Concept, ConceptName, DeedNumber, Individual, RoleName, Rounds, SignedRole, State};
 
 // Bytes are below it.
 const BYTE: u16 = 256;
+
+// Numbers of two bytes are below it.
+const TWO_BYTES: Rounds = 65536;
 
 // A line's slice, a place in it counted in bytes, and what the digits before that place have in common: it is below `BASE`
 // exactly where each character before the place is a digit. The bytes at the line's front are worked out already.
@@ -88,8 +92,17 @@ impl<'a> Reader<'a> {
         BASE.wrapping_mul(high).wrapping_add(low)
     }
 
+    // Whether no byte of the line is left.
+    #[inline(always)]
+    fn is_at_end(&self) -> bool
+        ensures { IsTrue result ↔ (self.now.at ≡ length self.now.line.now / 2) }
+    {
+        self.at == self.line.len() / 2
+    }
+
     // A number of two bytes, high byte first.
     #[inline(always)]
+    #[tactic(auto, using(crate::proofs::Lengths::number_two))]
     pub(crate) fn number(&mut self) -> u16
         requires gathered { Gathered self.old }
         requires inside { self.old.at + 1 < length self.old.line.now / 2 }
@@ -104,7 +117,7 @@ impl<'a> Reader<'a> {
 
     // The deed number that ends a fact; where the line ends before it, 0.
     #[inline(always)]
-    #[tactic(auto, using(crate::proofs::Bytes::byte_past))]
+    #[tactic(auto, using(crate::proofs::Bytes::byte_past, crate::proofs::Lengths::number_two))]
     pub(crate) fn deed(&mut self) -> DeedNumber
         requires gathered { Gathered self.old }
         requires inside { let bytes = length self.old.line.now / 2 in
@@ -114,10 +127,27 @@ impl<'a> Reader<'a> {
             result ≡ deed_number (two_bytes (byte_read line) self.old.at) }
         ensures whole { ReadsWhole self.old self.new }
     {
-        if self.at == self.line.len() / 2 {
+        if self.is_at_end() {
             return DeedNumber(0);
         }
         DeedNumber(self.number())
+    }
+
+    // The allowance: the two bytes or four that are left, high byte first.
+    pub(crate) fn allowance(&mut self) -> Rounds
+        requires gathered { Gathered self.old }
+        requires inside { let bytes = length self.old.line.now / 2 in
+            (self.old.at + 2 ≡ bytes) ⊎ (self.old.at + 4 ≡ bytes) }
+        requires front { self.old.at + 3 < 8 }
+        ensures value { let line = self.old.line.now in
+            result ≡ number_in (bytes line - self.old.at) (byte_read line) self.old.at }
+        ensures whole { ReadsWhole self.old self.new }
+    {
+        let first = Rounds::from(self.number());
+        if self.is_at_end() {
+            return first;
+        }
+        TWO_BYTES * first + Rounds::from(self.number())
     }
 
     // A field of one byte, as what it stands for.
@@ -137,7 +167,7 @@ impl<'a> Reader<'a> {
     pub(crate) fn marks(&mut self) -> Marks
         requires behind { IsAt 1 self.old }
         requires some { 1 ≤ bytes self.old.line.now }
-        requires short { length self.old.line.now ≤ line_length }
+        requires short { length self.old.line.now ≤ LINE }
         ensures value { let line = self.old.line.now in
             result ≡ marks_of (byte_read line) (bytes line - 1) }
         ensures whole { ReadsWhole self.old self.new }

@@ -4,8 +4,8 @@ ghost use Rattle.index.specs.OneProof.{passes-once};
 
 use crate::lent::Lent;
 
-// What is lent, where the collection passes the tests 4, 5 and 6, but for the lengths of the areas. Only who proves this can
-// make one: after the tests, or of a file that was read without a fault.
+// What a caller lends, of which it is proved that the collection passes the tests 4, 5 and 6 (the lengths of areas are no part of that).
+// It is made after these tests, or of a file that was read without a fault.
 #[derive(Clone, Copy)]
 pub struct Checked<'a> {
     pub lent: Lent<'a>,

@@ -4,8 +4,8 @@ ghost use Rattle.std.specs.Prelude.{◌≡◌};
 ghost use Rattle.walk.specs.Covers.{Covers};
 
 use edges::{FactEdges, MOST_FACT_EDGES, PackedEdge};
-use rules::NO_TRANSITIONS;
-use sets::Transitions;
+use kinds::{SignedRole, State};
+use sets::{StateSet, Transitions};
 use walk::{Accepting, Loops, Question, Strides};
 
 // Memory for the tables that walks go by. It is lent to a preparation, which fills it.
@@ -22,7 +22,7 @@ impl Routes {
         Routes {
             list: [PackedEdge::BLANK; MOST_FACT_EDGES],
             loops: Loops::NONE,
-            transitions: NO_TRANSITIONS,
+            transitions: [[StateSet::EMPTY; State::NUMBERS]; SignedRole::NUMBERS],
             accepting: Accepting::NONE,
         }
     }

@@ -22,7 +22,7 @@ abbrev pub most_individuals : ℕ
 most_individuals = 255
 
 abbrev pub most_states : ℕ
-most_states = 16
+most_states = 32
 
 -- the number of "has a neighbour by the signed role 0"
 abbrev pub base : ℕ

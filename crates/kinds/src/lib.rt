@@ -11,10 +11,10 @@ mod listener;
 pub use listener::{NoListener, RoundListener};
 
 // A number of rounds, and the allowance of them.
-pub type Rounds = u16;
+pub type Rounds = u32;
 
 // How many marks a round made.
-pub type MarkCount = u16;
+pub type MarkCount = u32;
 
 #[derive(Clone, Copy, PartialEq, Eq)]
 pub struct ConceptName(pub u16);
@@ -125,7 +125,7 @@ impl Individual {
 }
 
 impl State {
-    pub const MOST: u16 = 16;
+    pub const MOST: u16 = 32;
 
     // A table has a place for each of so many states, or pairs of states.
     pub const NUMBERS: usize = State::MOST as usize;

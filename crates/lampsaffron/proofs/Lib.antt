@@ -5,3 +5,4 @@ mod Seven
 pub mod Rounds
 pub mod Deeds
 pub mod AsksLaws
+mod AreasLaws

@@ -3,3 +3,4 @@ pub mod Row
 pub mod Asks
 pub mod Expression
 pub mod Marks
+pub mod Areas

@@ -53,11 +53,11 @@ pub extern "C" fn lampsaffron_ask_row(
     steps: &[u16],
     finals: &[u16],
     asks: &[u16],
-    allowance: u16,
+    allowance: u32,
     area: &mut [u8],
     spare: &mut [u8],
     numbers: &mut [u8],
-    counts: &mut [u16],
+    counts: &mut [u32],
 ) -> u8
     ensures number { AsksNumber asks.now (length numbers.old) (length counts.old) result }
     ensures in_turn { let p = passed names roles individuals states start concept_rules.now

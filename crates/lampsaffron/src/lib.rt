@@ -2,11 +2,11 @@
 // count of each answer.
 #![tactic(auto)]
 
-ghost use Rattle.std.specs.Prelude.{◌≡◌, ◌≢◌, ◌↔◌, ◌≤◌, ◌++◌, ℕ, IsTrue, Some, min};
+ghost use Rattle.std.specs.Prelude.{◌≡◌, ◌≢◌, ◌↔◌, ◌≤◌, ◌*◌, ◌++◌, ℕ, IsTrue, Some, min};
 ghost use Rattle.std.specs.Prelude.{length, slice_get, take, drop};
 ghost use Rattle.std.specs.Bool.{OnTrue, OnFalse};
 ghost use Rattle.kinds.specs.Kinds.{individual};
-ghost use Rattle.meaning.specs.Lent.{Tables};
+ghost use Rattle.meaning.specs.Lent.{Tables, step_width, most_steps};
 ghost use Rattle.meaning.specs.Deeds.{SameButDeeds, lent_with};
 ghost use Rattle.index.specs.Asked.{asked};
 ghost use Rattle.index.specs.Row.{InTurn};
@@ -16,6 +16,7 @@ ghost use Rattle.lampsaffron.specs.Row.{HasPairs};
 ghost use Rattle.expression.specs.Answer.{IsAutomatonOf, ReadsItsWords, AsksForIt};
 ghost use Rattle.lampsaffron.specs.Expression.{number_of, Makes, told_tables};
 
+pub mod areas;
 pub mod asks;
 pub mod marks;
 mod passed;
@@ -24,7 +25,8 @@ pub mod theorems;
 use crate::passed::Passed;
 use expression::{Refusal, automaton_of};
 use kinds::{Answer, Ask, Individual};
-use tables::Table;
+use tables::collection::{FINALS, STEPS};
+use tables::{Step, Table};
 
 // The most asks of one call.
 const ASKS: usize = 256;
@@ -52,10 +54,10 @@ pub extern "C" fn lampsaffron_ask(
     finals: &[u16],
     first: u16,
     second: u16,
-    allowance: u16,
+    allowance: u32,
     area: &mut [u8],
     spare: &mut [u8],
-    count: &mut u16,
+    count: &mut u32,
 ) -> u8
     ensures gives { let p = passed names roles individuals states start concept_rules.now
         concept_exclusions.now role_rules.now role_exclusions.now concept_facts.now role_facts.now
@@ -116,10 +118,10 @@ pub extern "C" fn lampsaffron_ask_from(
     steps: &[u16],
     finals: &[u16],
     first: u16,
-    allowance: u16,
+    allowance: u32,
     area: &mut [u8],
     spare: &mut [u8],
-    count: &mut u16,
+    count: &mut u32,
 ) -> u8
     ensures gives { let p = passed names roles individuals states start concept_rules.now
         concept_exclusions.now role_rules.now role_exclusions.now concept_facts.now role_facts.now
@@ -179,7 +181,7 @@ fn put_pairs(pairs: &[u16], row: &mut [u16; ROW])
 }
 
 // The answers to a row, each as its number and its count.
-fn tell(answers: &[Answer], numbers: &mut [u8], counts: &mut [u16])
+fn tell(answers: &[Answer], numbers: &mut [u8], counts: &mut [u32])
     ensures { TellsEach answers.now numbers.new counts.new }
 {
     let n = numbers.len().min(counts.len());
@@ -206,11 +208,11 @@ pub extern "C" fn lampsaffron_ask_all(
     steps: &[u16],
     finals: &[u16],
     pairs: &[u16],
-    allowance: u16,
+    allowance: u32,
     area: &mut [u8],
     spare: &mut [u8],
     numbers: &mut [u8],
-    counts: &mut [u16],
+    counts: &mut [u32],
 ) -> bool
     ensures fits { let n = length numbers.old in
         IsTrue result ↔ RowFits pairs.now n (length counts.old) }
@@ -267,15 +269,15 @@ pub extern "C" fn lampsaffron_ask_all(
     true
 }
 
-// The numbers of the most steps and of the most final states.
-const STEP_NUMBERS: usize = 4 * 512;
+// The numbers of the most steps and of the most final states, which have one number each.
+const STEP_NUMBERS: usize = Step::WIDTH * STEPS;
 
-const FINAL_NUMBERS: usize = 16;
+const FINAL_NUMBERS: usize = FINALS;
 
 // A table put at the front of a row: how many numbers it has. The rest of the row stays.
 fn put(numbers: &[u16], row: &mut [u16]) -> u16
     requires within { length numbers.now ≤ length row.old }
-    requires few { length numbers.now ≤ 2048 }
+    requires few { length numbers.now ≤ step_width * most_steps }
     ensures count { result ≡ length numbers.now }
     ensures front { take (length numbers.now) row.new ≡ numbers.now }
     ensures rest { drop (length numbers.now) row.new ≡ drop (length numbers.now) row.old }

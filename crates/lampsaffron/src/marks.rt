@@ -100,11 +100,11 @@ pub extern "C" fn lampsaffron_marks(
     role_facts: &[u16],
     steps: &[u16],
     finals: &[u16],
-    allowance: u16,
+    allowance: u32,
     area: &mut [u8],
     spare: &mut [u8],
-    marks: &mut [u16],
-    rounds: &mut u16,
+    marks: &mut [u32],
+    rounds: &mut u32,
 ) -> u8
     ensures number { let p = passed names roles individuals states start concept_rules.now
         concept_exclusions.now role_rules.now role_exclusions.now concept_facts.now role_facts.now
@@ -171,7 +171,7 @@ pub extern "C" fn lampsaffron_marks(
     };
     let number = work_out(&lent, area, spare, &mut row);
     if has_rounds(number) {
-        *rounds = row.told as u16;
+        *rounds = row.told as Rounds;
     }
     number
 }

@@ -4,7 +4,7 @@ ghost use Rattle.tables.specs.Lists.{lists};
 ghost use Rattle.lampsaffron.specs.Boundary.{counted, lent};
 
 use index::Lent;
-use kinds::{Counts, State};
+use kinds::{Counts, Rounds, State};
 use tables::{Collection, Table};
 
 // Five counts, and eight tables of numbers.
@@ -27,7 +27,7 @@ pub(crate) struct Passed<'a> {
 
 impl<'a> Passed<'a> {
     // The collection, each number as its kind, and how many rounds are allowed.
-    pub(crate) fn lent(&self, allowance: u16) -> Lent<'a>
+    pub(crate) fn lent(&self, allowance: Rounds) -> Lent<'a>
         ensures counts { let p = self.now in
             result.collection.counts ≡ counted p.names p.roles p.individuals p.states p.start }
         ensures tables { let p = self.now in

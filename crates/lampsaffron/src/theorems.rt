@@ -1,4 +1,4 @@
-// The theorems of this room: each call gives one outcome, every number and every byte.
+// The theorems of this room: each call gives one outcome, every number and every byte; and of the areas moved.
 ghost use Rattle.std.specs.Prelude.{◌≡◌, ℕ, List};
 ghost use Rattle.meaning.specs.Lent.{Call};
 ghost use Rattle.index.specs.Preparation.{Preparation};
@@ -7,11 +7,15 @@ ghost use Rattle.lampsaffron.specs.Row.{TellsRow};
 ghost use Rattle.lampsaffron.specs.Asks.{Left, TellsAsks};
 ghost use Rattle.lampsaffron.specs.Expression.{Makes, Rows, TellsTables};
 ghost use Rattle.lampsaffron.specs.Marks.{Lent, TellsMarks};
+ghost use Rattle.lampsaffron.specs.Areas.{TellsMoved, TellsBack};
+ghost use Rattle.lampsaffron.specs.Areas.{ThereAndBack, BackAndThere};
+ghost use Rattle.lampsaffron.specs.Areas.{RoundsMoved, RoundsMovedBack};
 ghost use Rattle.expression.specs.Listed.{Listed};
 ghost use Rattle.expression.specs.Answer.{IsAutomatonOf};
 
 // What each call gives and leaves: of one ask, of a row of pairs, of a row of asks, of the marks of
-// rounds, and of the tables of an expression. Of these also the number alone, and the automaton.
+// rounds, of the tables of an expression, and of an area moved and moved back. Of an expression also the number alone,
+// and the automaton.
 pub fn unique()
     ensures one_call { (c : Call) (number number' count count' : ℕ) (x y u v : List ℕ)
         → Gives c number count x y → Gives c number' count' u v
@@ -31,8 +35,23 @@ pub fn unique()
     ensures one_making { (row : List ℕ) (old new new' : Rows) (number number' : ℕ)
         → TellsTables row old number new → TellsTables row old number' new'
         → (number ≡ number') × (new ≡ new') }
+    ensures one_moving { (stored old new new' : List ℕ) (number number' : ℕ)
+        → TellsMoved stored old number new → TellsMoved stored old number' new'
+        → (number ≡ number') × (new ≡ new') }
+    ensures one_moving_back { (area old new new' : List ℕ) (number number' : ℕ)
+        → TellsBack area old number new → TellsBack area old number' new'
+        → (number ≡ number') × (new ≡ new') }
     ensures one_number { (row : List ℕ) (steps finals n m : ℕ)
         → Makes row steps finals n → Makes row steps finals m → n ≡ m }
     ensures one_automaton { (row : List ℕ) (a b : Listed)
         → IsAutomatonOf row a → IsAutomatonOf row b → a ≡ b }
+{}
+
+// Of areas moved: each of the two calls undoes the other, and what holds the sheet of a collection after a round holds it
+// after either.
+pub fn moved()
+    ensures there_and_back { ThereAndBack }
+    ensures back_and_there { BackAndThere }
+    ensures rounds_moved { RoundsMoved }
+    ensures rounds_moved_back { RoundsMovedBack }
 {}

@@ -6,6 +6,7 @@ use Rattle.std.proofs.Math.ListN.{get_or-eq_default}
 use Rattle.std.proofs.lemmas.Nat.Bits.{bit_at-lt}
 use Rattle.kinds.specs.declared.State.{State}
 use Rattle.kinds.specs.declared.Concept.{Concept}
+use Rattle.kinds.specs.Kinds.{most_states}
 use Rattle.laws.specs.Count.{bit}
 use Rattle.laws.specs.Numbers.{numbered, length-numbered, get_d_numbered}
 use Rattle.meaning.specs.Layout.{place_count, byte_bits, bit_in}
@@ -45,14 +46,14 @@ after-rounds 𝓒 n wide area b = (one-sheet (Marked 𝓒 n) wide area b, λ s. 
 
 -- LAW: each determines the other
 pub bits-once : BitsOnce
-bits-once wide x y a b = same_areas x y a.area-long b.area-long a.bytes b.bytes (λ p. sym (a.places p) ∙ b.places p)
+bits-once wide x y a b = same_areas x y (a.area-long ∙ sym b.area-long) a.bytes b.bytes (λ p. sym (a.places p) ∙ b.places p)
 
 pub bytes-once : BytesOnce
 bytes-once v w area a b = ext_get_or 0 v w (a.wide-long ∙ sym b.wide-long) (λ p h. a.places p ∙ sym (b.places p))
 
 -- LAW: to bytes of 0 and 1 there are the bits
 pub bits-there : BitsThere
-bits-there wide long small = (packed is_one, record { wide-long = long; area-long = packed-long is_one; bytes = packed-bytes is_one; places = λ p. at p (dec_lt p place_count) })
+bits-there wide long small = (packed most_states is_one, record { wide-long = long; area-long = packed-long most_states is_one; bytes = packed-bytes most_states is_one; places = λ p. at p (dec_lt p place_count) })
   where
     is_one : ℕ → Bool
     is_one p = eqb (get_or wide p 0) 1
@@ -62,9 +63,9 @@ bits-there wide long small = (packed is_one, record { wide-long = long; area-lon
     value (suc zero) h = refl
     value (suc (suc a)) h = absurd (omega arith)
 
-    at : (p : ℕ) → Dec (p < place_count) → get_or wide p 0 ≡ bit_in (packed is_one) p
-    at p (yes l) = value (get_or wide p 0) (small p) ∙ sym (packed-bit is_one p l)
-    at p (no l) = get_or-eq_default wide 0 {n = p} (omega (arith, long)) ∙ sym (bit_past (packed is_one) p (packed-long is_one) (omega arith))
+    at : (p : ℕ) → Dec (p < place_count) → get_or wide p 0 ≡ bit_in (packed most_states is_one) p
+    at p (yes l) = value (get_or wide p 0) (small p) ∙ sym (packed-bit most_states is_one p l)
+    at p (no l) = get_or-eq_default wide 0 {n = p} (omega (arith, long)) ∙ sym (bit_past (packed most_states is_one) p (packed-long most_states is_one) (omega arith))
 
 -- LAW: and to each area its bytes
 pub bytes-there : BytesThere

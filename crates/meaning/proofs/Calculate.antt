@@ -128,7 +128,7 @@ module _ (c : Call) where
 
   -- the area that holds the sheet after n rounds
   abbrev pub sheet_area : ℕ → List ℕ
-  sheet_area n = image c.counts (lite_sheet (collection_of c) n)
+  sheet_area n = image most_states c.counts (lite_sheet (collection_of c) n)
 
   -- both areas after an answer: the sheet and zeros after 0, 1 and 3; as they came after all else
   abbrev pub area_after : Answer → List ℕ

@@ -17,8 +17,8 @@ use Rattle.theory.specs.Sheet.{Markable, Mark}
 use Rattle.theory.proofs.SheetLaws.{mark-markable}
 use Rattle.meaning.specs.Lite.{lite}
 use Rattle.meaning.specs.Lent.{Tables, Call, collection_of, records, field, Whole, ShapesOk, TablesOk, NumbersOk, AskOk, rule_width, concept_fact_width, role_fact_width, step_width, final_width, most_concept_rules, most_concept_exclusions, most_role_rules, most_role_exclusions, most_concept_facts, most_role_facts, most_steps, most_finals}
-use Rattle.meaning.specs.Layout.{area_length, Lays}
-use Rattle.meaning.proofs.LayoutLaws.{state_declared, concept_declared, concept_declared-in, concept_declared-out, image, image-lays}
+use Rattle.meaning.specs.Layout.{area_length, LaysBy, Lays}
+use Rattle.meaning.proofs.LayoutLaws.{state_declared, concept_declared, concept_declared-in, concept_declared-out, image, image-lays-by}
 use Rattle.meaning.proofs.Declared.{state-in, state-out, concept-in, concept-out}
 use Rattle.meaning.proofs.LiteSheet.{lite_sheet, lite-mark-in, lite-mark-out}
 use Rattle.meaning.proofs.Calculate.{counts_fit, whole, shapes_ok, areas_ok, tables_ok, concepts_declared, roles_declared, concept_fact_declared, role_fact_declared, letter_declared, step_declared, numbers_declared, kind_ok, numbers_ok, ask_ok}
@@ -156,5 +156,9 @@ module _ (𝓒 : Collection) (ok : WellFormed 𝓒) where
       let p : Markable (lite 𝓒) s t B = record { from = state-in 𝓒.counts s i; to = state-in 𝓒.counts t j; of = concept-in 𝓒.counts B d } in
       lite-mark-out 𝓒 ok.numbers n s t B p h
 
-  pub sheet-lays : (n : ℕ) → Lays (Mark (lite 𝓒) n) (image 𝓒.counts (lite_sheet 𝓒 n))
-  sheet-lays n = image-lays 𝓒.counts ok.counts (lite_sheet 𝓒 n) (Mark (lite 𝓒) n) (mark-declared n) (lite-mark-in 𝓒 ok.numbers n) (declared-mark n)
+  pub sheet-lays-by : (states : ℕ) → 𝓒.counts.states ≤ states → (n : ℕ)
+      → LaysBy states (Mark (lite 𝓒) n) (image states 𝓒.counts (lite_sheet 𝓒 n))
+  sheet-lays-by states few n = image-lays-by 𝓒.counts ok.counts (lite_sheet 𝓒 n) (Mark (lite 𝓒) n) (mark-declared n) (lite-mark-in 𝓒 ok.numbers n) (declared-mark n) states few
+
+  pub sheet-lays : (n : ℕ) → Lays (Mark (lite 𝓒) n) (image most_states 𝓒.counts (lite_sheet 𝓒 n))
+  sheet-lays = sheet-lays-by most_states ok.counts.states

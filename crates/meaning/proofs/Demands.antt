@@ -25,11 +25,11 @@ use Rattle.meaning.proofs.OutcomeExists.{sound-well-formed}
 use Rattle.meaning.specs.Demands.{most_rounds, Enough, AsModelSays, Larger, Grown, allowed}
 use Rattle.meaning.proofs.Larger.{contradiction-grows}
 
--- never more than 30,720
-pub most-rounds : (c : Counts) → CountsFit c → most_rounds c ≤ 30720
+-- never more than 126,976
+pub most-rounds : (c : Counts) → CountsFit c → most_rounds c ≤ 126976
 most-rounds c fit =
     let a : c.names + 2 * c.roles ≤ 128 = omega (arith, fit.names, fit.roles) in
-    let b : c.states - 1 ≤ 15 = omega (arith, fit.states) in
+    let b : c.states - 1 ≤ 31 = omega (arith, fit.states) in
     mul-le-mul (mul-le-mul a fit.states) b
 
 module _ (𝓒 : Collection) (ok : WellFormed 𝓒) where

@@ -23,6 +23,7 @@ pub mod Reply
 pub mod ReplyLaws
 pub mod ClashLaws
 pub mod LayoutLaws
+pub mod FormerLaws
 pub mod AreaLaws
 pub mod LiteMarks
 pub mod Calculate

@@ -1,9 +1,8 @@
 -- How many marks the rounds of a collection make, and how many stand in the area that holds its sheet.
-use Rattle.std.specs.Prelude.{◌≡◌, refl, Bool, true, false, List, ◌∷◌, T, eqb, ℕ, zero, suc, ◌+◌, ◌*◌, ◌^◌, ◌≤◌, ◌<◌, length, sum, map, leb}
+use Rattle.std.specs.Prelude.{◌≡◌, refl, Bool, true, false, List, ◌∷◌, T, eqb, ℕ, zero, suc, ◌+◌, ◌*◌, ◌≤◌, length, sum, map, leb}
 use Rattle.std.proofs.Common.{sym, ap, ◌∙◌, arith, eqb→eq, le→leb}
 use Rattle.std.proofs.Math.Dec.{eqb_refl}
 use Rattle.std.proofs.Math.Decide.{dec_lt}
-use Rattle.std.proofs.Math.Nat.{mul-le-mul}
 use Rattle.std.proofs.lemmas.List.{length-map}
 use Rattle.kinds.specs.declared.State.{State}
 use Rattle.kinds.specs.declared.Concept.{Concept}
@@ -30,7 +29,7 @@ use Rattle.meaning.proofs.Declared.{concepts-count, states-count, lite-sane}
 use Rattle.meaning.proofs.LiteTests.{lite_tests, lite-decides}
 use Rattle.meaning.proofs.LayoutLaws.{place-once, bit_past}
 use Rattle.meaning.proofs.RoundLaws.{marked-valid}
-use Rattle.theory.proofs.MarksLaws.{adds-few, stands-sum, counts-make-sheet, counts-most}
+use Rattle.theory.proofs.MarksLaws.{adds-most, stands-sum, counts-make-sheet, counts-most}
 
 -- one number of marks stands in an area
 ones-long : (area x y : List ℕ) → Ones area x → Ones area y → length x ≡ length y
@@ -98,16 +97,13 @@ module _ (𝓒 : Collection) (ok : WellFormed 𝓒) where
       let e = counts-make-sheet (lite 𝓒) lite-countable n counts m r s in
       rw (states-count 𝓒.counts, concepts-count 𝓒.counts) at e
 
-  -- THEOREM: no round adds more marks than 16 bits hold
-  pub lite-few : (n m : ℕ) → Adds (lite 𝓒) n m → m < 2 ^ 16
+  -- THEOREM: no round adds more marks than concepts × states × (states − 1)
+  pub lite-few : (n m : ℕ) → Adds (lite 𝓒) n m → m ≤ most_rounds 𝓒.counts
   lite-few n m a =
-      let few = adds-few (lite 𝓒) n m a in
-      let g = rw (states-count 𝓒.counts, concepts-count 𝓒.counts) at few in
-      let b : 𝓒.counts.names + 2 * 𝓒.counts.roles ≤ 128 = omega (arith, ok.counts.names, ok.counts.roles) in
-      let p = mul-le-mul ok.counts.states (mul-le-mul ok.counts.states b) in
-      omega (arith, g, p)
+      let e = adds-most (lite 𝓒) lite-countable n m a in
+      rw (states-count 𝓒.counts, concepts-count 𝓒.counts) at e
 
-  -- THEOREM: there are no more counts than concepts × states × (states − 1)
+  -- THEOREM: and there are no more counts than that
   pub lite-most : (n : ℕ) → Needed (lite 𝓒) n → (k : ℕ) → k ≤ n → (counts : List ℕ) → RoundCounts (lite 𝓒) k counts → length counts ≤ most_rounds 𝓒.counts
   lite-most n needed k h counts r =
       let e = counts-most (lite 𝓒) lite-countable n needed k h counts r in

@@ -1,5 +1,5 @@
 -- Laws of how many marks the rounds of a collection make, and of how many stand in the area.
-use Rattle.std.specs.Prelude.{◌≡◌, List, ℕ, ◌+◌, ◌*◌, ◌^◌, ◌≤◌, ◌<◌, length, sum}
+use Rattle.std.specs.Prelude.{◌≡◌, List, ℕ, ◌+◌, ◌*◌, ◌≤◌, ◌<◌, length, sum}
 use Rattle.kinds.specs.declared.Counts.{Counts}
 use Rattle.laws.specs.Once.{AtMostOne}
 use Rattle.meaning.specs.Collection.{Collection, WellFormed}
@@ -39,16 +39,17 @@ AreaStands = (𝓒 : Collection) → WellFormed 𝓒 → (n : ℕ) (counts area 
 abbrev pub StandingOnce : Type 0
 StandingOnce = (area : List ℕ) → AtMostOne (Standing area)
 
--- a round up to the rounds needed adds a mark or more, and no round more than 16 bits hold
+-- a round up to the rounds needed adds a mark or more, and no round more than concepts × states ×
+-- (states − 1)
 abbrev pub CollectionAddsSome : Type 0
 CollectionAddsSome = (𝓒 : Collection) → WellFormed 𝓒 → (n : ℕ) → Needed (lite 𝓒) n
     → (k : ℕ) → k < n → (m : ℕ) → Adds (lite 𝓒) k m → 1 ≤ m
 
 abbrev pub CollectionAddsFew : Type 0
 CollectionAddsFew = (𝓒 : Collection) → WellFormed 𝓒 → (n m : ℕ) → Adds (lite 𝓒) n m
-    → m < 2 ^ 16
+    → m ≤ most_rounds 𝓒.counts
 
--- up to the rounds needed there are no more counts than concepts × states × (states − 1)
+-- up to the rounds needed there are no more counts than that
 abbrev pub CollectionCountsAtMost : Type 0
 CollectionCountsAtMost = (𝓒 : Collection) → WellFormed 𝓒
     → (n : ℕ) → Needed (lite 𝓒) n → (k : ℕ) → k ≤ n

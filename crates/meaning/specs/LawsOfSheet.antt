@@ -106,15 +106,15 @@ abbrev pub RoundsAtMost : Type 0
 RoundsAtMost = (𝓒 : Collection) → WellFormed 𝓒 → (n : ℕ) → Needed (lite 𝓒) n
     → n ≤ most_rounds 𝓒.counts
 
--- so at most 30,720
+-- so at most 126,976
 abbrev pub MostRounds : Type 0
-MostRounds = (c : Counts) → CountsFit c → most_rounds c ≤ 30720
+MostRounds = (c : Counts) → CountsFit c → most_rounds c ≤ 126976
 
 -- "concepts", as a count, means names + 2 × roles
 abbrev pub ConceptsCounted : Type 0
 ConceptsCounted = (c : Counts) → length (valid_concepts c) ≡ c.names + 2 * c.roles
 
--- at the place of a mark, s × 2,048 + t × 128 + B, an area that holds the sheet has 1, and where
+-- at the place of a mark, s × 4,096 + t × 128 + B, an area that holds the sheet has 1, and where
 -- there is none 0
 abbrev pub MarkIsOne : Type 0
 MarkIsOne = (𝓒 : Collection) → WellFormed 𝓒 → (n : ℕ) (area : List ℕ) → Lays (Marked 𝓒 n) area

@@ -62,10 +62,10 @@ abbrev pub most_role_facts : ℕ
 most_role_facts = 4096
 
 abbrev pub most_steps : ℕ
-most_steps = 512
+most_steps = 1024
 
 abbrev pub most_finals : ℕ
-most_finals = 16
+most_finals = 32
 
 -- number j of record k, in a table with so many numbers to a record
 abbrev pub field : ℕ → List ℕ → ℕ → ℕ → ℕ

@@ -25,6 +25,7 @@ pub mod LawsOfOrders
 pub mod LawsOfModel
 pub mod LawsOfSheet
 pub mod Bytes
+pub mod Former
 pub mod LawsOfMarks
 pub mod LawsOfCalls
 pub mod LawsOfDeeds

@@ -21,7 +21,8 @@ pub fn forbidden()
     ensures role { (c : Collection) (x y : Element c) (R : SignedRole) → RoleSelfExcluded c R
         → ModelEdge c (individuals c) x R y → Contradiction c }
     ensures neighbour { (c : Collection) (x : Element c) (R : SignedRole) → RoleSelfExcluded c R
-        → Belongs c (individuals c) x → HasConcept c (individuals c) x (Exists R) → Contradiction c }
+        → Belongs c (individuals c) x → HasConcept c (individuals c) x (Exists R)
+        → Contradiction c }
 {}
 
 // A forbidden concept may imply anything: no contradiction, yes or no differs for it. Counts and

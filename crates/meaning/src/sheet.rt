@@ -10,6 +10,10 @@ ghost use Rattle.meaning.specs.LawsOfSheet.{AreaThere, AreaOnce};
 ghost use Rattle.meaning.specs.Bytes.{OneSheetSamePlaces, BytesToBits, BitsToBytes};
 ghost use Rattle.meaning.specs.Bytes.{SameAfterRounds, BothThere, BitsOnce, BytesOnce};
 ghost use Rattle.meaning.specs.Bytes.{BitsThere, BytesThere};
+ghost use Rattle.meaning.specs.Former.{HeldIsMoved, HeldIsMovedBack};
+ghost use Rattle.meaning.specs.Former.{MovedThere, MovedOnce, MovedSame, BackSays, BackOnce};
+ghost use Rattle.meaning.specs.Former.{MovedExactly, FormerThere};
+ghost use Rattle.meaning.specs.Former.{MovedAfterRounds, BackAfterRounds};
 ghost use Rattle.meaning.specs.LawsOfMarks.{CollectionCountable, CollectionCounts};
 ghost use Rattle.meaning.specs.LawsOfMarks.{CollectionStands, AreaStands, StandingOnce};
 ghost use Rattle.meaning.specs.LawsOfMarks.{CollectionAddsSome, CollectionAddsFew};
@@ -62,6 +66,27 @@ pub fn packed()
     ensures bytes_once { BytesOnce }
     ensures bits_there { BitsThere }
     ensures bytes_there { BytesThere }
+{}
+
+// An area that was stored while there were at most 16 states, and the area of today that it is moved
+// to, hold the same sheets,
+pub fn any_moved<F: AnyMarks>()
+    ensures held_is_moved { HeldIsMoved F.marks }
+    ensures held_is_moved_back { HeldIsMovedBack F.marks }
+{}
+
+// each determines the other, and after every round of a collection of so few states they hold its
+// sheet.
+pub fn moved()
+    ensures there { MovedThere }
+    ensures once { MovedOnce }
+    ensures same { MovedSame }
+    ensures back_says { BackSays }
+    ensures back_once { BackOnce }
+    ensures exactly { MovedExactly }
+    ensures former_there { FormerThere }
+    ensures after_rounds { MovedAfterRounds }
+    ensures back_after_rounds { BackAfterRounds }
 {}
 
 // How many marks the rounds of a collection make, and what then stands in the area that holds its

@@ -33,9 +33,9 @@ stopped c m =
     rw (e, f) (capped-mul ((c.names + 2 * c.roles) * c.states) (c.states - 1) m)
 
 -- what some frames declare has no more rounds than any collection
-most-declared : (fs : List Frame) → Taken fs → most_rounds (declared_by fs) ≤ 30720
+most-declared : (fs : List Frame) → Taken fs → most_rounds (declared_by fs) ≤ 126976
 most-declared [] t = omega arith
 most-declared (f ∷ fs) t = most-rounds (declared_by (f ∷ fs)) (fitting (f ∷ fs) t (λ e. cc))
 
-pub most-read : (file : File) → IsRead file → most_rounds file.counts ≤ 30720
+pub most-read : (file : File) → IsRead file → most_rounds file.counts ≤ 126976
 most-read file read = rw read.kept (most-declared read.frames read.taken)

@@ -1,4 +1,4 @@
--- Frames that are taken stay within the most of each table, so that there are at most 7,186 of them.
+-- Frames that are taken stay within the most of each table, so that there are at most 7,714 of them.
 use Rattle.std.specs.Prelude.{ℕ, ◌+◌, ◌<◌, ◌≤◌, ◌≡◌, Bool, true, false, List, [], ◌∷◌, ◌++◌, Option, None, Some, cond, is_some, length, count_by}
 use Rattle.std.proofs.Common.{refl, ap, arith}
 use Rattle.std.proofs.lemmas.List.Sums.{sum_by-cons, sum_by_push}
@@ -145,7 +145,7 @@ all-length : (fs : List Frame) → length fs ≤ all fs
 all-length [] = omega arith
 all-length (f ∷ fs) = omega (arith, all-length fs, all-cons f fs, one-kind f)
 
--- the most lines of a sound file: line 1, the allowance, and as many as the tables have records; 7,186
+-- the most lines of a sound file: line 1, the allowance, and as many as the tables have records; 7,714
 abbrev pub most_lines : ℕ
 most_lines = 2 + most concept_rules + most concept_exclusions + most role_rules + most role_exclusions + most concept_facts + most role_facts + most steps + most finals + most asks
 

@@ -5,9 +5,11 @@ use Rattle.std.proofs.Common.{refl, sym, ap, ◌∙◌, arith, length-append}
 use Rattle.std.proofs.lemmas.Bool.Decides.{nat_tests}
 use Rattle.laws.specs.First.{fails}
 use Rattle.streams.specs.Lines.{lines, TakesLine, BeginsLonger}
+use Rattle.streams.specs.declared.TheConstants.{LINE}
 use Rattle.frames.specs.Digits.{LineOk}
 use Rattle.frames.specs.Frames.{FrameOf}
 use Rattle.frames.specs.declared.Frame.{Frame}
+use Rattle.frames.proofs.Lengths.{no_longer}
 use Rattle.frames.specs.declared.Misread.TheVariants as misread
 use Rattle.reading.specs.declared.Fault.{Fault}
 use Rattle.reading.specs.declared.File.{File}
@@ -43,15 +45,15 @@ goes_stop (Some x) (Some y) None before line r g t h = absurd t
 goes_stop (Some x) (Some y) (Some z) before line r g t h = g (faulty before r) (rw t (stopped before line (lines z) r h))
 
 -- a line that is too long is none
-pub long_line : (line : List ℕ) (n : ℕ) → 64 ≤ n → n < length line → FrameOf line (Err misread.BadLine)
-long_line line n m h = fails (λ (ok : LineOk line). omega (arith, ok.short))
+pub long_line : (line : List ℕ) (n : ℕ) → LINE ≤ n → n < length line → FrameOf line (Err misread.BadLine)
+long_line line n m h = fails (λ (ok : LineOk line). omega (arith, ok.short, no_longer line))
 
-reading_long : (before : List Frame) (n : ℕ) → 64 ≤ n → (ls : List (List ℕ)) → IsSomeAnd (slice_get ls 0) (λ line. n < length line)
+reading_long : (before : List Frame) (n : ℕ) → LINE ≤ n → (ls : List (List ℕ)) → IsSomeAnd (slice_get ls 0) (λ line. n < length line)
     → Reading before ls (faulty before BadLine)
 reading_long before n m [] h = absurd h
 reading_long before n m (line ∷ ls) h = stopped before line ls BadLine (unread misread.BadLine (long_line line n m h))
 
-goes_long : (a b : Option (List ℕ)) (before : List Frame) (n : ℕ) → 64 ≤ n → GoesOn a b before → BeginsLonger b n
+goes_long : (a b : Option (List ℕ)) (before : List Frame) (n : ℕ) → LINE ≤ n → GoesOn a b before → BeginsLonger b n
     → ReadingOf a (faulty before BadLine)
 goes_long None b before n m g h = tt
 goes_long (Some x) None before n m g h = absurd g
@@ -129,7 +131,7 @@ module _ {input left : Option (List ℕ)} {file : File} (w : Begun input left fi
         by new (turns.refused r i) e =
             reads input (faulty w.before r) (goes_stop input left next w.before line r w.goes t i) (ap Err e) refl
 
-  pub stops_long : {n : ℕ} {fault : Fault} → 64 ≤ n → BeginsLonger left n → fault ≡ record { line = file.lines + 1; refusal = BadLine }
+  pub stops_long : {n : ℕ} {fault : Fault} → LINE ≤ n → BeginsLonger left n → fault ≡ record { line = file.lines + 1; refusal = BadLine }
       → IfSome input (λ xs. ReadsFile (lines xs) (Err fault) file)
   stops_long {n} m h e =
       reads input (faulty w.before BadLine) (goes_long input left w.before n m w.goes h)

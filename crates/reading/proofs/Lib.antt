@@ -9,6 +9,7 @@ pub mod Rows
 pub mod GoingOn
 pub mod Fronts
 pub mod Once
+pub mod FormerLaws
 pub mod Accepted
 pub mod Prefix
 pub mod Listed

@@ -9,7 +9,7 @@ use Rattle.reading.specs.declared.File.{File}
 use Rattle.reading.specs.declared.Refusal.{Refusal}
 use Rattle.reading.specs.File.{file_of}
 use Rattle.reading.specs.Judged.{Judged}
-use Rattle.reading.specs.Reading.{Finds, unread, refused, taken, Verdict, frames_of, Reading, empty, whole, stopped, onward}
+use Rattle.reading.specs.Reading.{Finds, unread, refused, taken, Verdict, frames_of, ReadingBy, Reading, empty, whole, stopped, onward}
 use Rattle.reading.specs.Reads.{ReadsFile, told_of}
 
 -- THEOREM: a frame is refused for one reason, or taken
@@ -41,17 +41,22 @@ finds-once {before} {line} (taken g k i) (refused f r h j) =
     absurd cc
 finds-once {line = line} (taken f h j) (taken g k i) = let e = frame-once line (Ok f) (Ok g) h k in cc
 
--- THEOREM: reading comes to one result
+-- THEOREM: reading comes to one result, wherever a line is found to be one thing
+module _ (Found : List Frame → List ℕ → Result Frame Refusal → Type 0)
+    (found-once : (before : List Frame) (line : List ℕ) (r q : Result Frame Refusal) → Found before line r → Found before line q → r ≡ q) where
+  pub once-by : {before : List Frame} {ls : List (List ℕ)} {v w : Verdict} → ReadingBy Found before ls v → ReadingBy Found before ls w → v ≡ w
+  once-by empty empty = refl
+  once-by (whole f fs) (whole g gs) = refl
+  once-by (stopped before l ls r h) (stopped b m ms q k) = let e = found-once before l _ _ h k in cc
+  once-by (stopped before l ls r h) (onward b m ms f w k rest) = let e = found-once before l _ _ h k in absurd cc
+  once-by (onward b m ms f w k rest) (stopped before l ls r h) = let e = found-once before l _ _ h k in absurd cc
+  once-by (onward before l ls f v h rest) (onward b m ms g w k rest') =
+      let e = found-once before l _ _ h k in
+      let d : f ≡ g = cc in
+      once-by (rw d at rest) rest'
+
 pub reading-once : {before : List Frame} {ls : List (List ℕ)} {v w : Verdict} → Reading before ls v → Reading before ls w → v ≡ w
-reading-once empty empty = refl
-reading-once (whole f fs) (whole g gs) = refl
-reading-once (stopped before l ls r h) (stopped b m ms q k) = let e = finds-once h k in cc
-reading-once (stopped before l ls r h) (onward b m ms f w k rest) = let e = finds-once h k in absurd cc
-reading-once (onward b m ms f w k rest) (stopped before l ls r h) = let e = finds-once h k in absurd cc
-reading-once (onward before l ls f v h rest) (onward b m ms g w k rest') =
-    let e = finds-once h k in
-    let d : f ≡ g = cc in
-    reading-once (rw d at rest) rest'
+reading-once = once-by Finds (λ before line r q a b. finds-once a b)
 
 -- THEOREM: two outcomes of reading some lines are equal
 pub reads-once : {ls : List (List ℕ)} {r q : Result (Unit {0}) Fault} {x y : File} → ReadsFile ls r x → ReadsFile ls q y → (r ≡ q) × (x ≡ y)

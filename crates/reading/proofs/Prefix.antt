@@ -1,9 +1,10 @@
--- The first 467,155 bytes of an input decide what reading finds: a sound file has at most 7,186 lines of at most 64 characters and their ends.
+-- The first 1,010,665 bytes of an input decide what reading finds: a sound file has at most 7,714 lines of at most 130 characters and their ends.
 use Rattle.std.specs.Prelude.{ℕ, zero, suc, ◌+◌, ◌-◌, ◌*◌, ◌<◌, ◌≤◌, ◌≡◌, ◌≢◌, ◌==◌, Bool, true, false, List, [], ◌∷◌, ◌++◌, Err, length, get_or, take}
 use Rattle.std.proofs.Common.{refl, sym, ap, subst, take_all, take-take, length-append, arith}
 use Rattle.std.proofs.Math.Seq.{take-append-add}
 use Rattle.std.proofs.lemmas.Bool.Decides.{nat_tests}
 use Rattle.streams.specs.Lines.{longer, lines}
+use Rattle.streams.specs.declared.TheConstants.{LINE}
 use Rattle.frames.specs.declared.Frame.{Frame}
 use Rattle.frames.specs.declared.Misread.TheVariants as misread
 use Rattle.reading.specs.declared.Refusal.TheVariants.{BadLine}
@@ -16,7 +17,7 @@ use Rattle.reading.proofs.Once.{finds-once}
 
 -- the bytes of a line of the most characters and its end
 abbrev pub line_bytes : ℕ
-line_bytes = 64 + 1
+line_bytes = LINE + 1
 
 -- one line more than a sound file can have
 abbrev pub most_bytes : ℕ
@@ -29,8 +30,8 @@ alike-back (same l a) = same l (alike-back a)
 alike-back (long l m h k) = long m l k h
 
 -- a line that is too long is no line
-finds_long : (before : List Frame) (l : List ℕ) → 64 < length l → Finds before l (Err BadLine)
-finds_long before l h = unread misread.BadLine (long_line l 64 (omega arith) h)
+finds_long : (before : List Frame) (l : List ℕ) → LINE < length l → Finds before l (Err BadLine)
+finds_long before l h = unread misread.BadLine (long_line l LINE (omega arith) h)
 
 pub reading-alike : {r : ℕ} {ls ms : List (List ℕ)} {before : List Frame} {v : Verdict} → Alike r ls ms → Taken before
     → most_lines < r + length before
@@ -148,13 +149,13 @@ lines-alike (suc r) x n h = by (scan line_bytes x) (λ y m. lines-alike r y m)
         rw (e, d, take-append-add l (0x0A ∷ rest) (suc m), line_first l rest p, line_first l (take m rest) p) (same l (on rest m (omega arith)))
     by (at_last p g) on = rw (take_all n x (omega arith)) (last-alike r x p)
     by (beyond g p) on =
-        let f = first-line 64 x g p in
+        let f = first-line LINE x g p in
         let i = take_long line_bytes n x (omega arith) g in
         let q = subst Plain (sym (take-take line_bytes n x (omega arith))) p in
-        let k = first-line 64 (take n x) i q in
+        let k = first-line LINE (take n x) i q in
         rw (f.is, k.is) (long f.line k.line (omega (arith, f.long-enough)) (omega (arith, k.long-enough)))
 
--- THEOREM: what reading finds of the first 467,155 bytes of an input, or of any more of them, it finds of the whole, and the other way
+-- THEOREM: what reading finds of the first 1,010,665 bytes of an input, or of any more of them, it finds of the whole, and the other way
 module _ (x : List ℕ) (n : ℕ) (h : most_bytes ≤ n) (v : Verdict) where
   pub reading-start : Reading [] (lines x) v → Reading [] (lines (take n x)) v
   reading-start = reading-alike (lines-alike (most_lines + 1) x n h) none (omega arith)

@@ -2,8 +2,8 @@
 use Rattle.std.specs.Prelude.{ℕ, suc, ◌+◌, ◌*◌, ◌<◌, ◌≤◌, ◌≡◌, ◌≢◌, ◌↔◌, List, [], ◌∷◌, Result, length, take, count_by}
 use Rattle.meaning.specs.Lent.{Tables, Sound}
 use Rattle.streams.specs.Lines.{lines}
+use Rattle.streams.specs.declared.TheConstants.{LINE}
 use Rattle.expression.specs.Listed.{Listed}
-use Rattle.frames.specs.Digits.{line_length}
 use Rattle.frames.specs.declared.Frame.{Frame}
 use Rattle.reading.specs.declared.Fault.{Fault}
 use Rattle.reading.specs.declared.File.{File}
@@ -78,10 +78,10 @@ pub record Within (fs : List Frame) : Type 0 where
 abbrev pub TakenWithin : Type 0
 TakenWithin = (fs : List Frame) → Taken fs → Within fs
 
--- and any frames that do, taken or not, are at most 7,186: line 1, the allowance, and as many as
+-- and any frames that do, taken or not, are at most 7,714: line 1, the allowance, and as many as
 -- the tables have records
 abbrev pub LinesBounded : Type 0
-LinesBounded = (fs : List Frame) → Within fs → length fs ≤ 7186
+LinesBounded = (fs : List Frame) → Within fs → length fs ≤ 7714
 
 -- two rows of lines that read alike for n lines: the same, up to one that is too long in both
 pub data Alike : ℕ → List (List ℕ) → List (List ℕ) → Type 0 where
@@ -89,17 +89,16 @@ pub data Alike : ℕ → List (List ℕ) → List (List ℕ) → Type 0 where
   ended : {n : ℕ} → Alike n [] []
   same : {n : ℕ} {ls ms : List (List ℕ)} (l : List ℕ) → Alike n ls ms
       → Alike (suc n) (l ∷ ls) (l ∷ ms)
-  long : {n : ℕ} {ls ms : List (List ℕ)} (l m : List ℕ) → line_length < length l
-      → line_length < length m
+  long : {n : ℕ} {ls ms : List (List ℕ)} (l m : List ℕ) → LINE < length l → LINE < length m
       → Alike n (l ∷ ls) (m ∷ ms)
 
 -- an input and its first n bytes read alike for as many lines as surely stand within them, each of
--- at most 64 characters and its end
+-- at most 130 characters and its end
 abbrev pub StartAlike : Type 0
-StartAlike = (input : List ℕ) (r n : ℕ) → r * 65 ≤ n
+StartAlike = (input : List ℕ) (r n : ℕ) → r * 131 ≤ n
     → Alike r (lines input) (lines (take n input))
 
--- the first 467,155 bytes of an input, or more of them, are found to be what the whole is
+-- the first 1,010,665 bytes of an input, or more of them, are found to be what the whole is
 abbrev pub StartDecides : Type 0
-StartDecides = (input : List ℕ) (n : ℕ) → 467155 ≤ n → (v : Verdict)
+StartDecides = (input : List ℕ) (n : ℕ) → 1010665 ≤ n → (v : Verdict)
     → Reading [] (lines (take n input)) v ↔ Reading [] (lines input) v

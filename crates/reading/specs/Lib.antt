@@ -8,3 +8,4 @@ pub mod Turns
 pub mod Front
 pub mod Laws
 pub mod Deeds
+pub mod Former

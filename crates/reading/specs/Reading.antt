@@ -27,14 +27,21 @@ abbrev pub frames_of : Verdict → List Frame
 frames_of (faulty before r) = before
 frames_of (sound fs) = fs
 
--- reading on at some lines, after the frames of those before; an empty file lacks its line 1
-pub data Reading : List Frame → List (List ℕ) → Verdict → Type 0 where
-  empty : Reading [] [] (faulty [] OutOfPlace)
-  whole : (f : Frame) (fs : List Frame) → Reading (f ∷ fs) [] (sound (f ∷ fs))
+-- reading on at some lines, after the frames of those before, by what each line is found to be; an
+-- empty file lacks its line 1
+pub data ReadingBy (Found : List Frame → List ℕ → Result Frame Refusal → Type 0)
+    : List Frame → List (List ℕ) → Verdict → Type 0 where
+  empty : ReadingBy Found [] [] (faulty [] OutOfPlace)
+  whole : (f : Frame) (fs : List Frame) → ReadingBy Found (f ∷ fs) [] (sound (f ∷ fs))
   stopped : (before : List Frame) (line : List ℕ) (ls : List (List ℕ)) (r : Refusal)
-      → Finds before line (Err r) → Reading before (line ∷ ls) (faulty before r)
+      → Found before line (Err r) → ReadingBy Found before (line ∷ ls) (faulty before r)
   onward : (before : List Frame) (line : List ℕ) (ls : List (List ℕ)) (f : Frame) (v : Verdict)
-      → Finds before line (Ok f) → Reading (before ++ f ∷ []) ls v → Reading before (line ∷ ls) v
+      → Found before line (Ok f) → ReadingBy Found (before ++ f ∷ []) ls v
+      → ReadingBy Found before (line ∷ ls) v
+
+-- by the rules
+abbrev pub Reading : List Frame → List (List ℕ) → Verdict → Type 0
+Reading = ReadingBy Finds
 
 -- frames of which each was taken after those before it
 pub data Taken : List Frame → Type 0 where

@@ -122,15 +122,17 @@ impl From<Misread> for Refusal {
     }
 }
 
-// Concepts × states × (states − 1) rounds, which always suffice. Of more than a file may declare, at most what 16 bits hold.
+// Concepts × states × (states − 1) rounds, which always suffice. Of more than a file may declare, at most what 32 bits hold.
 #[tactic(auto, using(crate::proofs::Allowance::stopped))]
 fn most_rounds(counts: Counts) -> Rounds
-    ensures { result ≡ min (most_rounds counts) (2 ^ 16 - 1) }
+    ensures { result ≡ min (most_rounds counts) (2 ^ 32 - 1) }
 {
-    let concepts = counts.names.saturating_add(counts.roles.saturating_mul(2));
-    let others = counts.states.saturating_sub(1);
-    concepts
-        .saturating_mul(counts.states)
+    let names = Rounds::from(counts.names);
+    let roles = Rounds::from(counts.roles);
+    let states = Rounds::from(counts.states);
+    let others = states.saturating_sub(1);
+    (names + 2 * roles)
+        .saturating_mul(states)
         .saturating_mul(others)
 }
 
@@ -172,7 +174,7 @@ impl File {
 
     // The allowance of rounds; where none is given, as many as always suffice.
     pub fn allowance(&self) -> Rounds
-        ensures held { result ≡ min (allowance_in self.now) (2 ^ 16 - 1) }
+        ensures held { result ≡ min (allowance_in self.now) (2 ^ 32 - 1) }
         ensures read { IsRead self.now → result ≡ allowance_in self.now }
     {
         match self.allowance {

@@ -3,6 +3,7 @@ ghost use Rattle.reading.specs.Laws.{JudgedOnce, FindsOnce, ReadingOnce, ReadsOn
 ghost use Rattle.reading.specs.Laws.{RefusalsListed, ReadingTaken, TakenAccepted, WholeAccepted};
 ghost use Rattle.reading.specs.Laws.{QuestionOnce, LentOnce};
 ghost use Rattle.reading.specs.Laws.{TakenWithin, LinesBounded, StartAlike, StartDecides};
+ghost use Rattle.reading.specs.Former.{FormerOnce, FormerFound, FormerSound, FormerElse};
 ghost use Rattle.reading.specs.Deeds.{ReadsWithoutDeeds, ConceptFactsKept, RoleFactsKept};
 
 // What is found is one thing.
@@ -36,4 +37,12 @@ pub fn deeds()
     ensures reading { ReadsWithoutDeeds }
     ensures concept_facts { ConceptFactsKept }
     ensures role_facts { RoleFactsKept }
+{}
+
+// What a file was found to be while there were at most 16 states. Those that were sound are sound, with the same frames.
+pub fn former()
+    ensures once { FormerOnce }
+    ensures found { FormerFound }
+    ensures sound { FormerSound }
+    ensures any_other { FormerElse }
 {}

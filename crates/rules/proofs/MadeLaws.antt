@@ -1,6 +1,8 @@
 -- The laws of the maker of rows: one turn more, and what the last makes.
-use Rattle.std.specs.Prelude.{◌≡◌, refl, ◌⊎◌, List, ℕ, ◌+◌, ◌<◌, get_or, set, replicate}
-use Rattle.std.proofs.Common.{ap, ◌∙◌, inl, inr, ⊎_elim, arith, Bor}
+use Rattle.std.specs.Prelude.{◌≡◌, refl, ◌⊎◌, List, ℕ, ◌+◌, ◌<◌, ◌≤◌, length, get_or, set, replicate, slice_index_or}
+use Rattle.std.proofs.Common.{ap, sym, ◌∙◌, inl, inr, ⊎_elim, arith, rules, Bor, ext_get_or}
+use Rattle.std.proofs.Math.Decide.{ℕ_discrete}
+use Rattle.std.proofs.lemmas.List.{length-replicate}
 use Rattle.kinds.specs.declared.SignedRole.{SignedRole}
 use Rattle.kinds.specs.Kinds.{base, flip, inverse, state, concept_name}
 use Rattle.laws.specs.Fill.{filled_with}
@@ -8,8 +10,8 @@ use Rattle.laws.specs.Loops.{nothing_added, add_first, add_same, add_then}
 use Rattle.laws.specs.Numbers.{numbered}
 use Rattle.meaning.specs.Collection.{Step, step, test}
 use Rattle.meaning.specs.Lent.{step_at}
-use Rattle.sets.specs.Bits.{IsOnly, Inserts}
-use Rattle.sets.proofs.Laws.{none_has}
+use Rattle.sets.specs.Bits.{Has, IsEmpty, IsOnly, IsUnion, Inserts}
+use Rattle.sets.proofs.Laws.{none_has, is_empty}
 use Rattle.sets.specs.declared.concepts.ConceptSet.{ConceptSet}
 use Rattle.sets.specs.declared.roles.RoleSet.{RoleSet}
 use Rattle.sets.specs.declared.states.StateSet.{StateSet}
@@ -56,6 +58,33 @@ tests_more f k one below e a b =
       made = m;
       follows = p.follows;
     }
+
+-- a table of so many rows that was filled with the set of no concept
+pub all_blank : (n long : ℕ) (new : List ConceptSet) → long ≡ n → new ≡ replicate long no_concepts → new ≡ replicate n no_concepts
+all_blank n long new e h = rw e at h
+
+-- all has what the first n rows have
+abbrev pub Unites : List ConceptSet → ℕ → ℕ → Type 0
+Unites tests n all = (q B : ℕ) → q < n → Has (slice_index_or tests q no_concepts).0 B → Has all B
+
+pub unites_more : (tests : List ConceptSet) (n all more : ℕ) → Unites tests n all
+    → IsUnion all (slice_index_or tests n no_concepts).0 more → Unites tests (n + 1) more
+unites_more tests n all more w u q B h p = elim (ℕ_discrete q n) [
+  | yes e ↦ (u.member B).1 (inr (rw e at p))
+  | no ne ↦ (u.member B).1 (inl (w q B (omega arith) p))
+]
+
+-- where that is nothing, each row is the set of no concept
+pub unites_none : (tests : List ConceptSet) (n long all : ℕ) → length tests ≡ long → long ≤ n → Unites tests n all → IsEmpty all
+    → tests ≡ replicate long no_concepts
+unites_none tests n long all e few w none =
+    ext_get_or no_concepts tests (replicate long no_concepts) (e ∙ sym (length-replicate {A = ConceptSet} long no_concepts)) (λ i h. at i h ∙ sym (filled_with no_concepts long i))
+  where
+    at : (i : ℕ) → i < length tests → get_or tests i no_concepts ≡ no_concepts
+    at i h =
+        let z = (is_empty (get_or tests i no_concepts).0).1 (λ B p. none B (w i B (omega (arith, h, e, few)) p)) in
+        let z0 : (get_or tests i no_concepts).0 ≡ 0 = search rules in
+        ap (λ (n : ℕ). let set : ConceptSet = record { 0 = n } in set) z0
 
 pub tests_are : (steps : List Step) (below tests : List ConceptSet) (n : ℕ)
     → Gets (Passes (Among steps) below) (replicate n no_concepts) tests → AreTests steps below tests

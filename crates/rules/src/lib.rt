@@ -7,4 +7,4 @@ pub mod theorems;
 mod transitions;
 
 pub use rows::{Edge, Rows};
-pub use transitions::{NO_TRANSITIONS, fill_transitions, nowhere};
+pub use transitions::fill_transitions;

@@ -1,7 +1,9 @@
 // The rows of a collection, from its counts, orders and steps. One function makes each part.
 
-ghost use Rattle.std.specs.Prelude.{◌<◌};
+ghost use Rattle.std.specs.Prelude.{◌≡◌, ◌*◌, ◌<◌, replicate};
+ghost use Rattle.std.specs.Bool.{OnTrue};
 ghost use Rattle.kinds.specs.Kinds.{most_states, state, number_of, concept_of, StateDeclared, ConceptDeclared};
+ghost use Rattle.sets.specs.Rows.{no_concepts};
 ghost use Rattle.rules.specs.Rows.{most_concepts, most_edges, Gets};
 ghost use Rattle.rules.specs.Steps.{step_of, steps_of, Just, Among};
 ghost use Rattle.rules.specs.Made.{InsertsIf, IsStates, IsConcepts, Passes, IsEdgesTo, AreEdgesTo, IsEdge, AreEdges};
@@ -58,6 +60,28 @@ fn concepts(counts: Counts) -> ConceptSet
         set = with_concept(set, k, counts);
     }
     set
+}
+
+// Whether there is no test at any pair of states. There is no branch on a row.
+fn has_none(tests: &Sheet) -> bool
+    ensures { OnTrue result (tests.now ≡ replicate (most_states * most_states) no_concepts) }
+{
+    let mut all = ConceptSet::EMPTY;
+    for row in tests.iter() {
+        all = all.union(*row);
+    }
+    all.is_empty()
+}
+
+// No test is left. Rows that know nothing have none before, which is found in less time than they are cleared.
+fn clear(tests: &mut Sheet)
+    ensures { tests.new ≡ replicate (most_states * most_states) no_concepts }
+{
+    if has_none(tests) {
+        return;
+    }
+    let none = ConceptSet::none();
+    tests.fill(none);
 }
 
 // A test step leads on at each concept below its name.
@@ -159,7 +183,7 @@ impl Rows {
     {
         self.states = states(counts);
         self.concepts = concepts(counts);
-        self.tests = [ConceptSet::EMPTY; State::PAIRS];
+        clear(&mut self.tests);
         put_tests(&mut self.tests, below, steps);
         put_edges_to(&mut self.edges_to);
         put_edges(&mut self.edges, below, transitions);

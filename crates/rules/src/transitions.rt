@@ -1,27 +1,13 @@
 // The transitions of the question by each signed role, over the order of the roles.
 
-ghost use Rattle.std.specs.Prelude.{ℕ};
 ghost use Rattle.kinds.specs.Kinds.{most_states};
-ghost use Rattle.sets.specs.Relations.{Relates};
 ghost use Rattle.rules.specs.Transitions.{AreTransitions, Gains, Pair, Below, ByOne, IsJoined, GainsEach, StepBy};
 ghost use Rattle.rules.specs.Steps.{step_of, steps_of, Just, Among};
 
 use kinds::{SignedRole, State};
 use orders::RoleOrder;
-use sets::{Relation, RoleSet, StateSet, Transitions};
+use sets::{Relation, RoleSet, StateSet, Transitions, nowhere};
 use tables::{Letter, Step, Table};
-
-/// Not one transition.
-pub const NO_TRANSITIONS: Transitions = [[StateSet::EMPTY; State::NUMBERS]; SignedRole::NUMBERS];
-
-/// A relation that leads nowhere. Tables of relations are made of copies of it, which takes less time than clearing them:
-/// so this is a call of its own.
-#[inline(never)]
-pub fn nowhere() -> Relation
-    ensures { (s t : ℕ) → Relates result s t → ⊥ }
-{
-    [StateSet::EMPTY; State::NUMBERS]
-}
 
 // One pair of states is put into the relation; a pair with a number out of range is passed over.
 fn put(relation: &mut Relation, from: State, to: State)

@@ -1,17 +1,36 @@
 -- Sets that a loop gathers: of the numbers below one, or while it goes over the members of another set.
-use Rattle.std.specs.Prelude.{ℕ, List, Bool, ◌≡◌, refl, ◌⊎◌, ◌↔◌, IsTrue, ◌+◌, ◌<◌, ◌≤◌, length}
+use Rattle.std.specs.Prelude.{ℕ, List, Bool, true, false, not, ◌≡◌, refl, ◌⊎◌, ◌↔◌, IsTrue, ◌+◌, ◌<◌, ◌≤◌, length}
 use Rattle.std.proofs.Common.{ap, inl, inr, ⊎_elim, arith}
-use Rattle.std.proofs.Math.Decide.{ℕ_discrete}
+use Rattle.std.proofs.Math.Decide.{ℕ_discrete, dec_lt}
 use Rattle.std.proofs.Math.ListN.{get_or-eq_default}
 use Rattle.laws.specs.Loops.{Extends}
 use Rattle.sets.specs.Bits.{Has, IsSetOf, IsEmpty, InsertsIf, TakesFirst}
 use Rattle.sets.specs.Rows.{no_states}
-use Rattle.sets.specs.Relations.{states_at}
+use Rattle.sets.specs.Relations.{states_at, Relates}
+use Rattle.sets.proofs.Laws.{none_has}
 use Rattle.sets.specs.declared.states.StateSet.{StateSet}
 
 -- past the end of a list there is no set
 pub no_row : (l : List StateSet) (k : ℕ) → length l ≤ k → states_at l k ≡ 0
 no_row l k h = ap (λ (s : StateSet). s.0) (get_or-eq_default l no_states {n = k} (omega arith))
+
+-- past the last row a relation leads nowhere
+pub low_start : (relation : List StateSet) (n s t : ℕ) → length relation ≤ n → Relates relation s t → s < n
+low_start relation n s t h r =
+    elim (dec_lt s n) [ yes l ↦ l | no g ↦ absurd (none_has t (rw (no_row relation s (omega arith)) at r)) ]
+
+-- one row more, from which a relation leads or not
+pub starts_more : (relation : List StateSet) (w i out new : ℕ) (none : Bool)
+    → ((s t : ℕ) → s < i → Relates relation s t → Has out s) → i < w → IsTrue none ↔ IsEmpty (states_at relation i)
+    → InsertsIf w out i (not none) new → (s t : ℕ) → s < i + 1 → Relates relation s t → Has new s
+starts_more relation w i out new none old low test ins s t l r = elim (ℕ_discrete s i) [
+  | yes e ↦ (ins.member s).1 (inr (e, omega arith, on none test (rw e at r)))
+  | no ne ↦ (ins.member s).1 (inl (old s t (omega arith) r))
+]
+  where
+    on : (b : Bool) → IsTrue b ↔ IsEmpty (states_at relation i) → Relates relation i t → not b ≡ true
+    on true k q = absurd (k.0 refl t q)
+    on false k q = refl
 
 -- ---- the members of a set, the first one first
 

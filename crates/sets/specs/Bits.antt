@@ -3,10 +3,9 @@
 use Rattle.std.specs.Prelude.{ℕ, ◌≡◌, ◌≢◌, ◌<◌, ◌≤◌, ◌+◌, ◌-◌, ◌*◌, ◌/◌, ◌%◌, ◌^◌, ◌↔◌, ◌⊎◌, Bool, true, nat_eq, List, length, filter, slice_index, Option, MatchOption}
 use Rattle.std.specs.List.{range_with_len}
 use Rattle.std.specs.Int.{bit_at}
-use Rattle.kinds.specs.Kinds.{base, most_roles}
+use Rattle.kinds.specs.Kinds.{base, most_roles, most_states}
 
--- A set has room for the numbers below its width. Basic concepts and signed roles fill theirs,
--- states have room to spare.
+-- A set has room for the numbers below its width: for each basic concept, signed role or state.
 abbrev pub role_width : ℕ
 role_width = 2 * most_roles
 
@@ -14,7 +13,7 @@ abbrev pub concept_width : ℕ
 concept_width = base + role_width
 
 abbrev pub state_width : ℕ
-state_width = 32
+state_width = most_states
 
 -- the number k is in the set n, as a test and as a fact
 abbrev pub has : ℕ → ℕ → Bool

@@ -4,6 +4,7 @@ ghost use Rattle.std.specs.Prelude.{◌≤◌, ◌≡◌, ◌↔◌, ◌/◌, Is
 ghost use Rattle.std.specs.Iterator.{at_most};
 ghost use Rattle.kinds.specs.Kinds.{base, number_of};
 ghost use Rattle.sets.specs.Bits.{concept_width, Has, IsOnly, Inserts, IsUnion, IsIntersection, IsMinus, Meets, IsEmpty, Takes, members, IsBytesOf, IsLowered, IsLower};
+ghost use Rattle.sets.specs.Rows.{no_concepts};
 
 use crate::roles::RoleSet;
 use kinds::{Concept, ConceptName};
@@ -16,6 +17,14 @@ impl ConceptSet {
 
     // The bytes of a set.
     pub const BYTES: usize = Concept::NUMBERS / u8::BITS as usize;
+
+    /// The set of no concept. A table that is filled with it is not cleared by the C library, which takes a little less time for one of this size: so this is a call of its own.
+    #[inline(never)]
+    pub fn none() -> ConceptSet
+        ensures { result ≡ no_concepts }
+    {
+        ConceptSet::EMPTY
+    }
 
     /// The set of one concept. A concept whose number is past the last has no place in a set: it is never a member, and putting it in changes nothing.
     pub fn only(member: Concept) -> ConceptSet

@@ -8,6 +8,8 @@ mod states;
 pub mod theorems;
 
 pub use concepts::{ConceptSet, Concepts};
-pub use relations::{Relation, Sheet, Transitions, image, preimage, successors};
+pub use relations::{
+    Relation, Sheet, Transitions, image, nowhere, preimage, starts_of, successors,
+};
 pub use roles::{RoleSet, SignedRoles};
 pub use states::{StateSet, States};

@@ -1,4 +1,4 @@
-// A set of states, the state numbered k as bit k. It has room for more states than a collection may declare today.
+// A set of states, the state numbered k as bit k.
 
 ghost use Rattle.std.specs.Prelude.{◌≤◌, ◌≡◌, ◌↔◌, IsTrue, length};
 ghost use Rattle.std.specs.Iterator.{at_most};
@@ -12,15 +12,12 @@ pub struct StateSet(pub u32);
 impl StateSet {
     pub const EMPTY: StateSet = StateSet(0);
 
-    // Each state below this has a place.
-    const ROOM: usize = u32::BITS as usize;
-
     /// The set of one state. A state whose number is past the last has no place in a set: it is never a member, and putting it in changes nothing.
     pub fn only(member: State) -> StateSet
         ensures { IsOnly state_width member.0 result.0 }
     {
         let k = member.0 as usize;
-        if k < StateSet::ROOM {
+        if k < State::NUMBERS {
             return StateSet(1 << k);
         }
         StateSet::EMPTY
@@ -30,7 +27,7 @@ impl StateSet {
         ensures { IsTrue result ↔ Has self.0 member.0 }
     {
         let k = member.0 as usize;
-        k < StateSet::ROOM && (self.0 >> k) & 1 == 1
+        k < State::NUMBERS && (self.0 >> k) & 1 == 1
     }
 
     pub fn insert(&mut self, member: State)
@@ -44,7 +41,7 @@ impl StateSet {
         ensures { InsertsIf state_width self.old.0 member.0 on self.new.0 }
     {
         let k = member.0 as usize;
-        if k < StateSet::ROOM {
+        if k < State::NUMBERS {
             self.0 |= (on as u32) << k;
         }
     }

@@ -1,7 +1,7 @@
 -- The laws of the layout.
 use Rattle.std.specs.Prelude.{◌≡◌, refl, ◌↔◌, List, ℕ, ◌+◌, ◌-◌, ◌*◌, ◌/◌, ◌%◌, ◌^◌, ◌<◌, ◌≤◌, ◌++◌, length, get_or, take, drop, replicate}
 use Rattle.std.proofs.Common.{sym, ap, ◌∙◌, arith, length-append}
-use Rattle.std.proofs.lemmas.List.{length-take, length-take-le, length-drop, get_or-take, get_or_append_left, get_or-append-add}
+use Rattle.std.proofs.lemmas.List.{length-take, length-take-le, length-drop, get_or-take, get_or-drop, get_or_append_left, get_or-append-add}
 use Rattle.std.proofs.lemmas.Slice.{take-put_mid, drop-put_mid}
 use borrow.Rule.Slice.PartMut.{put_mid}
 use Rattle.std.proofs.Math.Decide.{dec_lt}
@@ -31,14 +31,15 @@ pub record Going (sheet : List ConceptSet) (area : List ℕ) (q : ℕ) : Type 0 
 pub going_start : (sheet : List ConceptSet) (area : List ℕ) → length area ≡ area_length → Going sheet area 0
 going_start sheet area long = record { long = long; bytes = λ i h. absurd (omega arith); marks = λ p h. absurd (omega arith) }
 
--- bytes from one on, and those before as they were
-record Puts (k : ℕ) (bytes old new : List ℕ) : Type 0 where
-  long : length new ≡ length old
-  within : (i : ℕ) → i < length bytes → get_or new (k + i) 0 ≡ get_or bytes i 0
-  before : (i : ℕ) → i < k → get_or new i 0 ≡ get_or old i 0
+-- bytes from one on, and all others as they were
+pub record Puts (k : ℕ) (bytes old new : List ℕ) : Type 0 where
+  pub long : length new ≡ length old
+  pub within : (i : ℕ) → i < length bytes → get_or new (k + i) 0 ≡ get_or bytes i 0
+  pub before : (i : ℕ) → i < k → get_or new i 0 ≡ get_or old i 0
+  pub after : (i : ℕ) → k + length bytes ≤ i → get_or new i 0 ≡ get_or old i 0
 
-puts : (k n : ℕ) (bytes old : List ℕ) → n ≡ length bytes → k + n ≤ length old → Puts k bytes old (put_mid k n old bytes)
-puts k n bytes old e h = record { long = long; within = within; before = before }
+pub puts : (k n : ℕ) (bytes old : List ℕ) → n ≡ length bytes → k + n ≤ length old → Puts k bytes old (put_mid k n old bytes)
+puts k n bytes old e h = record { long = long; within = within; before = before; after = after }
   where
     new : List ℕ
     new = put_mid k n old bytes
@@ -77,6 +78,13 @@ puts k n bytes old e h = record { long = long; within = within; before = before 
         let x = get_or-take (k + n) new i 0 (omega arith) in
         let y = get_or_append_left (take k old) bytes 0 i (omega (arith, low)) in
         sym x ∙ rw front (y ∙ get_or-take k old i 0 l)
+
+    after : (i : ℕ) → k + length bytes ≤ i → get_or new i 0 ≡ get_or old i 0
+    after i l =
+        let s : k + n + (i - (k + n)) ≡ i = omega (arith, e) in
+        let x = rw s at (get_or-drop (k + n) new (i - (k + n)) 0) in
+        let y = rw s at (get_or-drop (k + n) old (i - (k + n)) 0) in
+        sym x ∙ rw rest y
 
 pub going_more : (sheet : List ConceptSet) (area bytes : List ℕ) (q n : ℕ) → Going sheet area q → q < most_states * most_states
     → IsBytesOf most_concepts (get_or sheet q no_concepts).0 bytes → n ≡ row_bytes

@@ -1,5 +1,5 @@
 -- The laws of a round's loops: one number more, and what the last one leaves.
-use Rattle.std.specs.Prelude.{◌≡◌, refl, ◌↔◌, ◌⊎◌, Bool, true, false, not, IsTrue, List, [], ℕ, zero, suc, ◌+◌, ◌*◌, ◌/◌, ◌%◌, ◌-◌}
+use Rattle.std.specs.Prelude.{◌≡◌, refl, ◌↔◌, ◌⊎◌, Bool, true, false, not, IsTrue, List, [], ℕ, zero, suc, ◌+◌, ◌*◌, ◌/◌, ◌%◌, ◌-◌, ◌^◌}
 use Rattle.std.specs.Prelude.{◌<◌, ◌≤◌, length, get_or, set, replicate}
 use Rattle.std.proofs.Common.{sym, subst, ap, ◌∙◌, inl, inr, ⊎_elim, arith, length-set, add-one}
 use Rattle.std.proofs.Math.ListN.{get_or-eq_default}
@@ -10,21 +10,21 @@ use Rattle.std.proofs.lemmas.List.{length-replicate}
 use Rattle.laws.specs.Fill.{stored, filled_with}
 use Rattle.laws.specs.Loops.{Witness, Extends, extends_below, add_first, add_same, add_more, add_all, witness_more, each_more}
 use Rattle.kinds.specs.Kinds.{most_states, base}
-use Rattle.sets.specs.Bits.{Has, IsSetOf, IsEmpty, IsUnion, IsMinus, IsIntersection, IsLowered, IsLower, Inserts, TakesFirst, state_width}
+use Rattle.sets.specs.Bits.{Has, IsSetOf, IsEmpty, IsUnion, IsMinus, IsIntersection, IsLowered, IsOnly, Inserts, TakesFirst, state_width}
 use Rattle.sets.specs.Rows.{no_concepts, no_states}
-use Rattle.sets.specs.Relations.{Relates, pair, At, states_at, concepts_at, relation_at, IsImage}
+use Rattle.sets.specs.Relations.{Relates, pair, At, states_at, concepts_at, relation_at, IsImage, Transposed}
 use Rattle.sets.specs.declared.concepts.ConceptSet.{ConceptSet}
 use Rattle.sets.specs.declared.states.StateSet.{StateSet}
-use Rattle.sets.proofs.Laws.{members_none, none_has}
-use Rattle.sets.proofs.Gathering.{no_row, Over, over_more, over_end}
+use Rattle.sets.proofs.Laws.{members_none, none_has, past}
+use Rattle.sets.proofs.Gathering.{low_start, Over, over_more, over_end}
 use Rattle.rules.specs.declared.rows.Edge.{Edge}
 use Rattle.rules.specs.declared.rows.Rows.{Rows}
 use Rattle.rules.specs.Rows.{most_concepts, Gets, IsMarkable, edge}
 use Rattle.rules.specs.Transitions.{GainsEach}
 use Rattle.rules.proofs.MadeLaws.{gets_none, gets_same}
-use Rattle.sheet.specs.Pairs.{Paired, Blank, By, ByState, Put, PutTo, Drops, IsPair, AnyOf, AnyPair, size, total_from, total}
+use Rattle.sheet.specs.Pairs.{Paired, HasSources, Blank, By, ByState, Put, PutTo, Drops, IsPair, AnyOf, AnyPair, size, total_from, total}
 use Rattle.sheet.specs.declared.marks.Marks.{Marks}
-use Rattle.sheet.specs.Finds.{Join, RightFrom, Forgets, PutLoop, PutLoops, RowLoop, AllLoops, AreLoops}
+use Rattle.sheet.specs.Finds.{Join, Right, Rights, JoinedFrom, Forgets, PutLoop, PutLoops, RowLoop, LoopsFrom, AllLoops, AreLoops}
 use Rattle.sheet.specs.Finds.{Trip, TripsFrom, HasTrips, IsPart, AddsNothing, ThroughChild}
 use Rattle.sheet.specs.Finds.{ThroughEdges, ThroughChildren, HasFrom, HasAll, NewAt, PutNew, NewFrom, AreNew, Own}
 
@@ -120,13 +120,6 @@ paired_all rows pairs s to row v new p hs low long u g = record {
         let h = w.of in
         stored (λ k x. k ≡ s → Has x.0 b) pairs s v no_states long (λ z. (u.member b).1 (inr (rw r h))) (λ k ne z. absurd (ne z)) a q
 
--- those of them that have a row
-pub low_all : (row s to low : ℕ) {l m : List ConceptSet} → IsLower most_states to low → Gets (By (Has low) (PutTo row s)) l m
-    → Gets (By (Has to) (PutTo row s)) l m
-low_all row s to low i g =
-    gets_same (λ q k w. record { number = w.number; of = ((i.member w.number).0 w.of).1; holds = w.holds })
-    (λ q k w. record { number = w.number; of = (i.member w.number).1 (w.holds.low, w.of); holds = w.holds }) g
-
 pub nowhere : (n s t : ℕ) → Relates (replicate n no_states) s t → ⊥
 nowhere n s t x = none_has t (rw (filled_with no_states n s, states_at) at x)
 
@@ -155,6 +148,22 @@ drops_all F same a = record {
   long = a.long;
   at = λ q k h. let z = a.at q k h in (z.0, λ w. z.1 (record { number = w.number; of = (same w.number).1 w.of; holds = w.holds }));
 }
+
+-- from members that are all states from which pairs lead
+pub pairs_dropped : (pairs : List StateSet) {set rest : ℕ} {l m : List ConceptSet}
+    → Over set rest (λ D. Drops (AnyOf D (λ s. AnyOf (Has (states_at pairs s)) (IsPair s))) l m) → IsEmpty rest
+    → ((s t : ℕ) → Relates pairs s t → Has set s) → Drops (AnyPair pairs) l m
+pairs_dropped pairs v none starts = over_end v none (λ same d. record {
+  long = d.long;
+  at = λ q k h. let z = d.at q k h in (
+    z.0,
+    λ w. z.1 (record {
+      number = w.number;
+      of = (same w.number).1 (starts w.number w.holds.number w.holds.of);
+      holds = w.holds;
+    }),
+  );
+})
 
 pub drops_one : (s t : ℕ) (l : List ConceptSet) → pair s t < length l → Drops (IsPair s t) l (set l (pair s t) no_concepts)
 drops_one s t l h = record {
@@ -188,6 +197,33 @@ all_dropped rows new pairs p long d = record {
         })
     side q k x never (no h) = none_has k (rw (get_or-eq_default rows no_concepts {n = q} (omega (arith, long)), concepts_at) at x)
 
+-- ---- the states from which pairs lead are all that matter
+
+pub covered : (F : ℕ → ℕ → ℕ → Type 0) (from : ℕ) {l m : List ConceptSet} → from < 2 ^ state_width
+    → ((s q k : ℕ) → F s q k → Has from s) → Gets (By (Has from) F) l m → Gets (ByState F) l m
+covered F from small has g =
+    gets_same (λ q k w. record { number = w.number; of = past state_width from w.number small w.of; holds = w.holds })
+    (λ q k w. record { number = w.number; of = has w.number q k w.holds; holds = w.holds }) g
+
+pub loops_covered : (marks : Marks) (from : ℕ) {l m : List (List StateSet)} → from < 2 ^ state_width → HasSources from marks.pairs
+    → GainsEach (λ R a b. Witness (Has from) (λ s. LoopsFrom marks s R a b)) l m → GainsEach (AllLoops marks) l m
+loops_covered marks from small c g = record {
+  long = g.long;
+  at = λ R a b. add_same
+      (λ w. record { number = w.number; of = past state_width from w.number small w.of; holds = w.holds })
+      (λ w. record { number = w.number; of = c.has w.number w.holds.number w.holds.of; holds = w.holds })
+      (g.at R a b);
+}
+
+pub concepts_covered : (marks : Marks) (from all : ℕ) → HasSources from marks.pairs → HasAll marks (Has from) all
+    → HasAll marks (λ s. s < most_states) all
+concepts_covered marks from all c h = record { has = λ s l. record { has = λ t m k a. (h.has s (c.has s t m)).has t m k a } }
+
+-- a delta's row from a state, joined on either side, leads from it
+pub joined_from : (delta sheet : Marks) (from s q k : ℕ) → HasSources from delta.pairs → JoinedFrom delta sheet s q k → Has from s
+joined_from delta sheet from s q k c (inl w) = c.has s w.number w.of
+joined_from delta sheet from s q k c (inr w) = c.has s w.holds.number w.holds.of
+
 -- ---- where two marks meet
 
 pub join_is : (rows : List ConceptSet) (row i j on : ℕ) {l m : List ConceptSet} → IsIntersection row (get_or rows j no_concepts).0 on
@@ -196,9 +232,16 @@ join_is rows row i j on b a =
     gets_same (λ q k p. let w = (b.member k).0 p.has in record { there = p.there; has = w.0; goes = w.1 })
     (λ q k p. record { there = p.there; has = (b.member k).1 (p.has, p.goes) }) a
 
-pub right_none : (sheet : Marks) (row s u r : ℕ) (l : List ConceptSet) → r < most_states → s < most_states → (Relates sheet.pairs r s → ⊥)
-    → Gets (RightFrom sheet row s u r) l l
-right_none sheet row s u r l hr hs none = gets_none _ l (λ q k p. none (sheet.paired.has r s k hr hs p.goes))
+-- the states that lead to s are all by which the sheet goes on to the delta
+pub rights_all : (delta sheet : Marks) (s only before : ℕ) {l m : List ConceptSet} → s < most_states → IsOnly state_width s only
+    → before < 2 ^ state_width → IsImage (Transposed (Relates sheet.pairs)) only before
+    → Gets (By (Has before) (Right delta sheet s)) l m → Gets (Rights delta sheet s) l m
+rights_all delta sheet s only before hs o small b g =
+    gets_same (λ q k w. record { number = w.number; of = past state_width before w.number small w.of; holds = w.holds })
+    (λ q k w. record { number = w.number; of = leads w.number w.of w.holds.number k w.holds.holds.has; holds = w.holds }) g
+  where
+    leads : (r : ℕ) → r < most_states → (u k : ℕ) → At sheet.rows (pair r s) k → Has before r
+    leads r hr u k x = (b.member r).1 (record { number = s; of = (o.member s).1 (refl, hs); holds = sheet.paired.has r s k hr hs x })
 
 -- a test that is false
 pub not_so : {P : Type 0} (b : Bool) → IsTrue b ↔ P → b ≡ false → P → ⊥
@@ -270,10 +313,6 @@ leads_more relation n all x before u s t h r = elim (ℕ_discrete s n) [
   | no ne ↦ (u.member t).1 (inl (before s t (omega arith) r))
 ]
 
--- past the last row a relation leads nowhere
-low_start : (relation : List StateSet) (n s t : ℕ) → length relation ≤ n → Relates relation s t → s < n
-low_start relation n s t h r = elim (dec_lt s n) [ yes l ↦ l | no g ↦ absurd (none_has t (rw (no_row relation s (omega arith)) at r)) ]
-
 pub leads_end : (relation : List StateSet) (n all : ℕ) (b : Bool) → length relation ≤ n
     → ((s t : ℕ) → s < n → Relates relation s t → Has all t) → IsTrue b ↔ IsEmpty all
     → (s t : ℕ) → Relates relation s t → IsTrue (not b)
@@ -320,10 +359,6 @@ pub part_end : (small great : List StateSet) (n over : ℕ) (b : Bool) → lengt
 part_end small great n over b h each o e = record {
   leads = λ s t r. ⊎_elim (λ x. x) (λ x. absurd (o.0 e t x)) (each s t (low_start small n s t h r) r);
 }
-
--- no trip goes along no loop
-pub no_trips : (n : ℕ) (edge : Edge) (l : List ConceptSet) → HasTrips (replicate n no_states) edge l
-no_trips n edge l = record { has = λ q k w. absurd (nowhere n _ _ w.holds.of.along) }
 
 pub trips_put : (loops : List StateSet) (edge : Edge) {l m : List ConceptSet} → Gets (ByState (TripsFrom loops edge)) l m
     → HasTrips loops edge m

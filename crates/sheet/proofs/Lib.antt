@@ -4,5 +4,7 @@ pub mod HowMany
 pub mod Ending
 pub mod Counts
 pub mod AreaLaws
+pub mod FormerLaws
+pub mod FormerOnce
 pub mod Mean
 pub mod Once

@@ -14,7 +14,7 @@ use Rattle.rules.specs.Rows.{most_concepts, kind_of, Gets}
 use Rattle.rules.proofs.Able.{Low, low_of, may_of, of_may}
 use Rattle.sheet.specs.declared.marks.Marks.{Marks}
 use Rattle.sheet.specs.Pairs.{RowAt}
-use Rattle.sheet.specs.Finds.{AllRows, JoinedPair, Joins, ThroughChildren, Own, IsTurn, FirstTurn}
+use Rattle.sheet.specs.Finds.{AllRows, JoinedFrom, Joins, ThroughChildren, Own, IsTurn, FirstTurn}
 use Rattle.theory.specs.Marks.{Added}
 use Rattle.sheet.specs.Sheets.{Holds}
 use Rattle.sheet.specs.Meant.{Uses, first, second, child_of, IsKnown, AddsByNew}
@@ -80,26 +80,31 @@ module _ (rows : Rows) where
     uses_of : (a b k : ℕ) → a < most_states → b < most_states → k < most_concepts
         → Joins delta sheet (pair a b) k ⊎ ThroughChildren delta.rows rows (pair a b) k
         → Uses K f g a b k
-    uses_of a b k ha hb hk (inl w) = meet w.number w.holds.number w.of (delta.paired.low w.number w.holds.number w.holds.of) w.holds.holds
+    uses_of a b k ha hb hk (inl w) = meet w.number w.of w.holds
       where
-        meet : (s u : ℕ) → s < most_states → u < most_states → JoinedPair delta sheet s u (pair a b) k → Uses K f g a b k
-        meet s u hs hu (inl v) =
-            let j = v.holds in
-            let ht = sheet.paired.low u v.number v.of in
+        meet : (s : ℕ) → s < most_states → JoinedFrom delta sheet s (pair a b) k → Uses K f g a b k
+        meet s hs (inl v) =
+            let u = v.number in
+            let j = v.holds.holds in
+            let hu = delta.paired.low s u v.of in
+            let ht = sheet.paired.low u v.holds.number v.holds.of in
             let q = j.there in
             let es : s ≡ a = omega arith in
-            let et : v.number ≡ b = omega arith in
+            let et : v.holds.number ≡ b = omega arith in
             let x = (hg.at s u k hs hu hk).0 j.has in
-            let y = (hf.at u v.number k hu ht hk).0 j.goes in
+            let y = (hf.at u v.holds.number k hu ht hk).0 j.goes in
             first {u = u} (rw es at x) (rw et at y)
-        meet s u hs hu (inr v) =
-            let j = v.holds in
+        meet s hs (inr v) =
+            let r = v.number in
+            let u = v.holds.number in
+            let j = v.holds.holds in
             let hr = v.of in
+            let hu = delta.paired.low s u v.holds.of in
             let q = j.there in
-            let er : v.number ≡ a = omega arith in
+            let er : r ≡ a = omega arith in
             let eu : u ≡ b = omega arith in
-            let x = (hf.at v.number s k hr hs hk).0 j.goes in
-            let y = (hg.at s u k hs hu hk).0 j.has in
+            let x = (hf.at r s k hr hs hk).0 j.has in
+            let y = (hg.at s u k hs hu hk).0 j.goes in
             second {u = s} (rw er at x) (rw eu at y)
     uses_of a b k ha hb hk (inr (R, w)) =
         let v = w.holds in
@@ -122,11 +127,11 @@ module _ (rows : Rows) where
         inl (record {
           number = a;
           of = ha;
-          holds = record {
+          holds = inl (record {
             number = u;
             of = delta.paired.has a u k ha l.to d;
-            holds = inl (record { number = b; of = sheet.paired.has u b k l.to hb e; holds = record { there = refl; has = d; goes = e } });
-          };
+            holds = record { number = b; of = sheet.paired.has u b k l.to hb e; holds = record { there = refl; has = d; goes = e } };
+          });
         })
     of_uses a b k ha hb hk (second {u = u} x y) =
         let l = low_of rows u b k (mg u b k y) in
@@ -134,11 +139,15 @@ module _ (rows : Rows) where
         inl (record {
           number = u;
           of = l.from;
-          holds = record {
-            number = b;
-            of = delta.paired.has u b k l.from hb d;
-            holds = inr (record { number = a; of = ha; holds = record { there = refl; has = d; goes = (hf.at a u k ha l.from hk).1 x } });
-          };
+          holds = inr (record {
+            number = a;
+            of = ha;
+            holds = record {
+              number = b;
+              of = delta.paired.has u b k l.from hb d;
+              holds = record { there = refl; has = (hf.at a u k ha l.from hk).1 x; goes = d };
+            };
+          });
         })
     of_uses a b k ha hb hk (child_of {R = link} {u = x} {v = y} c d m p) =
         let l = low_of rows x y (base + link.to) (mg x y (base + link.to) m) in

@@ -1,10 +1,9 @@
 -- What each function of a round adds, as rows q and their concepts k.
-use Rattle.std.specs.Prelude.{◌≡◌, ◌↔◌, ◌⊎◌, List, ℕ, ◌+◌, ◌*◌, ◌<◌, length, slice_index_or}
+use Rattle.std.specs.Prelude.{◌≡◌, ◌↔◌, ◌⊎◌, List, ℕ, ◌+◌, ◌*◌, ◌<◌, length}
 use Rattle.kinds.specs.Kinds.{most_states, base}
 use Rattle.laws.specs.Loops.{Witness}
 use Rattle.sets.specs.Bits.{Has}
-use Rattle.sets.specs.Rows.{no_concepts}
-use Rattle.sets.specs.Relations.{Relates, pair, At, states_at, relation_at}
+use Rattle.sets.specs.Relations.{Relates, pair, At, states_at, concepts_at, relation_at}
 use Rattle.sets.specs.declared.concepts.ConceptSet.{ConceptSet}
 use Rattle.sets.specs.declared.states.StateSet.{StateSet}
 use Rattle.rules.specs.declared.rows.Edge.{Edge}
@@ -34,23 +33,24 @@ pub record Join (rows : List ConceptSet) (row i j q k : ℕ) : Type 0 where
   pub has : Has row k
   pub goes : At rows j k
 
--- a row of (s, u), by the marks of the sheet from u to t, and by those from r to s
+-- a row of (s, u), by the marks of the sheet from u to t; each row of the delta from s
 abbrev pub Left : Marks → ℕ → ℕ → ℕ → ℕ → ℕ → Type 0
 Left sheet row s u = ByPair sheet.pairs u (λ t. Join sheet.rows row (pair s t) (pair u t))
 
-abbrev pub RightFrom : Marks → ℕ → ℕ → ℕ → ℕ → ℕ → ℕ → Type 0
-RightFrom sheet row s u r = Join sheet.rows row (pair r u) (pair r s)
+abbrev pub Lefts : Marks → Marks → ℕ → ℕ → ℕ → Type 0
+Lefts delta sheet s =
+    ByPair delta.pairs s (λ u. Left sheet (concepts_at delta.rows (pair s u)) s u)
 
-abbrev pub Right : Marks → ℕ → ℕ → ℕ → ℕ → ℕ → Type 0
-Right sheet row s u = ByState (RightFrom sheet row s u)
+-- the marks of the sheet from r to s, by the rows of the delta from s; those of each r
+abbrev pub Right : Marks → Marks → ℕ → ℕ → ℕ → ℕ → Type 0
+Right delta sheet s r = ByPair delta.pairs s
+    (λ u. Join delta.rows (concepts_at sheet.rows (pair r s)) (pair r u) (pair s u))
 
-abbrev pub JoinedPair : Marks → Marks → ℕ → ℕ → ℕ → ℕ → Type 0
-JoinedPair delta sheet s u q k =
-    Left sheet (slice_index_or delta.rows (pair s u) no_concepts).0 s u q k
-    ⊎ Right sheet (slice_index_or delta.rows (pair s u) no_concepts).0 s u q k
+abbrev pub Rights : Marks → Marks → ℕ → ℕ → ℕ → Type 0
+Rights delta sheet s = ByState (Right delta sheet s)
 
 abbrev pub JoinedFrom : Marks → Marks → ℕ → ℕ → ℕ → Type 0
-JoinedFrom delta sheet s = ByPair delta.pairs s (JoinedPair delta sheet s)
+JoinedFrom delta sheet s q k = Lefts delta sheet s q k ⊎ Rights delta sheet s q k
 
 abbrev pub Joins : Marks → Marks → ℕ → ℕ → Type 0
 Joins delta sheet = ByState (JoinedFrom delta sheet)

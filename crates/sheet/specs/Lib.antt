@@ -4,4 +4,5 @@ pub mod Sheets
 pub mod Ends
 pub mod Heard
 pub mod Areas
+pub mod Former
 pub mod Meant

@@ -16,6 +16,10 @@ pub record Paired (rows : List ConceptSet) (pairs : List StateSet) : Type 0 wher
       → Relates pairs s t
   pub low : (s t : ℕ) → Relates pairs s t → t < most_states
 
+-- each state from which a pair leads is in the set
+pub record HasSources (from : ℕ) (pairs : List StateSet) : Type 0 where
+  pub has : (s t : ℕ) → Relates pairs s t → Has from s
+
 -- no row has a concept
 pub record Blank (rows : List ConceptSet) : Type 0 where
   pub long : length rows ≡ most_states * most_states

@@ -9,7 +9,8 @@ ghost use Rattle.sheet.specs.Heard.{ToldOf, FailedGoing};
 
 use crate::closing::Closing;
 use kinds::{RoundListener, Rounds, SignedRole};
-use rules::{Rows, nowhere};
+use rules::Rows;
+use sets::nowhere;
 
 /// How rounds end: a sheet that no longer changes after so many, or an allowance spent before.
 #[derive(Clone, Copy)]

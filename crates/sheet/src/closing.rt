@@ -3,7 +3,7 @@
 ghost use Rattle.std.specs.Prelude.{◌<◌};
 ghost use Rattle.kinds.specs.Kinds.{most_states};
 ghost use Rattle.rules.specs.Rows.{Gets};
-ghost use Rattle.sheet.specs.Pairs.{Blank, ByState, RowAt};
+ghost use Rattle.sheet.specs.Pairs.{HasSources, Blank, ByState, RowAt};
 ghost use Rattle.sheet.specs.Finds.{RowsFrom, AllRows, EachRow, Own, IsTurn, FirstTurn};
 
 use crate::delta::Delta;
@@ -12,7 +12,7 @@ use crate::marks::Marks;
 use crate::through::{Loops, through_children};
 use kinds::{MarkCount, State};
 use rules::Rows;
-use sets::Sheet;
+use sets::{Sheet, StateSet};
 
 /// The sheet after some rounds, and what one more round adds to it.
 #[derive(Clone, Copy)]
@@ -99,11 +99,12 @@ fn add_from(sheet: &mut Marks, delta: &Marks, s: usize)
 }
 
 // The delta's marks are added to the sheet.
-fn add(sheet: &mut Marks, delta: &Marks)
+fn add(sheet: &mut Marks, delta: &Marks, from: StateSet)
+    requires { HasSources from.0 delta.now.pairs }
     ensures { Gets (AllRows delta.now) sheet.old.rows sheet.new.rows }
 {
-    for s in 0..State::NUMBERS {
-        add_from(sheet, delta, s);
+    for s in from.iter() {
+        add_from(sheet, delta, s.0 as usize);
     }
 }
 
@@ -120,9 +121,10 @@ fn round(
     ensures round { IsTurn rows.now sheet.old.rows delta.old.marks sheet.new delta.new.marks.rows }
     ensures candidates { Blank candidates.new.rows }
 {
-    add(sheet, &delta.marks);
-    joins(candidates, &delta.marks, sheet);
-    through_children(candidates, loops, &delta.marks, rows);
+    let from = delta.marks.sources();
+    add(sheet, &delta.marks, from);
+    joins(candidates, &delta.marks, sheet, from);
+    through_children(candidates, loops, &delta.marks, rows, from);
     delta.refill(candidates, sheet, rows);
 }
 
@@ -157,7 +159,7 @@ fn put_rows(candidates: &mut Marks, rows: &Sheet)
     }
 }
 
-// All marks of round 0 are in the delta, and round 1 adds the tests and what uses these marks.
+// All marks of round 0 are new, and round 1 adds the tests and what uses these marks.
 fn begin(
     sheet: &mut Marks,
     delta: &mut Delta,
@@ -171,9 +173,9 @@ fn begin(
 {
     sheet.clear();
     put_own(sheet, rows);
-    delta.set(sheet);
     put_rows(candidates, &rows.tests);
-    joins(candidates, &delta.marks, sheet);
-    through_children(candidates, loops, &delta.marks, rows);
+    let from = sheet.sources();
+    joins(candidates, sheet, sheet, from);
+    through_children(candidates, loops, sheet, rows, from);
     delta.refill(candidates, sheet, rows);
 }

@@ -29,13 +29,6 @@ impl Delta {
         }
     }
 
-    // All marks of a sheet.
-    pub(crate) fn set(&mut self, sheet: &Marks)
-        ensures { self.new.marks.rows ≡ sheet.now.rows }
-    {
-        fill(&mut self.marks, &mut self.many, sheet);
-    }
-
     // The candidates that are new; no candidate is left.
     pub(crate) fn refill(&mut self, candidates: &mut Marks, sheet: &Marks, rows: &Rows)
         ensures new { AreNew rows.now sheet.now.rows candidates.old.rows self.new.marks.rows }
@@ -46,14 +39,6 @@ impl Delta {
 }
 
 // One call writes marks and number, since they fit each other only when both are written.
-fn fill(marks: &mut Marks, many: &mut MarkCount, sheet: &Marks)
-    ensures rows { marks.new.rows ≡ sheet.now.rows }
-    ensures many { many.new ≡ total marks.new.rows most_states }
-{
-    *marks = *sheet;
-    *many = marks.count();
-}
-
 fn refill(
     marks: &mut Marks,
     many: &mut MarkCount,

@@ -41,8 +41,9 @@ fn put_new(delta: &mut Marks, candidates: &Marks, sheet: &Marks, rows: &Rows)
     ensures { Gets (ByState (NewFrom rows.now sheet.now.rows candidates.now)) delta.old.rows
         delta.new.rows }
 {
-    for s in 0..State::NUMBERS {
-        put_new_from(delta, candidates, sheet, rows, s);
+    let from = candidates.sources();
+    for s in from.iter() {
+        put_new_from(delta, candidates, sheet, rows, s.0 as usize);
     }
 }
 

@@ -3,11 +3,12 @@
 ghost use Rattle.std.specs.Prelude.{◌<◌};
 ghost use Rattle.kinds.specs.Kinds.{most_states};
 ghost use Rattle.rules.specs.Rows.{Gets};
-ghost use Rattle.sheet.specs.Finds.{Left, RightFrom, Right, JoinedPair, JoinedFrom, Joins};
+ghost use Rattle.sheet.specs.Pairs.{HasSources};
+ghost use Rattle.sheet.specs.Finds.{Left, Lefts, Right, Rights, JoinedFrom, Joins};
 
 use crate::marks::Marks;
 use kinds::State;
-use sets::ConceptSet;
+use sets::{ConceptSet, StateSet, preimage};
 
 // A row of (s, u), with each row of the sheet from u.
 fn left(candidates: &mut Marks, sheet: &Marks, row: ConceptSet, s: usize, u: usize)
@@ -21,57 +22,56 @@ fn left(candidates: &mut Marks, sheet: &Marks, row: ConceptSet, s: usize, u: usi
     }
 }
 
-// A row of (s, u), with the row of the sheet from r to s.
-fn right_from(candidates: &mut Marks, sheet: &Marks, row: ConceptSet, s: usize, u: State, r: usize)
+// The delta's rows from s, each joined with the rows of the sheet that go on from it.
+fn lefts(candidates: &mut Marks, delta: &Marks, sheet: &Marks, s: usize)
+    requires { s < most_states }
+    ensures { Gets (Lefts delta.now sheet.now s) candidates.old.rows candidates.new.rows }
+{
+    for u in delta.pairs[s].iter() {
+        let row = delta.rows[State::NUMBERS * s + u.0 as usize];
+        left(candidates, sheet, row, s, u.0 as usize);
+    }
+}
+
+// The row of the sheet from r to s, with each of the delta's rows from s.
+fn right(candidates: &mut Marks, delta: &Marks, sheet: &Marks, s: usize, r: usize)
     requires from { s < most_states }
-    requires to { u.0 < most_states }
     requires before { r < most_states }
-    ensures { Gets (RightFrom sheet.now row.0 s u.0 r) candidates.old.rows candidates.new.rows }
+    ensures { Gets (Right delta.now sheet.now s r) candidates.old.rows candidates.new.rows }
 {
-    if !sheet.pairs[r].contains(State(s as u16)) {
-        return;
-    }
-    let both = row.intersection(sheet.rows[State::NUMBERS * r + s]);
-    candidates.put(r, u, both);
-}
-
-// A row of (s, u), with the row of the sheet from each r to s.
-fn right(candidates: &mut Marks, sheet: &Marks, row: ConceptSet, s: usize, u: State)
-    requires from { s < most_states }
-    requires to { u.0 < most_states }
-    ensures { Gets (Right sheet.now row.0 s u.0) candidates.old.rows candidates.new.rows }
-{
-    for r in 0..State::NUMBERS {
-        right_from(candidates, sheet, row, s, u, r);
+    let row = sheet.rows[State::NUMBERS * r + s];
+    for u in delta.pairs[s].iter() {
+        let both = row.intersection(delta.rows[State::NUMBERS * s + u.0 as usize]);
+        candidates.put(r, u, both);
     }
 }
 
-// The delta's row of one pair of states, joined on both sides.
-fn join_pair(candidates: &mut Marks, delta: &Marks, sheet: &Marks, s: usize, u: State)
-    requires from { s < most_states }
-    requires to { u.0 < most_states }
-    ensures { Gets (JoinedPair delta.now sheet.now s u.0) candidates.old.rows candidates.new.rows }
+// The delta's rows from s, each joined with the rows of the sheet that lead to s.
+fn rights(candidates: &mut Marks, delta: &Marks, sheet: &Marks, s: usize)
+    requires { s < most_states }
+    ensures { Gets (Rights delta.now sheet.now s) candidates.old.rows candidates.new.rows }
 {
-    let row = delta.rows[State::NUMBERS * s + u.0 as usize];
-    left(candidates, sheet, row, s, u.0 as usize);
-    right(candidates, sheet, row, s, u);
+    let before = preimage(&sheet.pairs, StateSet::only(State(s as u16)));
+    for r in before.iter() {
+        right(candidates, delta, sheet, s, r.0 as usize);
+    }
 }
 
-// The delta's rows from s.
+// The delta's rows from s, joined on both sides.
 fn join_from(candidates: &mut Marks, delta: &Marks, sheet: &Marks, s: usize)
     requires { s < most_states }
     ensures { Gets (JoinedFrom delta.now sheet.now s) candidates.old.rows candidates.new.rows }
 {
-    for u in delta.pairs[s].iter() {
-        join_pair(candidates, delta, sheet, s, u);
-    }
+    lefts(candidates, delta, sheet, s);
+    rights(candidates, delta, sheet, s);
 }
 
 // All rows of the delta.
-pub(crate) fn joins(candidates: &mut Marks, delta: &Marks, sheet: &Marks)
+pub(crate) fn joins(candidates: &mut Marks, delta: &Marks, sheet: &Marks, from: StateSet)
+    requires { HasSources from.0 delta.now.pairs }
     ensures { Gets (Joins delta.now sheet.now) candidates.old.rows candidates.new.rows }
 {
-    for s in 0..State::NUMBERS {
-        join_from(candidates, delta, sheet, s);
+    for s in from.iter() {
+        join_from(candidates, delta, sheet, s.0 as usize);
     }
 }

@@ -6,6 +6,7 @@ mod areas;
 mod closing;
 mod delta;
 mod filtering;
+pub mod former;
 mod joining;
 mod marks;
 pub mod theorems;

@@ -1,14 +1,14 @@
 // Marks, with the pairs of states that may have any: a round passes over all others.
 
-ghost use Rattle.std.specs.Prelude.{ℕ, ◌≡◌, ◌*◌, ◌<◌, ◌≤◌};
+ghost use Rattle.std.specs.Prelude.{◌≡◌, ◌*◌, ◌<◌, ◌≤◌};
 ghost use Rattle.kinds.specs.Kinds.{most_states};
-ghost use Rattle.sets.specs.Bits.{Has, IsLower};
-ghost use Rattle.sets.specs.Relations.{Relates, pair};
+ghost use Rattle.sets.specs.Bits.{Has};
+ghost use Rattle.sets.specs.Relations.{pair};
 ghost use Rattle.rules.specs.Rows.{most_concepts, Gets};
-ghost use Rattle.sheet.specs.Pairs.{Paired, Blank, By, Put, PutTo, AnyOf, IsPair, AnyPair, Drops, total, total_from};
+ghost use Rattle.sheet.specs.Pairs.{Paired, HasSources, Blank, By, Put, PutTo, AnyOf, IsPair, AnyPair, Drops, total, total_from};
 
 use kinds::{MarkCount, State};
-use sets::{ConceptSet, Relation, Sheet, StateSet};
+use sets::{ConceptSet, Relation, Sheet, StateSet, starts_of};
 
 /// Marks by pairs of states.
 #[derive(Clone, Copy)]
@@ -54,12 +54,19 @@ impl Marks {
         self.put(s, t, row);
     }
 
-    // The concepts of a row are added to those of (s, t) for each t of a set that has a row.
+    // The concepts of a row are added to those of (s, t) for each t of a set.
     pub(crate) fn put_each(&mut self, s: usize, to: StateSet, row: ConceptSet)
         requires { s < most_states }
         ensures { Gets (By (Has to.0) (PutTo row.0 s)) self.old.rows self.new.rows }
     {
-        put_all(&mut self.rows, &mut self.pairs, s, with_rows(to), row);
+        put_all(&mut self.rows, &mut self.pairs, s, to, row);
+    }
+
+    // The states from which there may be a mark: a loop over few marks passes over all others.
+    pub(crate) fn sources(&self) -> StateSet
+        ensures { HasSources result.0 self.now.pairs }
+    {
+        starts_of(&self.pairs)
     }
 
     // No mark is left.
@@ -107,17 +114,9 @@ fn put_row(rows: &mut Sheet, pairs: &mut Relation, s: usize, t: State, row: Conc
     rows[q] = rows[q].union(row);
 }
 
-// The states of a set that have a row.
-fn with_rows(to: StateSet) -> StateSet
-    ensures { IsLower most_states to.0 result.0 }
-{
-    StateSet(to.0 % (1 << State::NUMBERS))
-}
-
 // A row is added at (s, t) for each t of a set. The pairs are told by the caller.
 fn put_to(rows: &mut Sheet, s: usize, to: StateSet, row: ConceptSet)
-    requires from { s < most_states }
-    requires to { (t : ℕ) → Has to.0 t → t < most_states }
+    requires { s < most_states }
     ensures { Gets (By (Has to.0) (PutTo row.0 s)) rows.old rows.new }
 {
     for t in to.iter() {
@@ -129,7 +128,6 @@ fn put_to(rows: &mut Sheet, s: usize, to: StateSet, row: ConceptSet)
 // The pairs are told at once, and not with each row.
 fn put_all(rows: &mut Sheet, pairs: &mut Relation, s: usize, to: StateSet, row: ConceptSet)
     requires from { s < most_states }
-    requires to { (t : ℕ) → Has to.0 t → t < most_states }
     requires paired { Paired rows.old pairs.old }
     ensures put { Gets (By (Has to.0) (PutTo row.0 s)) rows.old rows.new }
     ensures paired { Paired rows.new pairs.new }
@@ -140,8 +138,7 @@ fn put_all(rows: &mut Sheet, pairs: &mut Relation, s: usize, to: StateSet, row: 
 
 // The rows of (s, t) lose their marks, for each t of a set.
 fn clear_from(rows: &mut Sheet, s: usize, to: StateSet)
-    requires from { s < most_states }
-    requires to { (t : ℕ) → Has to.0 t → t < most_states }
+    requires { s < most_states }
     ensures { Drops (AnyOf (Has to.0) (IsPair s)) rows.old rows.new }
 {
     for t in to.iter() {
@@ -151,11 +148,11 @@ fn clear_from(rows: &mut Sheet, s: usize, to: StateSet)
 
 // The pairs tell where a mark may be.
 fn clear_rows(rows: &mut Sheet, pairs: &Relation)
-    requires { (s t : ℕ) → Relates pairs.now s t → t < most_states }
     ensures { Drops (AnyPair pairs.now) rows.old rows.new }
 {
-    for s in 0..State::NUMBERS {
-        clear_from(rows, s, pairs[s]);
+    let from = starts_of(pairs);
+    for s in from.iter() {
+        clear_from(rows, s.0 as usize, pairs[s.0 as usize]);
     }
 }
 

@@ -15,6 +15,8 @@ ghost use Rattle.sheet.specs.Areas.{LaysRows, LaysMarks};
 ghost use Rattle.sheet.specs.Ends.{Ended};
 ghost use Rattle.sheet.specs.Meant.{HasRound, SameRound, Closes};
 ghost use Rattle.sheet.specs.Meant.{IsKnown, AddsByNew, NeededMeans, AreaMeans, CountsMean};
+ghost use Rattle.sheet.specs.Former.{OneMoved, OneMovedBack, ThereAndBack, BackAndThere};
+ghost use Rattle.sheet.specs.Former.{SheetMoved, SheetMovedBack};
 
 use theory::sheet::AnyKind;
 
@@ -40,4 +42,14 @@ pub fn meant<K: AnyKind>()
         → AreaMeans c rows }
     ensures counts_mean { (c : Collection) (rows : Rows) → CountsFit c.counts → RowsOf c rows
         → CountsMean c rows }
+{}
+
+/// A stored area that is moved to the places of today, and back.
+pub fn moving()
+    ensures one_moved { OneMoved }
+    ensures one_moved_back { OneMovedBack }
+    ensures there_and_back { ThereAndBack }
+    ensures back_and_there { BackAndThere }
+    ensures sheet_moved { SheetMoved }
+    ensures sheet_moved_back { SheetMovedBack }
 {}

@@ -6,14 +6,14 @@ ghost use Rattle.sets.specs.Bits.{Has, IsSetOf};
 ghost use Rattle.sets.specs.Relations.{Relates, states_at};
 ghost use Rattle.rules.specs.Rows.{most_edges, Gets};
 ghost use Rattle.rules.specs.Transitions.{Gains, GainsEach, Pair};
-ghost use Rattle.sheet.specs.Pairs.{By, ByState};
+ghost use Rattle.sheet.specs.Pairs.{HasSources, By, ByState};
 ghost use Rattle.sheet.specs.Finds.{Forgets, PutLoop, PutLoops, LoopsFrom, AllLoops, AreLoops, HasFrom, HasAll};
 ghost use Rattle.sheet.specs.Finds.{Trip, TripsFrom, HasTrips, IsPart, AddsNothing, ThroughEdges, ThroughChildren};
 
 use crate::marks::Marks;
 use kinds::{SignedRole, State};
 use rules::{Edge, Rows};
-use sets::{ConceptSet, Relation, RoleSet, StateSet, image};
+use sets::{ConceptSet, Relation, RoleSet, StateSet, image, starts_of};
 
 /// For each signed role R the marks at "has a neighbour by R", as a relation between states.
 pub(crate) type Loops = [Relation; SignedRole::NUMBERS];
@@ -79,21 +79,23 @@ fn gather_from(loops: &mut Loops, delta: &Marks, s: usize)
 }
 
 // The rows of all states are gathered.
-fn gather_all(loops: &mut Loops, delta: &Marks)
+fn gather_all(loops: &mut Loops, delta: &Marks, from: StateSet)
+    requires { HasSources from.0 delta.now.pairs }
     ensures { GainsEach (AllLoops delta.now) loops.old loops.new }
 {
-    for s in 0..State::NUMBERS {
-        gather_from(loops, delta, s);
+    for s in from.iter() {
+        gather_from(loops, delta, s.0 as usize);
     }
 }
 
 // The delta's marks are gathered by roles, in one pass over its rows. Only the relations of the delta's
 // own roles are cleared before, and only those are read.
-fn gather(loops: &mut Loops, delta: &Marks, roles: RoleSet)
+fn gather(loops: &mut Loops, delta: &Marks, roles: RoleSet, from: StateSet)
+    requires { HasSources from.0 delta.now.pairs }
     ensures { AreLoops delta.now roles.0 loops.new }
 {
     clear_loops(loops, roles);
-    gather_all(loops, delta);
+    gather_all(loops, delta, from);
 }
 
 // The states to which s is led down the edge, along a loop, and back up.
@@ -118,8 +120,9 @@ fn all_trips(candidates: &mut Marks, loops: &Relation, edge: &Edge)
     ensures { Gets (ByState (TripsFrom loops.now edge.now)) candidates.old.rows
         candidates.new.rows }
 {
-    for s in 0..State::NUMBERS {
-        trips_from(candidates, loops, edge, s);
+    let from = starts_of(&edge.down);
+    for s in from.iter() {
+        trips_from(candidates, loops, edge, s.0 as usize);
     }
 }
 
@@ -230,12 +233,13 @@ fn concepts_from(delta: &Marks, s: usize) -> ConceptSet
 }
 
 // The concepts at which the delta has a mark.
-fn concepts(delta: &Marks) -> ConceptSet
+fn concepts(delta: &Marks, from: StateSet) -> ConceptSet
+    requires { HasSources from.0 delta.now.pairs }
     ensures { HasAll delta.now (λ s. s < most_states) result.0 }
 {
     let mut all = ConceptSet::EMPTY;
-    for s in 0..State::NUMBERS {
-        all = all.union(concepts_from(delta, s));
+    for s in from.iter() {
+        all = all.union(concepts_from(delta, s.0 as usize));
     }
     all
 }
@@ -261,11 +265,13 @@ pub(crate) fn through_children(
     loops: &mut Loops,
     delta: &Marks,
     rows: &Rows,
+    from: StateSet,
 )
+    requires { HasSources from.0 delta.now.pairs }
     ensures { Gets (ThroughChildren delta.now.rows rows.now) candidates.old.rows
         candidates.new.rows }
 {
-    let roles = concepts(delta).roles();
-    gather(loops, delta, roles);
+    let roles = concepts(delta, from).roles();
+    gather(loops, delta, roles, from);
     through_roles(candidates, loops, rows, roles);
 }

@@ -16,8 +16,8 @@ pub mod output;
 pub mod theorems;
 mod window;
 
-// The characters of the longest line.
-pub const LINE: usize = 64;
+// The characters of the longest line of any kind.
+pub const LINE: usize = 130;
 
 // The bytes of a buffer, between a source and its lines and before a sink.
 pub const BUFFER: usize = 4096;

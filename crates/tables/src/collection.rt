@@ -58,9 +58,9 @@ pub const CONCEPT_FACTS: usize = 1024;
 
 pub const ROLE_FACTS: usize = 4096;
 
-pub const STEPS: usize = 512;
+pub const STEPS: usize = 1024;
 
-pub const FINALS: usize = 16;
+pub const FINALS: usize = 32;
 
 impl<'a> Collection<'a> {
     ghost use Rattle.kinds.specs.Kinds.{CountsFit};

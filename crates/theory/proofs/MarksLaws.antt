@@ -2,7 +2,7 @@
 use Rattle.std.specs.Prelude.{◌≡◌, refl, Bool, true, false, not, ◌⊎◌, List, [], ◌∷◌, T, ℕ, zero, suc, ◌+◌, ◌*◌, ◌≤◌, ◌<◌, length, slice_index, sum, map, ◌++◌}
 use Rattle.std.proofs.Common.{sym, ap, ◌∙◌, inl, inr, arith, ext_get_or, length-append, T_not}
 use Rattle.std.proofs.lemmas.List.{length-map}
-use Rattle.std.proofs.lemmas.List.Sums.{sum_by-cons}
+use Rattle.std.proofs.lemmas.List.Sums.{sum_by-cons, get_or-le-sum_by}
 use Rattle.std.proofs.Math.Nat.{mul_assoc}
 use mathlib.Core.List.Memᴰ
 use Rattle.laws.specs.Member.{◌∈◌, Within, map-in, map-out}
@@ -105,9 +105,6 @@ module _ (𝓚 : Kind) where
   counted-few f declared m a =
       let few = distinct-few a.marks triples a.once (λ (s, t, B) i. triple-in s t B (declared s t B ((a.are s t B).0 i))) in
       omega (arith, few, a.many, triples-long)
-
-  pub adds-few : (n m : ℕ) → Adds 𝓚 n m → m ≤ length states * (length states * length concepts)
-  adds-few n = counted-few (Added 𝓚 n) (λ s t B a. mark-markable 𝓚 (suc n) s t B a.then)
 
   module _ (c : Countable 𝓚) where
     marked : ℕ → State → State → Concept → Bool
@@ -259,6 +256,14 @@ module _ (𝓚 : Kind) where
         let few = counted-few (Mark 𝓚 n) (mark-markable 𝓚 n) _ (stands-sum n counts r) in
         let e = mul_assoc (length states) (length states) (length concepts) in
         fit (sum counts) (length concepts) (length states) (length states * length concepts) (omega (arith, few, e)) (omega arith)
+
+    -- THEOREM: so no round adds more
+    pub adds-most : (n m : ℕ) → Adds 𝓚 n m → m ≤ most 𝓚
+    adds-most n m a =
+        let w = counts-there (suc n) in
+        let e = counted-once (Added 𝓚 n) m _ a (w.1.each n (omega arith)) in
+        let h : slice_index w.0 n ≤ sum w.0 = get_or-le-sum_by (λ y. y) w.0 n 0 (omega (arith, w.1.long)) in
+        omega (arith, e, h, sum-most (suc n) w.0 w.1)
 
     -- THEOREM: up to the rounds needed there are no more counts
     pub counts-most : (n : ℕ) → Needed 𝓚 n → (k : ℕ) → k ≤ n → (counts : List ℕ) → RoundCounts 𝓚 k counts → length counts ≤ most 𝓚

@@ -57,7 +57,11 @@ module _ (𝓚 : Kind) where
   SumAtMost = Countable → (n : ℕ) (counts : List ℕ) → RoundCounts 𝓚 n counts
       → sum counts ≤ most
 
-  -- so up to the rounds needed there are no more counts than that
+  -- so no round adds more than that,
+  abbrev pub AddsAtMost : Type 0
+  AddsAtMost = Countable → (n m : ℕ) → Adds 𝓚 n m → m ≤ most
+
+  -- and up to the rounds needed there are no more counts than that
   abbrev pub CountsAtMost : Type 0
   CountsAtMost = Countable → (n : ℕ) → Needed 𝓚 n → (k : ℕ) → k ≤ n
       → (counts : List ℕ) → RoundCounts 𝓚 k counts → length counts ≤ most

@@ -5,7 +5,7 @@ ghost use Rattle.theory.specs.LawsOfSheet.{MarksStay, RoundsOnce, SheetStays, Sh
 ghost use Rattle.theory.specs.LawsOfSheet.{SheetLeast, MarkIsPath, RoundsBound, RoundAdds};
 ghost use Rattle.theory.specs.LawsOfMarks.{StandsOnce, AddsOnce, CountsOnce};
 ghost use Rattle.theory.specs.LawsOfMarks.{StandsThere, CountsThere, CountsMakeSheet};
-ghost use Rattle.theory.specs.LawsOfMarks.{AddsSome, AddsNone, SumAtMost, CountsAtMost};
+ghost use Rattle.theory.specs.LawsOfMarks.{AddsSome, AddsNone, SumAtMost, AddsAtMost, CountsAtMost};
 
 // A type that names a rules' kind: any.
 pub trait AnyKind {
@@ -46,5 +46,6 @@ pub fn counts<K: AnyKind>()
     ensures some { AddsSome K.kind }
     ensures none { AddsNone K.kind }
     ensures sum_at_most { SumAtMost K.kind }
+    ensures adds_at_most { AddsAtMost K.kind }
     ensures counts_at_most { CountsAtMost K.kind }
 {}

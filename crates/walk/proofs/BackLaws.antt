@@ -34,7 +34,7 @@ reversed facts a edge h = record { fact = h.fact; read = h.read; rows = h.rows; 
 
 module _ (s : Strides) (d : Directed) (back : IsBackward s.transitions.now d) where
   abbrev Back : ℕ → ℕ → ℕ → ℕ → Type 0
-  Back = Move Backward s.loops.now.rows d.transitions s.edges.now.facts.numbers.now s.edges.now.roles.0
+  Back = Move Backward s.loops.now.rows d.transitions.now s.edges.now.facts.numbers.now s.edges.now.roles.0
 
   -- THEOREM: a stride backward goes against a stride forward
   move-back : {a u b t : ℕ} → Back a u b t → StrideBy s b t a u
@@ -42,7 +42,7 @@ module _ (s : Strides) (d : Directed) (back : IsBackward s.transitions.now d) wh
   move-back (along {a = a} {s = u} {t = t} edge l p) =
       let facts = s.edges.now.facts.numbers.now in
       let turned = back.transposed.at edge.role.0 (edge-role facts a edge l.is) in
-      let q = (turned.at u t (within_row most_states (relation_at d.transitions edge.role.0) u t turned.long p)).0 p in
+      let q = (turned.at u t (within_row most_states (relation_at d.transitions.now edge.role.0) u t turned.long p)).0 p in
       strides.along (record { role = inverse edge.role; to = individual a }) (reversed facts a edge l.is) q
   move-back (loop h p) = strides.loop h p
 
@@ -53,7 +53,7 @@ module _ (s : Strides) (d : Directed) (back : IsBackward s.transitions.now d) wh
 
   -- the strides as the guide takes them
   abbrev Steps : ℕ → ℕ → ℕ → ℕ → Type 0
-  Steps = Move d.direction s.loops.now.rows d.transitions s.edges.now.facts.numbers.now s.edges.now.roles.0
+  Steps = Move d.direction s.loops.now.rows d.transitions.now s.edges.now.facts.numbers.now s.edges.now.roles.0
 
   -- no stride backward leads from another node to one that is ahead of x in a state
   pub stays_ahead : (x : Individual) (state : State) (ahead : List StateSet) → WalkedBy s x state ahead
@@ -82,6 +82,6 @@ module _ (s : Strides) (d : Directed) (back : IsBackward s.transitions.now d) wh
   among_none x state ahead r w = record { leads = λ a u p q. absurd (w.none a u q p) }
 
   pub walked_backward : (last : Individual) (state : State) (r : List StateSet)
-      → Found (Move d.direction s.loops.now.rows d.transitions s.edges.now.facts.numbers.now s.edges.now.roles.0) last state r
+      → Found (Move d.direction s.loops.now.rows d.transitions.now s.edges.now.facts.numbers.now s.edges.now.roles.0) last state r
       → LeadTo s last state r
   walked_backward last state r w = let f = rw back.direction at w in record { long = f.long; leads = λ a u p. run-back (f.sound a u p).2 }

@@ -1,20 +1,20 @@
 -- The co-reachable states: what one more mark or step adds, until nothing is added.
 use Rattle.std.specs.Prelude.{◌≡◌, ◌≢◌, refl, ◌↔◌, ◌⊎◌, Bool, true, false, not, IsTrue, ℕ, zero, suc, ◌+◌, ◌*◌, ◌^◌, ◌<◌, ◌≤◌, List, []}
 use Rattle.std.specs.Prelude.{◌∷◌, length, set, replicate}
-use Rattle.std.proofs.Common.{sym, ap, ◌∙◌, inl, inr, ⊎_elim, arith, length-set, eq-or-lt_of_le}
+use Rattle.std.proofs.Common.{sym, ap, ◌∙◌, inl, inr, ⊎_elim, arith, length-set}
 use Rattle.std.proofs.Math.Decide.{ℕ_discrete}
 use Rattle.std.proofs.lemmas.List.{length-replicate, get_or-replicate}
 use Rattle.std.proofs.lemmas.Bool.{false≢true}
 use Rattle.laws.specs.Fill.{stored, Filling, all_done}
 use Rattle.kinds.specs.Kinds.{most_states, base, flip}
-use Rattle.sets.specs.Bits.{Has, IsSetOf, IsEmpty, InsertsIf, IsUnion, IsIntersection, concept_width, role_width}
+use Rattle.sets.specs.Bits.{Has, IsSetOf, IsEmpty, InsertsIf, IsUnion, IsIntersection, concept_width, role_width, state_width}
 use Rattle.sets.specs.declared.states.StateSet.{StateSet}
 use Rattle.sets.specs.declared.concepts.ConceptSet.{ConceptSet}
 use Rattle.theory.specs.Onward.{ends, around, deeper}
 use Rattle.walk.specs.declared.coreachable.PathsBelow.{PathsBelow}
-use Rattle.laws.specs.Loops.{Witness}
+use Rattle.laws.specs.Loops.{Witness, Extends, witness_more}
 use Rattle.sets.specs.Relations.{concepts_at, relation_at, Relates, Transposed, IsImage, pair}
-use Rattle.walk.specs.CoReachable.{Marked, LeadsOn, Goes, IsLive, Along, ByMark, ByMarks, StepBy, Further, PutAt, PutEach}
+use Rattle.walk.specs.CoReachable.{Marked, LeadsOn, Goes, IsLive, AreAlive, Along, ByMark, ByMarks, StepBy, Further, PutAt, PutEach}
 use Rattle.walk.specs.Covers.{Covers}
 use Rattle.walk.specs.CoReachable.{Small, Adds, AreCoReachable}
 use Rattle.walk.proofs.SetLaws.{none_has, as_number}
@@ -28,22 +28,50 @@ pub live_test : (finals : ℕ) (rows : List ConceptSet) (c t : ℕ) (on : Bool) 
     → IsTrue on ↔ IsLive finals rows c t
 live_test finals rows c t on h w = (λ e. record { low = h; goes = w.0 e }, λ l. w.1 l.goes)
 
--- one more piece gathered
-pub gathered_with : (P : ℕ → ℕ → Type 0) (i out piece new : ℕ) → IsSetOf (λ B. (k : ℕ) × (k < i) × P k B) out → IsSetOf (P i) piece
-    → IsUnion out piece new
-    → IsSetOf (λ B. (k : ℕ) × (k < i + 1) × P k B) new
-gathered_with P i out piece new g h u = record { member = λ B. (to B, from B) }
+-- ---- over the members of a set of states
+
+-- all states in which the way leads on are alive
+pub alive_start : (finals : ℕ) (rows : List ConceptSet) → AreAlive finals rows 0 finals
+alive_start finals rows = record { final = λ t p. p; onward = λ t c l. absurd (omega arith) }
+
+pub alive_more : (finals : ℕ) (rows : List ConceptSet) (i out new : ℕ) (none : Bool) → AreAlive finals rows i out → i < state_width
+    → IsTrue none ↔ IsEmpty (concepts_at rows i) → InsertsIf state_width out i (not none) new → AreAlive finals rows (i + 1) new
+alive_more finals rows i out new none a low test ins = record {
+  final = λ t p. (ins.member t).1 (inl (a.final t p));
+  onward = λ t c l p. elim (ℕ_discrete t i) [
+    | yes e ↦ (ins.member t).1 (inr (e, omega arith, on none test c (rw e at p)))
+    | no ne ↦ (ins.member t).1 (inl (a.onward t c (omega arith) p))
+  ];
+}
   where
-    to : (B : ℕ) → Has new B → (k : ℕ) × (k < i + 1) × P k B
-    to B p = ⊎_elim (λ q. let w = (g.member B).0 q in let l = w.1 in (w.0, omega arith, w.2)) (λ q. (i, omega arith, (h.member B).0 q))
-        ((u.member B).0 p)
+    on : (b : Bool) → IsTrue b ↔ IsEmpty (concepts_at rows i) → (c : ℕ) → Has (concepts_at rows i) c → not b ≡ true
+    on true k c p = absurd (k.0 refl c p)
+    on false k c p = refl
 
-    put : (B k : ℕ) → P k B → (k ≡ i) ⊎ (k < i) → Has new B
-    put B k p (inl e) = (u.member B).1 (inr ((h.member B).1 (rw e at p)))
-    put B k p (inr l) = (u.member B).1 (inl ((g.member B).1 (k, l, p)))
+pub alive_in : {finals : ℕ} {rows : List ConceptSet} {set t : ℕ} (c : ℕ) → AreAlive finals rows most_states set → t < most_states
+    → Goes finals rows t c → Has set t
+alive_in {t = t} c a low w = ⊎_elim (λ f. a.final t f) (λ p. a.onward t c low p) w
 
-    from : (B : ℕ) → (k : ℕ) × (k < i + 1) × P k B → Has new B
-    from B w = let l = w.1 in put B w.0 w.2 (eq-or-lt_of_le (omega arith))
+-- one member more: what it gives is joined; it is kept where the test says so
+pub joined_more : {D F : ℕ → Type 0} {k out piece new : ℕ} (P : ℕ → ℕ → Type 0) → Extends D k F
+    → IsSetOf (λ B. Witness D (λ t. P t B)) out → IsSetOf (P k) piece → IsUnion out piece new
+    → IsSetOf (λ B. Witness F (λ t. P t B)) new
+joined_more P x g h u = record {
+  member = λ B. (
+    λ p. (witness_more x).1 (⊎_elim (λ q. inl ((g.member B).0 q)) (λ q. inr ((h.member B).0 q)) ((u.member B).0 p)),
+    λ w. (u.member B).1 (⊎_elim (λ q. inl ((g.member B).1 q)) (λ q. inr ((h.member B).1 q)) ((witness_more x).0 w)),
+  );
+}
+
+pub kept_more : {D F : ℕ → Type 0} {w k out new : ℕ} {on : Bool} (P : ℕ → Type 0) → Extends D k F → IsSetOf (λ t. D t × P t) out
+    → k < w → IsTrue on ↔ P k → InsertsIf w out k on new → IsSetOf (λ t. F t × P t) new
+kept_more P x g low test ins = record {
+  member = λ t. (
+    λ p. ⊎_elim (λ q. let d = (g.member t).0 q in (x.keeps t d.0, d.1)) (λ q. let e = q.0 in rw e (x.own, test.0 q.2)) ((ins.member t).0 p),
+    λ q. (ins.member t).1 (⊎_elim (λ d. inl ((g.member t).1 (d, q.1)))
+        (λ e. let h = q.1 in inr (e, omega (arith, low), test.1 (rw e at h))) (x.only t q.0)),
+  );
+}
 
 pub gathered_as : (P Q : ℕ → Type 0) (r : ℕ) → ((B : ℕ) → P B ↔ Q B) → IsSetOf P r → IsSetOf Q r
 gathered_as P Q r e g = record { member = λ B. (λ p. (e B).0 ((g.member B).0 p), λ q. (g.member B).1 ((e B).1 q)) }
@@ -51,26 +79,19 @@ gathered_as P Q r e g = record { member = λ B. (λ p. (e B).0 ((g.member B).0 p
 pub gathered_none : (P : ℕ → Type 0) → ((B : ℕ) → P B → ⊥) → IsSetOf P 0
 gathered_none P none = record { member = λ B. (λ p. absurd (none_has B p), λ p. absurd (none B p)) }
 
-pub by_marks_none : (sheet : List ConceptSet) (finals : ℕ) (rows : List ConceptSet) (s : ℕ) → IsSetOf (ByMark sheet finals rows s 0) 0
-by_marks_none sheet finals rows s = gathered_none _ (λ B w. let l = w.below in absurd (omega arith))
-
-pub by_marks_more : (sheet : List ConceptSet) (finals : ℕ) (rows : List ConceptSet) (s t out piece new : ℕ)
-    → IsSetOf (ByMark sheet finals rows s t) out
-    → IsSetOf (Along sheet finals rows s t) piece → IsUnion out piece new → IsSetOf (ByMark sheet finals rows s (t + 1)) new
-by_marks_more sheet finals rows s t out piece new g h u =
-    gathered_as _ _ new (λ B. (λ w. record { to = w.0; below = w.1; along = w.2 }, λ w. (w.to, w.below, w.along)))
-    (gathered_with (Along sheet finals rows s) t out piece new
-    (gathered_as _ _ out (λ B. (λ w. (w.to, w.below, w.along), λ w. record { to = w.0; below = w.1; along = w.2 })) g) h u)
-
-pub by_marks_end : (sheet : List ConceptSet) (finals : ℕ) (rows : List ConceptSet) (s t out : ℕ) → most_states ≤ t
-    → IsSetOf (ByMark sheet finals rows s t) out
-    → IsSetOf (ByMark sheet finals rows s most_states) out
-by_marks_end sheet finals rows s t out h =
+pub by_marks_end : (sheet : List ConceptSet) (finals : ℕ) (rows : List ConceptSet) (s alive out : ℕ)
+    → AreAlive finals rows most_states alive → IsSetOf (ByMark sheet finals rows s (Has alive)) out
+    → IsSetOf (ByMark sheet finals rows s (λ t. t < most_states)) out
+by_marks_end sheet finals rows s alive out a =
     gathered_as _ _ out
     (λ B. (
-      λ w. record { to = w.to; below = w.along.marked.to; along = w.along },
-      λ w. record { to = w.to; below = let l = w.below in omega arith; along = w.along },
+      λ w. record { number = w.number; of = w.holds.marked.to; holds = w.holds },
+      λ w. record { number = w.number; of = alive_in B a w.of w.holds.goes; holds = w.holds },
     ))
+
+pub live_end : (finals : ℕ) (rows : List ConceptSet) (c alive out : ℕ) → AreAlive finals rows most_states alive
+    → IsSetOf (λ t. Has alive t × IsLive finals rows c t) out → IsSetOf (IsLive finals rows c) out
+live_end finals rows c alive out a = gathered_as _ _ out (λ t. (λ q. q.1, λ l. (alive_in c a l.low l.goes, l)))
 
 -- one more piece joined
 pub joined_with : {P : ℕ → Type 0} {out piece new : ℕ} → IsSetOf P piece → IsUnion out piece new → (B : ℕ) → Has new B ↔ (Has out B ⊎ P B)
@@ -270,7 +291,7 @@ module _ (paths : PathsBelow) (rows next : List ConceptSet) (l : Leading paths r
     where
       side : (s B : ℕ) → s < most_states → Has (concepts_at rows s) B ⊎ Further paths rows s B → LeadsOn paths s B
       side s B h (inl p) = l.sound s B h p
-      side s B h (inr (inl w)) = let a = w.along in around a.marked (goes_on paths rows l w.to B a.marked.to a.goes)
+      side s B h (inr (inl w)) = let a = w.holds in around a.marked (goes_on paths rows l w.number B a.marked.to a.goes)
       side s B h (inr (inr w)) = let x = w.1 in deeper x.child x.down (goes_on paths rows l x.to _ x.down.to x.goes)
 
   kept : (s : ℕ) → s < most_states → concepts_at rows s ≤ concepts_at next s
@@ -296,7 +317,7 @@ module _ (paths : PathsBelow) (rows next : List ConceptSet) (l : Leading paths r
       all : {s B : ℕ} → LeadsOn paths s B → s < most_states → Goes paths.finals.0 rows s B
       all (ends x) h = inl x
       all {s} {B} (around {t = t} m w) h = inr (put s B h
-          (inl (record { to = t; below = m.to; along = record { marked = m; goes = all w m.to } })))
+          (inl (record { number = t; of = m.to; holds = record { marked = m; goes = all w m.to } })))
       all {s} {B} (deeper {t = t} {R = R} c d w) h = inr (put s B h (inr (R, record { to = t; child = c; down = d; goes = all w d.to })))
 
 pub leading_start : (paths : PathsBelow) → Leading paths (replicate most_states no_concepts)

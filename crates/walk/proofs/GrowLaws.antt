@@ -126,7 +126,7 @@ grows_edge g edge m n old new grew i w =
 
 -- and one by which no state can be new
 pub edge_passed : (g : Guide) (edge : FactEdge) (m : ℕ) (old : List StateSet)
-    → EndsWithin g.directed.now.transitions edge.role.0 (states_at old edge.to.0)
+    → EndsWithin g.directed.now.transitions.now edge.role.0 (states_at old edge.to.0)
     → Grows (ByEdge g edge m) old old false
 edge_passed g edge m old within = record {
   raised = raised_none old;

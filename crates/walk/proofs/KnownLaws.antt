@@ -94,7 +94,7 @@ module _ (c : Component) (k f : ℕ) (now new : Known) (h : f < most_individuals
 
 -- what is known of individuals is true of what walks forward go by
 pub known_lent : (s : Strides) (start : State) (d : Directed) → IsForward s.transitions.now d → (k : Known) → AreKnown s start k
-    → AreKnownBy (Move d.direction s.loops.now.rows d.transitions s.edges.now.facts.numbers.now s.edges.now.roles.0) start.0 k
+    → AreKnownBy (Move d.direction s.loops.now.rows d.transitions.now s.edges.now.facts.numbers.now s.edges.now.roles.0) start.0 k
 known_lent s start d forward k w = record {
   many = w.many;
   at = λ a l i. ahead_of _ _ _ _ s.covers d (individual a) start _ forward (w.at (individual a) l i);

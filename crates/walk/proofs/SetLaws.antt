@@ -1,5 +1,5 @@
 -- Laws of sets, and of lists of them.
-use Rattle.std.specs.Prelude.{ℕ, List, ◌≡◌, ◌≢◌, ◌↔◌, ◌<◌, ◌≤◌, length, set}
+use Rattle.std.specs.Prelude.{ℕ, List, ◌≡◌, ◌≢◌, ◌↔◌, ◌<◌, ◌≤◌, ◌^◌, length, set}
 use Rattle.std.proofs.Common.{sym, ap, ◌∙◌, inr, ⊎_elim, arith, get_or-set_same, get_or-set_other}
 use Rattle.std.proofs.Math.Decide.{ℕ_discrete, dec_lt}
 use Rattle.std.proofs.Math.ListN.{get_or-eq_default}
@@ -7,7 +7,8 @@ use Rattle.std.specs.Int.{bit_at}
 use Rattle.std.specs.Int.Bits.{or_add_and}
 use Rattle.std.proofs.lemmas.Nat.{and_le_r}
 use Rattle.std.specs.Int.RustNames.{bit_or}
-use Rattle.std.proofs.lemmas.Nat.Bits.{same_from_bits, bit_at-zero, bit_at-lt}
+use Rattle.std.proofs.lemmas.Nat.Bits.{same_from_bits, bit_at-zero, bit_at-lt, bit_at_above}
+use Rattle.kinds.specs.Kinds.{most_states}
 use Rattle.sets.specs.Bits.{Has, IsUnion}
 use Rattle.sets.proofs.Laws.{is_union}
 use Rattle.sets.specs.declared.states.StateSet.{StateSet}
@@ -51,6 +52,23 @@ within_row n l k t e p = side (dec_lt k n)
     side : Dec (k < n) → k < n
     side (yes h) = h
     side (no h) = absurd (none_has t (rw (past_end l k (omega arith)) at p))
+
+-- a set of states has no member past the last
+pub low_member : (m t : ℕ) → m < 2 ^ most_states → Has m t → t < most_states
+low_member m t small p = side (dec_lt t most_states)
+  where
+    side : Dec (t < most_states) → t < most_states
+    side (yes l) = l
+    side (no l) = absurd (omega (arith, p, bit_at_above m most_states t small (omega arith)))
+
+-- each set of a row that has a set for each state is a number of that width, where those below the last are
+pub small_row : (row : List StateSet) (n : ℕ) → length row ≡ most_states → ((t : ℕ) → t < n → states_at row t < 2 ^ most_states)
+    → most_states ≤ n → (t : ℕ) → states_at row t < 2 ^ most_states
+small_row row n long small m t = side (dec_lt t n)
+  where
+    side : Dec (t < n) → states_at row t < 2 ^ most_states
+    side (yes l) = small t l
+    side (no l) = omega (arith, past_end row t (omega arith))
 
 -- a set with the members of another one is no less, as a number
 pub as_number : (m r : ℕ) → ((t : ℕ) → Has m t → Has r t) → m ≤ r

@@ -1,8 +1,8 @@
 -- A node is led on, an individual is visited, and sweeps come to an end.
 use Rattle.std.specs.Prelude.{◌≡◌, refl, ◌⊎◌, List, ℕ, ◌-◌, ◌^◌, ◌<◌, length, set}
 use Rattle.std.proofs.Common.{sym, inl, inr, ⊎_elim, arith}
-use Rattle.std.proofs.lemmas.Nat.Bits.{bit_at_above, bit_at_ones}
-use Rattle.std.proofs.Math.Decide.{ℕ_discrete, dec_lt}
+use Rattle.std.proofs.lemmas.Nat.Bits.{bit_at_ones}
+use Rattle.std.proofs.Math.Decide.{ℕ_discrete}
 use Rattle.kinds.specs.declared.Individual.{Individual}
 use Rattle.kinds.specs.declared.State.{State}
 use Rattle.kinds.specs.Kinds.{most_individuals, most_states}
@@ -13,12 +13,12 @@ use Rattle.theory.specs.Run.{Run, stop, go, one}
 use Rattle.theory.specs.Run as run
 use Rattle.walk.specs.declared.multi.MultiWalk.{MultiWalk}
 use Rattle.walk.specs.declared.strides.Strides.{Strides}
-use Rattle.sets.specs.Relations.{states_at, relation_at}
+use Rattle.sets.specs.Relations.{states_at}
 use Rattle.walk.specs.Strides.{along, loop}
 use Rattle.walk.specs.Sources.{word_at, Marked, first_at, AreMarked}
 use Rattle.walk.specs.Walks.{StrideBy, ReachesBy}
 use Rattle.walk.specs.MultiWalks.{left, Ready, Grown, ByStrides, Walking, Kept, Leads, Exhausts, ExhaustsAll, Begun, AreRows}
-use Rattle.walk.proofs.SetLaws.{within_row, states_at-set_same, states_at-set_other, as_number}
+use Rattle.walk.proofs.SetLaws.{low_member, states_at-set_same, states_at-set_other, as_number}
 use Rattle.walk.proofs.WordLaws.{left_less}
 
 pub kept_then : {s : Strides} {a b c : MultiWalk} → Kept s a b → Kept s b c → Kept s a c
@@ -37,13 +37,8 @@ module _ (s : Strides) (old : MultiWalk) (a t only : ℕ) (v : StateSet) (ready 
   at_a : states_at popped.behind a ≡ v.0
   at_a = states_at-set_same old.behind a v in_behind
 
-  -- a set has no member past its width
-  low : t < state_width
-  low = side (dec_lt t state_width)
-    where
-      side : Dec (t < state_width) → t < state_width
-      side (yes l) = l
-      side (no l) = absurd (omega (arith, waits, bit_at_above (states_at old.behind a) state_width t (ready.small a) (omega arith)))
+  low : t < most_states
+  low = low_member _ t (ready.small a) waits
 
   -- what was behind is the node, or is so still
   still : (y u : ℕ) → Has (states_at old.behind y) u → Dec (y ≡ a) → Dec (u ≡ t) → ((y ≡ a) × (u ≡ t)) ⊎ Has (states_at popped.behind y) u
@@ -104,11 +99,10 @@ module _ (s : Strides) (old : MultiWalk) (a t only : ℕ) (v : StateSet) (ready 
 -- the set of every state
 pub exhausts_all : (s : Strides) (old now new : MultiWalk) → Kept s old now → Exhausts s (2 ^ state_width - 1) now new
     → ExhaustsAll s old new
-exhausts_all s old now new v w = record { kept = kept_then v w.kept; clean = λ y u p. side y u p (dec_lt u state_width) }
+exhausts_all s old now new v w = record { kept = kept_then v w.kept; clean = clean }
   where
-    side : (y u : ℕ) → Has (states_at new.behind y) u → Dec (u < state_width) → ⊥
-    side y u p (yes l) = w.clean y u p (bit_at_ones state_width u l)
-    side y u p (no l) = absurd (omega (arith, p, bit_at_above (states_at new.behind y) state_width u (w.kept.ready.small y) (omega arith)))
+    clean : (y u : ℕ) → Has (states_at new.behind y) u → ⊥
+    clean y u p = w.clean y u p (bit_at_ones most_states u (low_member _ u (w.kept.ready.small y) p))
 
 -- ---- the end
 
@@ -127,23 +121,18 @@ module _ (s : Strides) (firsts : List Individual) (count : ℕ) (start : State) 
 
   module _ (w : MultiWalk) (rows : AreRows s) (g : Walking s firsts count start.0 w)
       (clean : (y u : ℕ) → Has (states_at w.behind y) u → ⊥) where
-    -- a state from which a stride leads has a place in its row
-    placed : {a u c t : ℕ} → StrideBy s a u c t → u < most_states
-    placed (along edge l p) =
-        within_row most_states (relation_at s.transitions.now edge.role.0) _ _ (rows.transitions _ (edge-role _ _ edge l)) p
-    placed (loop l p) = within_row most_states (relation_at s.loops.now.rows _) _ _ (rows.loops _ l) p
+    -- a stride leads to a state that has a word
+    landed : {a u c t : ℕ} → StrideBy s a u c t → t < most_states
+    landed (along edge l p) = low_member _ _ ((rows.transitions _ (edge-role _ _ edge l)).small _) p
+    landed (loop l p) = low_member _ _ ((rows.loops _ l).small _) p
 
-    step : (k : ℕ) → {a u c t : ℕ} → StrideBy s a u c t → t < most_states → Marked w.words k a u → Marked w.words k c t
-    step k m l p = ⊎_elim (λ r. r) (λ r. absurd (clean _ _ r)) (g.closed k _ _ _ _ l m p)
-
-    stays : (k : ℕ) → {a u c t : ℕ} → Run (StrideBy s) a u c t → t < most_states → Marked w.words k a u → Marked w.words k c t
-    stays k stop l p = p
-    stays k (go m stop) l p = step k m l p
-    stays k (go m (go n r)) l p = stays k (go n r) l (step k m (placed n) p)
+    stays : (k : ℕ) → {a u c t : ℕ} → Run (StrideBy s) a u c t → Marked w.words k a u → Marked w.words k c t
+    stays k stop p = p
+    stays k (go m r) p = stays k r (⊎_elim (λ q. q) (λ q. absurd (clean _ _ q)) (g.closed k _ _ _ _ (landed m) m p))
 
     all_marked : AreMarked s firsts count start w.words
     all_marked =
-        record { at = λ k c t l. (λ p. g.sound k c t p, λ p. let q = p.1 in stays k q.strides l (g.begins k p.0 q.individual q.state)) }
+        record { at = λ k c t. (λ p. g.sound k c t p, λ p. let q = p.1 in stays k q.strides (g.begins k p.0 q.individual q.state)) }
 
   -- THEOREM: where no node is behind, a first is marked at the nodes that it reaches
   pub walked : (old new : MultiWalk) → AreRows s → Begun firsts start.0 count count old → ExhaustsAll s old new

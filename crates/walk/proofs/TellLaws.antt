@@ -1,18 +1,17 @@
 -- The answers as they are made.
-use Rattle.std.specs.Prelude.{◌≡◌, refl, ◌⊎◌, ◌↔◌, Bool, true, false, IsTrue, Option, Some, None, List, [], ℕ, ◌+◌, ◌^◌, ◌<◌, ◌≤◌, length}
+use Rattle.std.specs.Prelude.{◌≡◌, refl, ◌⊎◌, ◌↔◌, Bool, true, false, IsTrue, Option, Some, None, List, [], ℕ, ◌+◌, ◌<◌, ◌≤◌, length}
 use Rattle.std.specs.Prelude.{get_or, set, replicate, slice_index}
 use Rattle.std.proofs.Common.{sym, ap, ◌∙◌, inl, inr, ⊎_elim, arith, ext_get_or, length-set, get_or-set_same, get_or-set_other}
 use Rattle.std.proofs.Math.Decide.{ℕ_discrete, dec_lt}
 use Rattle.std.proofs.Math.ListN.{get_or-eq_default}
 use Rattle.std.proofs.lemmas.Bool.{false≢true}
 use Rattle.std.proofs.lemmas.List.{length-replicate, get_or-replicate}
-use Rattle.std.proofs.lemmas.Nat.Bits.{bit_at_above}
 use Rattle.std.specs.Int.RustNames.{bit_or}
 use Rattle.kinds.specs.declared.Individual.{Individual}
 use Rattle.kinds.specs.declared.Ask.{Ask}
 use Rattle.kinds.specs.declared.Ask.TheVariants.{Pair, From}
 use Rattle.kinds.specs.Asks.{first_of}
-use Rattle.kinds.specs.Kinds.{most_individuals, most_states}
+use Rattle.kinds.specs.Kinds.{most_individuals}
 use Rattle.sets.specs.Bits.{Has, Meets, IsUnion, IsEmpty, TakesFirst}
 use Rattle.sets.specs.declared.states.StateSet.{StateSet}
 use Rattle.sets.proofs.Laws.{is_union}
@@ -26,7 +25,7 @@ use Rattle.walk.specs.Meant.{AreAnswers}
 use Rattle.sets.specs.Relations.{states_at}
 use Rattle.walk.specs.Sources.{Marked, first_at, AreMarked, InState, IsAt, InOne, IsIn}
 use Rattle.walk.specs.Strides.{Walked}
-use Rattle.walk.specs.Telling.{IsTold, Tells, Answering, HitBy, IsHitBy, IsLow}
+use Rattle.walk.specs.Telling.{IsTold, Tells, Answering, HitBy, IsHitBy}
 use Rattle.walk.specs.Walks.{ReachesBy}
 use Rattle.walk.proofs.SetLaws.{none_has}
 
@@ -132,25 +131,25 @@ module _ (words : List (List ℕ)) (sets : List StateSet) where
   out_end n word g h l = let e : n ≡ most_individuals = omega arith in rw e at g
 
 module _ (s : Strides) (firsts : List Individual) (count : ℕ) (q : Question) (words : List (List ℕ))
-    (w : AreMarked s firsts count q.start words) (low : IsLow q)
+    (w : AreMarked s firsts count q.start words)
     (k : ℕ) (below : k < count) where
-  reached : (b t : ℕ) → t < most_states → Marked words k b t → ReachesBy s (first_at firsts k) q.start.0 b t
-  reached b t l p = ((w.at k b t l).0 p).1
+  reached : (b t : ℕ) → Marked words k b t → ReachesBy s (first_at firsts k) q.start.0 b t
+  reached b t p = ((w.at k b t).0 p).1
 
-  marked : (b t : ℕ) → t < most_states → ReachesBy s (first_at firsts k) q.start.0 b t → Marked words k b t
-  marked b t l r = (w.at k b t l).1 (below, r)
+  marked : (b t : ℕ) → ReachesBy s (first_at firsts k) q.start.0 b t → Marked words k b t
+  marked b t r = (w.at k b t).1 (below, r)
 
   -- THEOREM: the marks tell the answer to an ask of first k
   told : (ask : Ask) → (first_of ask).0 ≡ first_at firsts k → HitBy words q k ask ↔ YesBy s q ask
   told (Pair first second) e = (to, from)
     where
       to : HitBy words q k (Pair first second) → YesBy s q (Pair first second)
-      to p = record { state = p.state; final = p.has; reaches = rw e (reached second.0 p.state (low.finals p.state p.has) p.first) }
+      to p = record { state = p.state; final = p.has; reaches = rw e (reached second.0 p.state p.first) }
 
       from : YesBy s q (Pair first second) → HitBy words q k (Pair first second)
       from y =
           let r = y.reaches in
-          record { state = y.state; has = y.final; first = marked second.0 y.state (low.finals y.state y.final) (rw e at r) }
+          record { state = y.state; has = y.final; first = marked second.0 y.state (rw e at r) }
   told (From first) e = (to, from)
     where
       to : HitBy words q k (From first) → YesBy s q (From first)
@@ -161,7 +160,7 @@ module _ (s : Strides) (firsts : List Individual) (count : ℕ) (q : Question) (
             state = i.state;
             low = p.low;
             accepts = i.has;
-            reaches = rw e (reached p.to i.state (low.accepting p.to i.state p.low i.has) i.first);
+            reaches = rw e (reached p.to i.state i.first);
           }
 
       from : YesBy s q (From first) → HitBy words q k (From first)
@@ -174,32 +173,13 @@ module _ (s : Strides) (firsts : List Individual) (count : ℕ) (q : Question) (
                 record {
                   state = y.state;
                   has = y.accepts;
-                  first = marked y.to y.state (low.accepting y.to y.state y.low y.accepts) (rw e at r);
+                  first = marked y.to y.state (rw e at r);
                 };
           }
 
   pub marks-right : (ask : Ask) (word : ℕ) (b : Bool) → (first_of ask).0 ≡ first_at firsts k → IsHitBy words q ask word
       → IsTrue b ↔ Has word k → IsTrue b ↔ YesBy s q ask
   marks-right ask word b e h i = let y = told ask e in (λ p. y.0 ((h.at k).0 (i.0 p)), λ p. i.1 ((h.at k).1 (y.1 p)))
-
--- ---- states that have a word
-
--- the ends of the individuals below n are in the set
-pub record EndsIn (q : Question) (n ends : ℕ) : Type 0 where
-  pub finals : (t : ℕ) → Has q.finals.0 t → Has ends t
-  pub accepting : (b t : ℕ) → b < n → Has (states_at q.accepting.now.rows b) t → Has ends t
-
-module _ (q : Question) where
-  pub ends_low : (n ends : ℕ) → EndsIn q n ends → most_individuals ≤ n → ends < 2 ^ most_states → IsLow q
-  ends_low n ends g h small =
-      record { finals = λ t p. low t (g.finals t p); accepting = λ b t l p. low t (g.accepting b t (omega arith) p) }
-    where
-      low : (t : ℕ) → Has ends t → t < most_states
-      low t p = side (dec_lt t most_states)
-        where
-          side : Dec (t < most_states) → t < most_states
-          side (yes l) = l
-          side (no l) = absurd (omega (arith, p, bit_at_above ends most_states t small (omega arith)))
 
 -- ---- answers
 

@@ -52,13 +52,13 @@ module _ (loops transitions : List (List StateSet)) (facts : List ℕ) (roles : 
   }
 
   pub walked_forward : (d : Directed) (first : Individual) (start : State) (r : List StateSet) → IsForward transitions d
-      → Found (Move d.direction loops d.transitions facts roles) first start r → Walked loops transitions facts first start r
+      → Found (Move d.direction loops d.transitions.now facts roles) first start r → Walked loops transitions facts first start r
   walked_forward d first start r f w = found_walked first start r (rw (f.direction, f.same) at w)
 
   -- what the walk from an individual reaches is ahead of it
   pub ahead_of : (d : Directed) (first : Individual) (start : State) (r : List StateSet) → IsForward transitions d
       → Walked loops transitions facts first start r
-      → AreAhead (Move d.direction loops d.transitions facts roles) first.0 start.0 r
+      → AreAhead (Move d.direction loops d.transitions.now facts roles) first.0 start.0 r
   ahead_of d first start r f w =
       rw (f.direction, f.same)
       (record {

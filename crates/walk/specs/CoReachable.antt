@@ -57,22 +57,24 @@ pub record IsLive (finals : ℕ) (rows : List ConceptSet) (c t : ℕ) : Type 0 w
   pub low : t < most_states
   pub goes : Goes finals rows t c
 
+-- the set has each final state, and of the states below n each from which the rows lead on
+pub record AreAlive (finals : ℕ) (rows : List ConceptSet) (n set : ℕ) : Type 0 where
+  pub final : (t : ℕ) → Has finals t → Has set t
+  pub onward : (t c : ℕ) → t < n → Has (concepts_at rows t) c → Has set t
+
 -- there is a mark from s to t, and the way leads on in t
 pub record Along (sheet : List ConceptSet) (finals : ℕ) (rows : List ConceptSet) (s t B : ℕ) : Type 0
   where
     pub marked : Marked sheet s t B
     pub goes : Goes finals rows t B
 
--- to one of the first n states
-pub record ByMark (sheet : List ConceptSet) (finals : ℕ) (rows : List ConceptSet)
-    (s n B : ℕ) : Type 0 where
-  pub to : ℕ
-  pub below : to < n
-  pub along : Along sheet finals rows s to B
+-- to a state of D
+abbrev pub ByMark : List ConceptSet → ℕ → List ConceptSet → ℕ → (ℕ → Type 0) → ℕ → Type 0
+ByMark sheet finals rows s D B = Witness D (λ t. Along sheet finals rows s t B)
 
 -- to any state
 abbrev pub ByMarks : PathsBelow → List ConceptSet → ℕ → ℕ → Type 0
-ByMarks paths rows s = ByMark paths.sheet.now paths.finals.0 rows s most_states
+ByMarks paths rows s = ByMark paths.sheet.now paths.finals.0 rows s (λ t. t < most_states)
 
 -- B has a child by R, from which the way leads on in t, where the transitions of R lead from s
 pub record StepBy (paths : PathsBelow) (rows : List ConceptSet) (R s B : ℕ) : Type 0 where

@@ -7,8 +7,8 @@ use Rattle.walk.specs.Transposed.{AreTransposed}
 
 pub record IsForward (transitions : List (List StateSet)) (d : Directed) : Type 0 where
   pub direction : d.direction ≡ Forward
-  pub same : d.transitions ≡ transitions
+  pub same : d.transitions.now ≡ transitions
 
 pub record IsBackward (transitions : List (List StateSet)) (d : Directed) : Type 0 where
   pub direction : d.direction ≡ Backward
-  pub transposed : AreTransposed transitions d.transitions
+  pub transposed : AreTransposed transitions d.transitions.now

@@ -40,6 +40,11 @@ FromLeft sheet shared n B s t =
     Witness (λ q. q < n)
     (λ q. IsLeft sheet shared q B × (s ≡ q / most_states) × (t ≡ q % most_states))
 
+-- no concept relates anything
+pub record GivesNone (by : ByConcept) : Type 0 where
+  pub rows : by.rows ≡ replicate concept_width (replicate most_states no_states)
+  pub useful : by.useful.0 ≡ 0
+
 -- B relates s to t where the pair is left at it, and is then among the useful concepts
 pub record AreByConcept (sheet : List ConceptSet) (shared : List StateSet) (by : ByConcept) : Type 0
   where

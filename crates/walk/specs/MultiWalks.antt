@@ -235,7 +235,12 @@ pub record Begun (firsts : List Individual) (start count n : ℕ) (w : MultiWalk
   pub sound : (k y u : ℕ) → Marked w.words k y u → (k < n) × StartsAt firsts start k k y u
   pub behind : (k y u : ℕ) → Marked w.words k y u → Has (states_at w.behind y) u
 
--- each row that strides are lent has a set for each state
+-- a row has a set for each state, and leads to states alone
+pub record IsRow (row : List StateSet) : Type 0 where
+  pub long : length row ≡ most_states
+  pub small : (t : ℕ) → states_at row t < 2 ^ most_states
+
+-- so it is of each row that strides are lent
 pub record AreRows (s : Strides) : Type 0 where
-  pub loops : (a : ℕ) → a < most_individuals → length (relation_at s.loops.now.rows a) ≡ most_states
-  pub transitions : (r : ℕ) → r < 2 * most_roles → length (relation_at s.transitions.now r) ≡ most_states
+  pub loops : (a : ℕ) → a < most_individuals → IsRow (relation_at s.loops.now.rows a)
+  pub transitions : (r : ℕ) → r < 2 * most_roles → IsRow (relation_at s.transitions.now r)

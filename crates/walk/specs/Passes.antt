@@ -20,7 +20,7 @@ use Rattle.walk.specs.Known.{most_kept, place_in, IsKnown, kept_at}
 abbrev pub group : ℕ
 group = 15
 
--- the facts, the roles whose edges are listed, and the strides that a walk goes by
+-- what a walk goes by: the role facts, the roles by which their edges are listed, and the strides
 abbrev pub facts_of : Guide → List ℕ
 facts_of g = g.strides.edges.now.facts.numbers.now
 
@@ -29,12 +29,12 @@ roles_of g = g.strides.edges.now.roles.0
 
 abbrev pub MoveOf : Guide → ℕ → ℕ → ℕ → ℕ → Type 0
 MoveOf g =
-    Move g.directed.now.direction g.strides.loops.now.rows g.directed.now.transitions (facts_of g)
+    Move g.directed.now.direction g.strides.loops.now.rows g.directed.now.transitions.now (facts_of g)
     (roles_of g)
 
 -- from s to t by the transitions of a role
 abbrev pub LedByRole : Guide → ℕ → ℕ → ℕ → Type 0
-LedByRole g R = Relates (relation_at g.directed.now.transitions R)
+LedByRole g R = Relates (relation_at g.directed.now.transitions.now R)
 
 -- the sets as numbers, together: they grow
 abbrev pub total : List StateSet → ℕ
@@ -159,7 +159,7 @@ Passes g lo hi old new =
 abbrev pub Finds : Guide → Individual → State → List StateSet → Type 0
 Finds g = Found (MoveOf g)
 
--- what a walk is lent of individuals that are known is true of the strides that it goes by
+-- what a walk takes as known of components, if anything, holds of the strides that it goes by
 abbrev pub IsLent : Guide → Type 0
 IsLent g = ForSome g.known (λ k. AreKnownBy (MoveOf g) g.state.0 k.now)
 

@@ -3,7 +3,7 @@
 use Rattle.std.specs.Prelude.{◌↔◌, List, [], ℕ, ◌<◌, slice_index, slice_index_or}
 use Rattle.kinds.specs.declared.Individual.{Individual}
 use Rattle.kinds.specs.declared.State.{State}
-use Rattle.kinds.specs.Kinds.{most_states, individual}
+use Rattle.kinds.specs.Kinds.{individual}
 use Rattle.sets.specs.Bits.{Has}
 use Rattle.sets.specs.declared.states.StateSet.{StateSet}
 use Rattle.sets.specs.Relations.{states_at}
@@ -48,5 +48,5 @@ pub record IsIn (words : List (List ℕ)) (sets : List StateSet) (n word : ℕ) 
 -- the node
 pub record AreMarked (s : Strides) (firsts : List Individual) (count : ℕ) (start : State)
     (words : List (List ℕ)) : Type 0 where
-  pub at : (k b t : ℕ) → t < most_states
+  pub at : (k b t : ℕ)
       → Marked words k b t ↔ ((k < count) × ReachesBy s (first_at firsts k) start.0 b t)

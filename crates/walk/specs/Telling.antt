@@ -5,7 +5,7 @@ use Rattle.kinds.specs.declared.State.{State}
 use Rattle.kinds.specs.declared.Ask.{Ask}
 use Rattle.kinds.specs.declared.Ask.TheVariants.{Pair, From}
 use Rattle.kinds.specs.Asks.{first_of}
-use Rattle.kinds.specs.Kinds.{most_individuals, most_states}
+use Rattle.kinds.specs.Kinds.{most_individuals}
 use Rattle.sets.specs.Bits.{Has}
 use Rattle.sets.specs.declared.states.StateSet.{StateSet}
 use Rattle.walk.specs.declared.asking.Asking.{Asking}
@@ -16,7 +16,6 @@ use Rattle.walk.specs.declared.question.Question.{Question}
 use Rattle.walk.specs.declared.strides.Strides.{Strides}
 use Rattle.walk.specs.Asks.{IsAnswer}
 use Rattle.walk.specs.Batches.{most_batch, size_of, ask_in}
-use Rattle.sets.specs.Relations.{states_at}
 use Rattle.walk.specs.Sources.{most_sources, first_at, AreMarked, InState, InOne, IsIn}
 use Rattle.walk.specs.Walks.{WalkedBy}
 
@@ -74,7 +73,7 @@ pub record Picks (g : Asking) (k : ℕ) (p : Picked) : Type 0 where
   pub place : slice_index p.places k ≡ 0
   pub own : first_at p.firsts 0 ≡ first_in g k
 
--- the places of asks stay, and so does what was picked
+-- each ask keeps its place, and each first individual that was picked stays in its place
 pub record Keeps (old new : Picked) : Type 0 where
   pub more : old.count ≤ new.count
   pub few : new.count ≤ most_sources
@@ -105,16 +104,9 @@ HitBy words q k (From first) = InOne words q.accepting.now.rows most_individuals
 pub record IsHitBy (words : List (List ℕ)) (q : Question) (ask : Ask) (word : ℕ) : Type 0 where
   pub at : (k : ℕ) → Has word k ↔ HitBy words q k ask
 
--- the states in which paths end have a place among words
-pub record IsLow (q : Question) : Type 0 where
-  pub finals : (t : ℕ) → Has q.finals.0 t → t < most_states
-  pub accepting : (b t : ℕ) → b < most_individuals → Has (states_at q.accepting.now.rows b) t
-      → t < most_states
-
 -- the marks are those of the firsts that were picked
 pub record AreMarksOf (g : Asking) (m : Marks) : Type 0 where
   pub few : m.picked.now.count ≤ most_sources
-  pub low : IsLow g.question
   pub marked : AreMarked g.strides m.picked.now.firsts m.picked.now.count g.question.start
       m.walk.now.words
   pub out : IsIn m.walk.now.words g.question.accepting.now.rows most_individuals m.out

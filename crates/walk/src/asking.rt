@@ -11,7 +11,7 @@ use crate::strides::Strides;
 #[derive(Clone, Copy)]
 pub struct Asking<'q, 's, 'a> {
     pub strides: Strides<'s, 'a>,
-    pub forward: &'q Directed,
+    pub forward: &'q Directed<'q>,
     pub question: Question<'q>,
     pub batch: Batch<'q>,
     ghost goes_forward: { IsForward strides.transitions.now forward.now },

@@ -11,7 +11,7 @@ ghost use Rattle.walk.specs.Batches.{most_batch, size_of, ask_in};
 ghost use Rattle.walk.specs.Sources.{most_sources, AreMarked, IsIn};
 ghost use Rattle.walk.specs.Telling.{Tells, Answering, IsComponent, OfMember, OfMembers};
 ghost use Rattle.walk.specs.Telling.{Picks, IsPicked, OfPicked, AreMarksOf};
-ghost use Rattle.walk.specs.Telling.{IsAtSecond, IsHitBy, IsLow};
+ghost use Rattle.walk.specs.Telling.{IsAtSecond, IsHitBy};
 
 use crate::Sets;
 use crate::asking::Asking;
@@ -22,11 +22,8 @@ use crate::hints::{FEW, Find, Search, graph, is_on_cycle, levels};
 use crate::known::Known;
 use crate::multi::{Firsts, Levels, MultiWalk, SOURCES, Sources, at};
 use crate::question::Question;
-use kinds::{Ask, Individual, State};
+use kinds::{Ask, Individual, SignedRole, State};
 use sets::StateSet;
-
-// The number after that of the set of all states that a collection may declare.
-const LOW_END: u32 = 1 << State::NUMBERS;
 
 /// A place among first individuals that walk together, of which there are 128.
 pub type Place = u8;
@@ -153,7 +150,8 @@ fn answer_components(answers: &mut Answers, asking: &Asking)
     requires { Answering asking.now 0 answers.old }
     ensures { Answering asking.now 0 answers.new }
 {
-    let against = Directed::backward(asking.strides.transitions);
+    let mut transposed = [[StateSet::EMPTY; State::NUMBERS]; SignedRole::NUMBERS];
+    let against = Directed::backward(asking.strides.transitions, &mut transposed);
     let mut known = Known::new();
     let mut search = Search::new();
     for k in 0..asking.batch.len() {
@@ -183,7 +181,7 @@ impl Picked {
         }
     }
 
-    // A place in which the individual may have been picked; whether it was is tested where asks are told.
+    // The place in which the individual was picked, if it was: else it is some place, with another individual or none (`has_at`).
     fn place_of(&self, first: Individual) -> Place {
         if first.0 >= Individual::MOST {
             return SOURCES as Place;
@@ -303,7 +301,6 @@ fn tell_picked(answers: &mut Answers, asking: &Asking, marks: &Marks, j: usize)
 // The answers to the asks whose firsts were picked, and have walked.
 fn tell_all_picked(answers: &mut Answers, asking: &Asking, picked: &Picked, walk: &MultiWalk)
     requires few { picked.now.count ≤ most_sources }
-    requires low { IsLow asking.now.question }
     requires marked { AreMarked asking.now.strides picked.now.firsts picked.now.count
         asking.now.question.start walk.now.words }
     ensures { Tells asking.now
@@ -323,8 +320,7 @@ fn tell_all_picked(answers: &mut Answers, asking: &Asking, picked: &Picked, walk
 // while these walks are made, and at no other time.
 #[inline(never)]
 fn answer_together(answers: &mut Answers, asking: &Asking, levels: &Levels, k: usize)
-    requires low { IsLow asking.now.question }
-    requires before { Answering asking.now k answers.old }
+    requires { Answering asking.now k answers.old }
     ensures { Answering asking.now (k + 1) answers.new }
 {
     let Some(ask) = asking.batch.get(k) else {
@@ -341,8 +337,7 @@ fn answer_together(answers: &mut Answers, asking: &Asking, levels: &Levels, k: u
 
 // Every ask, by walks of many firsts at once.
 fn answer_many(answers: &mut Answers, asking: &Asking, levels: &Levels)
-    requires low { IsLow asking.now.question }
-    requires before { Answering asking.now 0 answers.old }
+    requires { Answering asking.now 0 answers.old }
     ensures { Answering asking.now (size_of asking.now.batch) answers.new }
 {
     for k in 0..asking.batch.len() {
@@ -350,23 +345,12 @@ fn answer_many(answers: &mut Answers, asking: &Asking, levels: &Levels)
     }
 }
 
-// Whether paths end in states alone that have a word in a multi-walk. They do where the tables of a question were made as they are meant.
-fn is_low(question: &Question) -> bool
-    ensures { IsTrue result → IsLow question.now }
-{
-    let mut ends = question.finals;
-    for a in 0..Individual::NUMBERS {
-        ends = ends.union(question.accepting.rows[a]);
-    }
-    ends.0 < LOW_END
-}
-
 // Every ask that components leave open.
 fn answer_rest(answers: &mut Answers, asking: &Asking, levels: &Levels)
     requires { Answering asking.now 0 answers.old }
     ensures { Answering asking.now (size_of asking.now.batch) answers.new }
 {
-    if open_count(answers, &asking.batch) < FEW || !is_low(&asking.question) {
+    if open_count(answers, &asking.batch) < FEW {
         answer_each(answers, asking);
         return;
     }

@@ -4,7 +4,7 @@ ghost use Rattle.std.specs.Prelude.{◌≡◌, ◌≢◌, ◌↔◌, ◌+◌, �
 ghost use Rattle.kinds.specs.Kinds.{most_states, base, flip};
 ghost use Rattle.sets.specs.Bits.{Has, IsSetOf, concept_width, role_width};
 ghost use Rattle.sets.specs.Relations.{concepts_at, relation_at, Relates};
-ghost use Rattle.walk.specs.CoReachable.{Goes, IsLive, Along, ByMarks, PutAt, PutEach, StepBy, Further, Adds, AreCoReachable};
+ghost use Rattle.walk.specs.CoReachable.{Goes, IsLive, AreAlive, Along, ByMarks, PutAt, PutEach, StepBy, Further, Adds, AreCoReachable};
 ghost use Rattle.walk.specs.Covers.{Covers};
 
 use crate::question::final_states;
@@ -66,13 +66,25 @@ fn goes(paths: &PathsBelow, now: &CoReachable, t: usize, back: SignedRole) -> bo
     paths.finals.contains(State(t as u16)) || has_child(now[t], back)
 }
 
-// The states in which it does.
-fn live_to(paths: &PathsBelow, now: &CoReachable, back: SignedRole) -> StateSet
+// All states in which the way leads on at once, or by some concept.
+fn alive(paths: &PathsBelow, now: &CoReachable) -> StateSet
+    ensures { AreAlive paths.now.finals.0 now.now most_states result.0 }
+{
+    let mut out = paths.finals;
+    for t in 0..State::NUMBERS {
+        out.insert_if(State(t as u16), !now[t].is_empty());
+    }
+    out
+}
+
+// Of these, the states in which it leads on from such a child.
+fn live_to(paths: &PathsBelow, now: &CoReachable, alive: StateSet, back: SignedRole) -> StateSet
+    requires { AreAlive paths.now.finals.0 now.now most_states alive.0 }
     ensures { IsSetOf (IsLive paths.now.finals.0 now.now (base + back.0)) result.0 }
 {
     let mut out = StateSet::EMPTY;
-    for t in 0..State::NUMBERS {
-        out.insert_if(State(t as u16), goes(paths, now, t, back));
+    for t in alive.iter() {
+        out.insert_if(t, goes(paths, now, t.0 as usize, back));
     }
     out
 }
@@ -91,24 +103,26 @@ fn along(paths: &PathsBelow, now: &CoReachable, s: usize, t: usize) -> ConceptSe
 }
 
 // The concepts with a mark from s to some state, from which the way leads on there.
-fn by_marks(paths: &PathsBelow, now: &CoReachable, s: usize) -> ConceptSet
-    requires { s < most_states }
+fn by_marks(paths: &PathsBelow, now: &CoReachable, alive: StateSet, s: usize) -> ConceptSet
+    requires from { s < most_states }
+    requires alive { AreAlive paths.now.finals.0 now.now most_states alive.0 }
     ensures { IsSetOf (ByMarks paths.now now.now s) result.0 }
 {
     let mut out = ConceptSet::EMPTY;
-    for t in 0..State::NUMBERS {
-        out = out.union(along(paths, now, s, t));
+    for t in alive.iter() {
+        out = out.union(along(paths, now, s, t.0 as usize));
     }
     out
 }
 
 // What one mark adds to each set.
-fn with_marks(paths: &PathsBelow, now: &CoReachable) -> CoReachable
+fn with_marks(paths: &PathsBelow, now: &CoReachable, alive: StateSet) -> CoReachable
+    requires { AreAlive paths.now.finals.0 now.now most_states alive.0 }
     ensures { Adds (ByMarks paths.now now.now) now.now result }
 {
     let mut next = *now;
     for s in 0..State::NUMBERS {
-        next[s] = next[s].union(by_marks(paths, now, s));
+        next[s] = next[s].union(by_marks(paths, now, alive, s));
     }
     next
 }
@@ -135,12 +149,19 @@ fn put_each(next: &mut CoReachable, states: StateSet, concepts: ConceptSet)
 
 // What one step down by a signed role adds: the concepts that have such a child, in each state from which the role leads to one in which the
 // way leads on from the child.
-fn put_steps(paths: &PathsBelow, now: &CoReachable, next: &mut CoReachable, role: SignedRole)
-    requires { role.0 < role_width }
+fn put_steps(
+    paths: &PathsBelow,
+    now: &CoReachable,
+    alive: StateSet,
+    next: &mut CoReachable,
+    role: SignedRole,
+)
+    requires role { role.0 < role_width }
+    requires alive { AreAlive paths.now.finals.0 now.now most_states alive.0 }
     ensures { Adds (StepBy paths.now now.now role.0) next.old next.new }
 {
     let r = role.0 as usize;
-    let live = live_to(paths, now, role.inverse());
+    let live = live_to(paths, now, alive, role.inverse());
     let states = preimage(&paths.transitions[r], live);
     put_each(next, states, paths.below[Concept::BASE as usize + r]);
 }
@@ -150,9 +171,10 @@ fn further(paths: &PathsBelow, roles: RoleSet, now: &CoReachable) -> CoReachable
     requires { Covers paths.now.transitions.now roles.0 }
     ensures { Adds (Further paths.now now.now) now.now result }
 {
-    let mut next = with_marks(paths, now);
+    let alive = alive(paths, now);
+    let mut next = with_marks(paths, now, alive);
     for role in roles.iter() {
-        put_steps(paths, now, &mut next, role);
+        put_steps(paths, now, alive, &mut next, role);
     }
     next
 }

@@ -1,5 +1,5 @@
-// Transitions in the direction of a walk. A walk backward goes by those of the inverse roles, transposed once, so that walks follow edges in
-// both directions alike.
+// The transitions that a walk goes by, forward or backward. Backward, each signed role has the transitions of its inverse, transposed: so a walk
+// follows the edges of an individual alike in both directions.
 
 ghost use Rattle.std.specs.Prelude.{◌≡◌, ◌<◌, ℕ, true};
 ghost use Rattle.kinds.specs.Kinds.{flip};
@@ -8,16 +8,16 @@ ghost use Rattle.sets.specs.Relations.{Relates};
 ghost use Rattle.walk.specs.Transposed.{EndsWithin, AreEnds, IsTransposed, AreTransposed};
 
 use crate::direction::Direction;
-use kinds::{SignedRole, State};
-use sets::{Relation, StateSet, Transitions, preimage};
+use kinds::SignedRole;
+use sets::{Relation, StateSet, Transitions, nowhere, preimage};
 
-/// What a walk in one direction goes by: for each signed role its transitions in that direction, and all states to which these lead at all.
+/// For each signed role its transitions in one direction, and the set of all states to which they lead.
 #[derive(Clone, Copy)]
-pub struct Directed {
+pub struct Directed<'d> {
     pub direction: Direction,
-    pub transitions: Transitions,
+    pub transitions: &'d Transitions,
     pub ends: [StateSet; SignedRole::NUMBERS],
-    ghost covers: { AreEnds transitions ends },
+    ghost covers: { AreEnds transitions.now ends },
 }
 
 /// All states to which a relation leads.
@@ -46,9 +46,10 @@ fn ends_of_each(transitions: &Transitions) -> [StateSet; SignedRole::NUMBERS]
 fn transpose(relation: &Relation) -> Relation
     ensures { IsTransposed relation.now result }
 {
-    let mut out = [StateSet::EMPTY; State::NUMBERS];
-    for t in 0..State::NUMBERS {
-        out[t] = preimage(relation, StateSet::only(State(t as u16)));
+    let mut out = nowhere();
+    let ends = ends_of(relation);
+    for t in ends.iter() {
+        out[t.0 as usize] = preimage(relation, StateSet::only(t));
     }
     out
 }
@@ -63,7 +64,7 @@ fn inverse(role: usize) -> usize
     SignedRole(role as u16).inverse().0 as usize
 }
 
-// For each role the transitions of its inverse, transposed. They are made where they stand: as a result they would be copied, on the stack.
+// For each role the transitions of its inverse, transposed.
 fn transpose_all(out: &mut Transitions, transitions: &Transitions)
     ensures { AreTransposed transitions.now out.new }
 {
@@ -72,15 +73,14 @@ fn transpose_all(out: &mut Transitions, transitions: &Transitions)
     }
 }
 
-impl Directed {
+impl<'d> Directed<'d> {
     ghost use Rattle.walk.specs.Guides.{IsForward, IsBackward};
 
     /// Forward, by the transitions as they are.
-    pub(crate) fn forward(transitions: &Transitions) -> Directed
+    pub(crate) fn forward(transitions: &'d Transitions) -> Directed<'d>
         ensures { IsForward transitions.now result }
     {
         let ends = ends_of_each(transitions);
-        let transitions = *transitions;
         Directed {
             direction: Direction::Forward,
             transitions,
@@ -88,13 +88,15 @@ impl Directed {
         }
     }
 
-    /// Backward, by the transposed ones.
-    pub(crate) fn backward(transitions: &Transitions) -> Directed
+    /// Backward, by the transposed ones, which stand where they are lent a place.
+    pub(crate) fn backward(
+        transitions: &Transitions,
+        transposed: &'d mut Transitions,
+    ) -> Directed<'d>
         ensures { IsBackward transitions.now result }
     {
-        let mut transposed = [[StateSet::EMPTY; State::NUMBERS]; SignedRole::NUMBERS];
-        transpose_all(&mut transposed, transitions);
-        let ends = ends_of_each(&transposed);
+        transpose_all(transposed, transitions);
+        let ends = ends_of_each(transposed);
         Directed {
             direction: Direction::Backward,
             transitions: transposed,
@@ -105,7 +107,7 @@ impl Directed {
     /// Whether the states are all to which a role leads, so that a walk adds none to them by it.
     pub(crate) fn ends_within(&self, role: SignedRole, states: StateSet) -> bool
         requires { role.0 < role_width }
-        ensures { result ≡ true → EndsWithin self.now.transitions role.0 states.0 }
+        ensures { result ≡ true → EndsWithin self.now.transitions.now role.0 states.0 }
     {
         self.ends[role.0 as usize].minus(states).is_empty()
     }

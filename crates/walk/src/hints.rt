@@ -7,7 +7,7 @@ use crate::loops::Loops;
 use crate::multi::Levels;
 use crate::strides::Strides;
 use kinds::State;
-use sets::{Relation, StateSet, Transitions};
+use sets::{Relation, RoleSet, StateSet, Transitions, nowhere};
 
 /// With fewer open asks than this each first individual is walked from alone.
 pub const FEW: usize = 24;
@@ -49,10 +49,10 @@ fn join_onward(graph: &mut Relation, row: &Relation) {
     }
 }
 
-// Adds where the edges by some role lead from each state.
-fn by_edges(graph: &mut Relation, transitions: &Transitions) {
-    for row in transitions.iter() {
-        join_row(graph, row);
+// Adds where the edges by some of the roles lead from each state.
+fn by_edges(graph: &mut Relation, transitions: &Transitions, roles: RoleSet) {
+    for role in roles.iter() {
+        join_row(graph, &transitions[role.0 as usize]);
     }
 }
 
@@ -68,6 +68,9 @@ fn through(graph: &mut Relation, k: usize)
     requires { k < most_states }
 {
     let onward = graph[k];
+    if onward.is_empty() {
+        return;
+    }
     for set in graph.iter_mut() {
         if set.contains(State(k as u16)) {
             *set = set.union(onward);
@@ -82,10 +85,10 @@ fn close(graph: &mut Relation) {
     }
 }
 
-/// Whether transitions lead from some state back to it.
-pub(crate) fn lead_in_circle(transitions: &Transitions) -> bool {
-    let mut graph = [StateSet::EMPTY; State::NUMBERS];
-    by_edges(&mut graph, transitions);
+/// Whether transitions lead from some state back to it, by the roles that lead anywhere.
+pub(crate) fn lead_in_circle(transitions: &Transitions, leading: RoleSet) -> bool {
+    let mut graph = nowhere();
+    by_edges(&mut graph, transitions, leading);
     close(&mut graph);
     for s in 0..State::MOST {
         if is_on_cycle(&graph, State(s)) {
@@ -97,8 +100,8 @@ pub(crate) fn lead_in_circle(transitions: &Transitions) -> bool {
 
 /// Where paths lead from each state, by edges and by the loops of any individual.
 pub(crate) fn graph(strides: &Strides) -> Relation {
-    let mut graph = [StateSet::EMPTY; State::NUMBERS];
-    by_edges(&mut graph, strides.transitions);
+    let mut graph = nowhere();
+    by_edges(&mut graph, strides.transitions, strides.edges.roles);
     by_loops(&mut graph, strides.loops);
     close(&mut graph);
     graph
@@ -127,13 +130,11 @@ fn place(levels: &mut Levels, next: &mut usize, class: StateSet) {
     }
 }
 
-// The classes of the states that lead to so many states, themselves among them.
-fn place_classes(levels: &mut Levels, next: &mut usize, graph: &Relation, reached: u32) {
+// The classes of the states of a set.
+fn place_classes(levels: &mut Levels, next: &mut usize, graph: &Relation, states: StateSet) {
     let mut placed = StateSet::EMPTY;
-    for (s, set) in graph.iter().enumerate() {
-        let state = State(s as u16);
-        let all = set.union(StateSet::only(state));
-        if all.len() == reached && !placed.contains(state) {
+    for state in states.iter() {
+        if !placed.contains(state) {
             let class = class_of(graph, state);
             placed = placed.union(class);
             place(levels, next, class);
@@ -141,13 +142,24 @@ fn place_classes(levels: &mut Levels, next: &mut usize, graph: &Relation, reache
     }
 }
 
+// For each number of states those that lead to so many, themselves among them. Those that lead nowhere are left out.
+fn by_reach(graph: &Relation) -> [StateSet; State::NUMBERS + 1] {
+    let mut by = [StateSet::EMPTY; State::NUMBERS + 1];
+    for (s, set) in graph.iter().enumerate() {
+        let state = State(s as u16);
+        let all = set.union(StateSet::only(state));
+        by[all.len() as usize].insert_if(state, !set.is_empty());
+    }
+    by
+}
+
 /// The classes of states that lead to each other, each before those to which it leads, since it leads to more states than they do.
 pub(crate) fn levels(graph: &Relation) -> Levels {
+    let by = by_reach(graph);
     let mut levels = [StateSet::EMPTY; State::NUMBERS];
     let mut next = 0;
-    for fewer in 0..State::MOST {
-        let reached = State::MOST as u32 - fewer as u32;
-        place_classes(&mut levels, &mut next, graph, reached);
+    for fewer in 0..State::NUMBERS {
+        place_classes(&mut levels, &mut next, graph, by[State::NUMBERS - fewer]);
     }
     levels
 }

@@ -1,11 +1,11 @@
 // The loops of each individual, made from its concepts and the closed sheet. Most individuals share many concepts: the loops by these are made
 // once, and for each concept those that it gives besides. An individual's loops are what all share, joined with what its own concepts give.
 
-ghost use Rattle.std.specs.Prelude.{◌*◌, ◌<◌};
+ghost use Rattle.std.specs.Prelude.{◌*◌, ◌/◌, ◌%◌, ◌<◌};
 ghost use Rattle.kinds.specs.Kinds.{most_states};
-ghost use Rattle.sets.specs.Bits.{Has, IsEmpty, IsSetOf};
+ghost use Rattle.sets.specs.Bits.{Has, IsEmpty, IsSetOf, IsUnion};
 ghost use Rattle.walk.specs.Loops.{LoopTo, IsLoopRow, AreLoops};
-ghost use Rattle.walk.specs.LoopParts.{Within, AreShared, IsLeft, AreRelations, Puts, AreByConcept, Joined, Gives, IsRowOf};
+ghost use Rattle.walk.specs.LoopParts.{Within, AreShared, IsLeft, AreRelations, Puts, GivesNone, AreByConcept, Joined, Gives, IsRowOf};
 
 use kinds::{Concept, Individual, State};
 use sets::{ConceptSet, Relation, Sheet, StateSet};
@@ -96,19 +96,38 @@ fn put(rows: &mut [Relation; Concept::NUMBERS], concepts: ConceptSet, s: usize, 
     }
 }
 
-// The loops by each concept, of the pairs that are left.
-fn by_concept(sheet: &Sheet, shared: &Relation) -> ByConcept
-    ensures { AreByConcept sheet.now shared.now result }
+impl ByConcept {
+    const NONE: ByConcept = ByConcept {
+        rows: [[StateSet::EMPTY; State::NUMBERS]; Concept::NUMBERS],
+        useful: ConceptSet::EMPTY,
+    };
+}
+
+// Each of the concepts that are left at pair q gives a loop there. At most pairs there is none.
+fn put_pair(by_concept: &mut ByConcept, left: ConceptSet, q: usize)
+    requires pair { q < most_states * most_states }
+    requires ready { AreRelations by_concept.old.rows }
+    ensures ready { AreRelations by_concept.new.rows }
+    ensures put { Puts (Has left.0) (q / most_states) (q % most_states)
+        by_concept.old.rows by_concept.new.rows }
+    ensures useful { IsUnion by_concept.old.useful.0 left.0 by_concept.new.useful.0 }
 {
-    let mut rows = [[StateSet::EMPTY; State::NUMBERS]; Concept::NUMBERS];
-    let mut useful = ConceptSet::EMPTY;
-    for q in 0..State::PAIRS {
-        let left = left_at(sheet, shared, q);
-        let to = State((q % State::NUMBERS) as u16);
-        useful = useful.union(left);
-        put(&mut rows, left, q / State::NUMBERS, to);
+    if left.is_empty() {
+        return;
     }
-    ByConcept { rows, useful }
+    let to = State((q % State::NUMBERS) as u16);
+    by_concept.useful = by_concept.useful.union(left);
+    put(&mut by_concept.rows, left, q / State::NUMBERS, to);
+}
+
+// The loops by each concept, of the pairs that are left, where no concept gave any.
+fn put_pairs(by_concept: &mut ByConcept, sheet: &Sheet, shared: &Relation)
+    requires { GivesNone by_concept.old }
+    ensures { AreByConcept sheet.now shared.now by_concept.new }
+{
+    for q in 0..State::PAIRS {
+        put_pair(by_concept, left_at(sheet, shared, q), q);
+    }
 }
 
 // The pairs of another relation are added.
@@ -152,7 +171,8 @@ impl Loops {
         ensures { AreLoops individuals.now sheet.now self.new.rows }
     {
         let shared = loops_by(sheet, shared_concepts(individuals));
-        let by_concept = by_concept(sheet, &shared);
+        let mut by_concept = ByConcept::NONE;
+        put_pairs(&mut by_concept, sheet, &shared);
         for a in 0..Individual::NUMBERS {
             self.rows[a] = loops_of(&shared, &by_concept, individuals[a]);
         }

@@ -1,11 +1,11 @@
 // The walks of up to 128 first individuals at once: for each node, which is an individual in a state, a word says which of the firsts reach it.
 
-ghost use Rattle.std.specs.Prelude.{◌≡◌, ◌<◌, ◌≤◌, ℕ, length, slice_index};
+ghost use Rattle.std.specs.Prelude.{◌≡◌, ◌<◌, ◌≤◌, ◌^◌, ℕ, length, slice_index};
 ghost use Rattle.kinds.specs.Kinds.{most_individuals, most_states};
 ghost use Rattle.sets.specs.Bits.{state_width, Has, Inserts};
 ghost use Rattle.sets.specs.Relations.{states_at};
 ghost use Rattle.walk.specs.Sources.{most_sources, IsAt};
-ghost use Rattle.walk.specs.MultiWalks.{Fills, CatchesUp, AreRows};
+ghost use Rattle.walk.specs.MultiWalks.{Fills, CatchesUp, IsRow, AreRows};
 
 use crate::Sets;
 use crate::asking::Asking;
@@ -122,20 +122,29 @@ fn catch_up(behind: &mut Sets, b: usize, t: State, caught_up: bool)
     behind[b] = behind[b].minus(StateSet::only(t));
 }
 
-// A row has a set for each state, as its type says. Nothing is done.
-fn row_is_long(row: &Relation)
-    ensures { length row.now ≡ most_states }
+// No set has a member past the last state, as its type says. Nothing is done.
+fn is_set(set: StateSet)
+    ensures { set.0 < 2 ^ most_states }
 {}
 
-// So do all rows that strides are lent. Nothing is done.
-fn rows_are_long(strides: &Strides)
+// A row has a set for each state. Nothing is done.
+fn is_row(row: &Relation)
+    ensures { IsRow row.now }
+{
+    for s in 0..State::NUMBERS {
+        is_set(row[s]);
+    }
+}
+
+// So it is of all rows that strides are lent. Nothing is done.
+fn are_rows(strides: &Strides)
     ensures { AreRows strides.now }
 {
     for a in 0..Individual::NUMBERS {
-        row_is_long(&strides.loops.rows[a]);
+        is_row(&strides.loops.rows[a]);
     }
     for r in 0..SignedRole::NUMBERS {
-        row_is_long(&strides.transitions[r]);
+        is_row(&strides.transitions[r]);
     }
 }
 
@@ -412,7 +421,8 @@ impl MultiWalk {
     fn leading_to(&self, strides: &Strides, hub: Hub) -> Sources
         ensures { LeadThere strides.now hub.individual.0 hub.state.0 self.now.words result }
     {
-        let against = Directed::backward(strides.transitions);
+        let mut transposed = [[StateSet::EMPTY; State::NUMBERS]; SignedRole::NUMBERS];
+        let against = Directed::backward(strides.transitions, &mut transposed);
         let behind = backward(strides, &against, hub.individual, hub.state);
         self.marked_in(&behind)
     }
@@ -523,7 +533,7 @@ impl MultiWalk {
         ensures { AreMarked asking.now.strides firsts.now count asking.now.question.start
             self.new.words }
     {
-        rows_are_long(&asking.strides);
+        are_rows(&asking.strides);
         self.begin(firsts, count, asking.question.start);
         self.exhaust_all(asking, levels);
     }

@@ -50,7 +50,7 @@ pub fn roles_of(transitions: &Transitions) -> RoleSet
     ensures { Covers transitions.now result.0 }
 {
     let leading = leading_roles(transitions);
-    if !lead_in_circle(transitions) {
+    if !lead_in_circle(transitions, leading) {
         return leading;
     }
     with_inverses(leading)

@@ -31,7 +31,7 @@ const EVERY_STATE: StateSet = StateSet(u32::MAX);
 #[derive(Clone, Copy)]
 pub struct Guide<'d, 's, 'a> {
     pub strides: Strides<'s, 'a>,
-    pub directed: &'d Directed,
+    pub directed: &'d Directed<'d>,
     pub known: Option<&'d Known>,
     pub state: State,
 }
@@ -69,15 +69,15 @@ fn follow(
     requires role { edge.role.0 < role_width }
     requires to { edge.to.0 < most_individuals }
     requires ready { Ready reached.old }
-    requires made { AreImages guide.now.directed.now.transitions m.0 images.old }
+    requires made { AreImages guide.now.directed.now.transitions.now m.0 images.old }
     ensures grows { Grows (ByEdge guide.now edge m.0) reached.old reached.new result }
-    ensures made { AreImages guide.now.directed.now.transitions m.0 images.new }
+    ensures made { AreImages guide.now.directed.now.transitions.now m.0 images.new }
 {
     let b = edge.to.0 as usize;
     if guide.directed.ends_within(edge.role, reached[b]) {
         return false;
     }
-    let next = images.by(&guide.directed.transitions, edge.role, m);
+    let next = images.by(guide.directed.transitions, edge.role, m);
     join(reached, b, next)
 }
 

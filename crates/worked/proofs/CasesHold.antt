@@ -1,6 +1,6 @@
--- The cases worked on paper hold: one test that the checker computes over the whole table, and what it means.
-use Rattle.std.specs.Prelude.{◌≡◌, refl, Bool, true, false, List, [], ◌∷◌, map, ℕ, zero, suc, ◌+◌, ◌<◌, T, eqb, length, slice_index}
-use Rattle.std.proofs.Common.{arith}
+-- The cases worked on paper hold: a test that the checker computes over the whole table, and what it means.
+use Rattle.std.specs.Prelude.{◌≡◌, refl, Bool, true, false, List, [], ◌∷◌, map, ℕ, zero, suc, ◌+◌, ◌<◌, ◌≤◌, ◌⊎◌, T, eqb, leb, length, slice_index}
+use Rattle.std.proofs.Common.{arith, inl, inr, leb→le}
 use Rattle.std.proofs.Math.Path.{sym}
 use Rattle.std.proofs.Math.Dec.{eqb→eq}
 use Rattle.kinds.specs.declared.Answer.{Answer}
@@ -8,7 +8,7 @@ use Rattle.kinds.specs.declared.Answer.TheVariants.{No, Yes, Contradiction, Allo
 use Rattle.kinds.specs.Kinds.{inverse, number_of, concept_of}
 use Rattle.kinds.specs.Answer.{answer_number, answer_count}
 use Rattle.laws.specs.Member.{◌∈◌, map-in, map-out}
-use Rattle.laws.specs.Search.{and, and_left, and_right, any, every, every-out}
+use Rattle.laws.specs.Search.{and, and_left, and_right, or, or_case, any, every, every-out}
 use Rattle.laws.specs.Same.{both}
 use Rattle.laws.specs.Truth.{test-and, test-out}
 use Rattle.laws.specs.Pairs.{pairs}
@@ -105,10 +105,41 @@ computed k = sound_answer (given k) k.ask k.allowance
 unfoldable holds : Case → Bool
 holds k = let b = answer_ok (given k) (computed k) k.number k.count k.marks k.added in and (sound_ok k) b
 
--- every row passes
-table-computes : every cases holds ≡ true
-unfolding every cases holds sound_ok answer_ok adds_ok list_ok rises_from stands_at select counts_fit whole shapes_ok concepts_declared roles_declared concept_fact_declared role_fact_declared numbers_declared numbers_ok ask_ok sound_answer after_clash after_rounds records concept_of number_of inverse any upto numbered pairs memo fixpoint stays new via compose tab closing both signed_roles valid_concepts declared_states joins hangs_to hangs_from hangs round places table work after role_base role_le concept_base concept_le declared_individuals fact_types end_types is_typed typed_to individual_has joins_by fact_edge follows alive_by alive_at alive clash_at clash_under concept_clash clash_between clash_below role_clash clash marked stride walks reaches_in reaches is_final goes_on out_from leaves goes_round goes_to goes_down further nodes kept onward_work
-table-computes = refl
+-- the rows of at most 16 states, those of 17 to 31, and those of more, each in a declaration: the checker takes only so many steps for one
+unfoldable few_ok : Case → Bool
+few_ok k = or (leb 17 k.counts.states) (holds k)
+
+unfoldable more_ok : Case → Bool
+more_ok k = or (or (leb k.counts.states 16) (leb 32 k.counts.states)) (holds k)
+
+unfoldable most_ok : Case → Bool
+most_ok k = or (leb k.counts.states 31) (holds k)
+
+few-compute : every cases few_ok ≡ true
+unfolding every cases few_ok holds sound_ok answer_ok adds_ok list_ok rises_from stands_at select counts_fit whole shapes_ok concepts_declared roles_declared concept_fact_declared role_fact_declared numbers_declared numbers_ok ask_ok sound_answer after_clash after_rounds records concept_of number_of inverse any upto numbered pairs memo fixpoint stays new via compose tab closing both signed_roles valid_concepts declared_states joins hangs_to hangs_from hangs round places table work after role_base role_le concept_base concept_le declared_individuals fact_types end_types is_typed typed_to individual_has joins_by fact_edge follows alive_by alive_at alive clash_at clash_under concept_clash clash_between clash_below role_clash clash marked stride walks reaches_in reaches is_final goes_on out_from leaves goes_round goes_to goes_down further nodes kept onward_work
+few-compute = refl
+
+more-compute : every cases more_ok ≡ true
+unfolding every cases more_ok holds sound_ok answer_ok adds_ok list_ok rises_from stands_at select counts_fit whole shapes_ok concepts_declared roles_declared concept_fact_declared role_fact_declared numbers_declared numbers_ok ask_ok sound_answer after_clash after_rounds records concept_of number_of inverse any upto numbered pairs memo fixpoint stays new via compose tab closing both signed_roles valid_concepts declared_states joins hangs_to hangs_from hangs round places table work after role_base role_le concept_base concept_le declared_individuals fact_types end_types is_typed typed_to individual_has joins_by fact_edge follows alive_by alive_at alive clash_at clash_under concept_clash clash_between clash_below role_clash clash marked stride walks reaches_in reaches is_final goes_on out_from leaves goes_round goes_to goes_down further nodes kept onward_work
+more-compute = refl
+
+most-compute : every cases most_ok ≡ true
+unfolding every cases most_ok holds sound_ok answer_ok adds_ok list_ok rises_from stands_at select counts_fit whole shapes_ok concepts_declared roles_declared concept_fact_declared role_fact_declared numbers_declared numbers_ok ask_ok sound_answer after_clash after_rounds records concept_of number_of inverse any upto numbered pairs memo fixpoint stays new via compose tab closing both signed_roles valid_concepts declared_states joins hangs_to hangs_from hangs round places table work after role_base role_le concept_base concept_le declared_individuals fact_types end_types is_typed typed_to individual_has joins_by fact_edge follows alive_by alive_at alive clash_at clash_under concept_clash clash_between clash_below role_clash clash marked stride walks reaches_in reaches is_final goes_on out_from leaves goes_round goes_to goes_down further nodes kept onward_work
+most-compute = refl
+
+-- so every row passes
+row-computes : (k : Case) → k ∈ cases → T (holds k)
+unfolding few_ok more_ok most_ok
+row-computes k m =
+    let s = k.counts.states in
+    let a = or_case (leb 17 s) (holds k) (every-out cases few_ok (rw few-compute tt) m) in
+    let b = or_case (or (leb s 16) (leb 32 s)) (holds k) (every-out cases more_ok (rw more-compute tt) m) in
+    let c = or_case (leb s 31) (holds k) (every-out cases most_ok (rw most-compute tt) m) in
+    elim a [ inl x ↦ elim b [ inl y ↦ elim c [ inl z ↦ absurd (between (or_case (leb s 16) (leb 32 s) y) (leb→le 17 s x) (leb→le s 31 z)) | inr z ↦ z ] | inr y ↦ y ] | inr x ↦ x ]
+  where
+    between : T (leb k.counts.states 16) ⊎ T (leb 32 k.counts.states) → 17 ≤ k.counts.states → k.counts.states ≤ 31 → ⊥
+    between (inl y) x z = omega (arith, leb→le k.counts.states 16 y, x)
+    between (inr y) x z = omega (arith, leb→le 32 k.counts.states y, z)
 
 -- the list that is computed is that of the places that hold 1, in any area that holds the sheet
 module _ (𝓒 : Collection) (ok : WellFormed 𝓒) (n : ℕ) (x : List ℕ) (lays : Lays (Mark (lite 𝓒) n) x) where
@@ -248,4 +279,4 @@ module _ (area spare : List ℕ) (long : length area ≡ area_length) (long' : l
   -- outcome that the row says: the answer has the row's number and count, in the first area stand as many marks as the row
   -- says, and each round added as many as it says
   pub cases-hold : (k : Case) → k ∈ cases → Says area spare k
-  cases-hold k m = says k (every-out cases holds (rw table-computes tt) m)
+  cases-hold k m = says k (row-computes k m)

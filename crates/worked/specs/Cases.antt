@@ -57,6 +57,14 @@ base_rules = 0 ∷ 64 ∷ 65 ∷ 1 ∷ []
 abbrev base_steps : List ℕ
 base_steps = 0 ∷ 0 ∷ 0 ∷ 1 ∷ 1 ∷ 1 ∷ 1 ∷ 2 ∷ 0 ∷ 2 ∷ 1 ∷ 3 ∷ []
 
+-- the question of B in the last of 17 states: from 0 to 14
+abbrev last_steps : List ℕ
+last_steps = 0 ∷ 0 ∷ 0 ∷ 16 ∷ 1 ∷ 16 ∷ 1 ∷ 15 ∷ 0 ∷ 15 ∷ 1 ∷ 14 ∷ []
+
+-- the test of Owner from 31 to 16
+abbrev last_test : List ℕ
+last_test = 1 ∷ 31 ∷ 0 ∷ 16 ∷ []
+
 -- Owner(0), by no deed that is noted
 abbrev owner : List ℕ
 owner = 0 ∷ 0 ∷ 0 ∷ []
@@ -186,6 +194,25 @@ cases =
     (holding base_rules [] [] [] owner [] base_steps (2 ∷ [])) (from 0) 1 3 1 26 (2 ∷ [])
     -- 21. case 8 from 1, of whom nothing is typed: yes, by the empty path
     ∷ row (declares 2 2 2 1 0) (holding [] [] [] [] [] [] [] (0 ∷ [])) (from 1) 64 1 0 6 []
+    -- 22. B with 17 states, its question in the last of them: (0, 0) yes, (0, 1) no
+    ∷ row (declares 2 2 2 17 0)
+    (holding base_rules [] [] [] owner [] last_steps (14 ∷ []))
+    (pair 0 0) 64 1 2 106 (2 ∷ 2 ∷ [])
+    ∷ row (declares 2 2 2 17 0)
+    (holding base_rules [] [] [] owner [] last_steps (14 ∷ []))
+    (pair 0 1) 64 0 2 106 (2 ∷ 2 ∷ [])
+    -- 23. case 22 with allowance 1: number 3, count 1
+    ∷ row (declares 2 2 2 17 0)
+    (holding base_rules [] [] [] owner [] last_steps (14 ∷ []))
+    (pair 0 0) 1 3 1 104 (2 ∷ [])
+    -- 24. 32 states from 31 on, Owner(0), a test from 31 to 16: (0, 0) yes, (1, 1) no
+    ∷ row (declares 1 0 2 32 31)
+    (holding [] [] [] [] owner [] last_test (16 ∷ [])) (pair 0 0) 64 1 1 33 (1 ∷ [])
+    ∷ row (declares 1 0 2 32 31)
+    (holding [] [] [] [] owner [] last_test (16 ∷ [])) (pair 1 1) 64 0 1 33 (1 ∷ [])
+    -- 25. case 24 with allowance 0: number 3, count 0
+    ∷ row (declares 1 0 2 32 31)
+    (holding [] [] [] [] owner [] last_test (16 ∷ [])) (pair 0 0) 0 3 0 32 []
     ∷ []
 
 -- after 0, 1 and 3 each of the rounds needed or allowed added the number of marks that stands here

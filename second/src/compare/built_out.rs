@@ -6,6 +6,7 @@ use super::generate::{deep_end, small, Asked};
 use super::outputs::FROM;
 use super::parts::{Difference, Outcome};
 use super::tally::Tally;
+use super::wide::{is_wide, joined, widened};
 use super::{shown, text};
 use crate::area::{self, AREA};
 use crate::ask::Ask;
@@ -24,13 +25,13 @@ pub const MET: [&str; 5] = {
 /// What the model and the sheet to the letter say of a whole case.
 struct Said {
     /// Number and count for each ask.
-    answers: Vec<(u8, u16)>,
+    answers: Vec<(u8, u32)>,
     /// The first area after the call, None where it stays untouched.
     area: Option<Vec<u8>>,
     /// 2 for a contradiction, 3 where more rounds are needed than allowed, else 0.
     closed: u8,
     /// How many marks each worked round added; none after a contradiction.
-    added: Vec<u16>,
+    added: Vec<u32>,
     depth: usize,
     /// The marks that search finds are those of the closed sheet.
     marks_agree: bool,
@@ -42,7 +43,9 @@ pub fn model_part(mut dice: Dice, tally: &mut Tally) -> Outcome {
         true => deep_end(&mut dice),
         false => {
             let asked = small(&mut dice);
-            expressed(&mut dice, asked, 5)
+            let asked = expressed(&mut dice, asked, 5);
+            let asked = widened(&mut dice, asked, 40);
+            joined(&mut dice, asked)
         }
     };
     let allowance = asked.allowance.unwrap_or(asked.collection.counts.most_rounds());
@@ -57,6 +60,10 @@ pub fn model_part(mut dice: Dice, tally: &mut Tally) -> Outcome {
         return Err(Difference { input, expected, found });
     }
     count(&said, &asked.asks, tally);
+    if is_wide(asked.collection.counts.states.into()) {
+        let numbers: BTreeSet<u8> = said.answers.iter().map(|answer| answer.0).collect();
+        numbers.into_iter().for_each(|number| tally.wide(number));
+    }
     if asked.expression.is_some() {
         tally.kind("with an expression");
         if said.answers.iter().any(|answer| answer.0 == 1) {
@@ -105,16 +112,16 @@ fn met(said: &Said, asks: &[Ask]) -> BTreeSet<&'static str> {
     met
 }
 
-fn say(asked: &Asked, known: &Known, allowance: u16) -> Result<Said, TooLarge> {
+fn say(asked: &Asked, known: &Known, allowance: u32) -> Result<Said, TooLarge> {
     let model = Model::of(known)?;
     let sheets = letter::all_rounds(known);
     let needed = sheets.len() - 1;
-    let worked = needed.min(allowance.into());
+    let worked = needed.min(allowance as usize);
     let answered = |answer: Answer| match answer {
         Answer::Contradiction => (2, 0),
         _ if needed > worked => (3, allowance),
-        Answer::Yes => (1, needed as u16),
-        Answer::No => (0, needed as u16),
+        Answer::Yes => (1, needed as u32),
+        Answer::No => (0, needed as u32),
     };
     let answers = model.asked(&asked.asks)?.into_iter().map(answered).collect();
     let area = (!model.is_contradiction()).then(|| area::holding(sheets[worked].iter().copied()));
@@ -135,7 +142,7 @@ pub fn questioned(collection: &Collection, asks: &[Ask]) -> Result<Vec<Answer>, 
 }
 
 /// Each ask is put to module `library`, with both areas.
-fn library_agrees(asked: &Asked, allowance: u16, said: &Said) -> Result<(), (String, String)> {
+fn library_agrees(asked: &Asked, allowance: u32, said: &Said) -> Result<(), (String, String)> {
     if !said.marks_agree {
         return Err(("the closed sheet to the letter".into(), "other loops by search".into()));
     }
@@ -143,7 +150,7 @@ fn library_agrees(asked: &Asked, allowance: u16, said: &Said) -> Result<(), (Str
     let after = said.area.clone().map_or(before.clone(), |sheet| (sheet, vec![0; AREA]));
     let call = Call::of(&asked.collection, allowance);
     let (mut area, mut spare) = before.clone();
-    let told = library::marks(&call, allowance.into(), &mut area, &mut spare);
+    let told = library::marks(&call, allowance as usize, &mut area, &mut spare);
     let expected = (said.closed, said.area.is_some().then(|| said.added.clone()));
     if told != expected || (area, spare) != after {
         return Err((
@@ -168,15 +175,16 @@ fn library_agrees(asked: &Asked, allowance: u16, said: &Said) -> Result<(), (Str
 fn desk_lines(asked: &Asked, input: &[u8], said: &Said) -> String {
     let written = |ask: &Ask| String::from_utf8(text::line(&ask.frame())).expect("digits");
     let mut output = String::new();
+    let wide = if asked.collection.counts.states <= 16 { 4 } else { 8 };
     if !asked.asks.is_empty() {
         let rounds = said.added.iter().enumerate();
-        output.extend(rounds.map(|(before, added)| format!("8A{:04X}{added:04X}\n", before + 1)));
+        output.extend(rounds.map(|(before, added)| format!("8A{:0wide$X}{added:0wide$X}\n", before + 1)));
     }
     let is_ask = |line: &&str| line.starts_with("0B") || line.starts_with("0E");
     for line in String::from_utf8_lossy(input).lines().filter(is_ask) {
         let mut answers = asked.asks.iter().zip(&said.answers);
         let (_, (number, count)) = answers.find(|(ask, _)| written(ask) == line).expect("it is asked");
-        output += &format!("8{}{number:02X}{count:04X}\n", &line[1..]);
+        output += &format!("8{}{number:02X}{count:0wide$X}\n", &line[1..]);
     }
     output
 }

@@ -3,10 +3,11 @@
 use super::dice::Dice;
 use super::generate::{full, many_rounds, medium, small, Asked};
 use super::protocol::MOST_AREA;
+use super::wide::{joined, widened};
 use crate::area::AREA;
 use crate::ask::Ask;
 use crate::library::{Call, CONCEPT_FACTS, ROLE_FACTS, SHAPES};
-use crate::numbers::Individual;
+use crate::numbers::{Individual, MOST_STATES};
 
 /// What is asked of a collection: a pair, one individual, a row of pairs, one of both kinds of ask, or how many marks each
 /// round makes.
@@ -74,6 +75,7 @@ fn lent_for(dice: &mut Dice, asks: impl Fn(&mut Dice, &Asked) -> Asks) -> Lent {
         552..=599 => ("wild", small(dice)),
         _ => ("damaged", small(dice)),
     };
+    let asked = some_wide(dice, asked);
     let fills = [dice.below(256) as u8, dice.below(256) as u8];
     let asks = asks(dice, &asked);
     let call = call_of(dice, &asked);
@@ -86,9 +88,16 @@ fn lent_for(dice: &mut Dice, asks: impl Fn(&mut Dice, &Asked) -> Asks) -> Lent {
     lent
 }
 
+/// Most of what is asked of the library has 17 to 32 states, or what its generator gave it.
+pub fn some_wide(dice: &mut Dice, asked: Asked) -> Asked {
+    let asked = widened(dice, asked, 62);
+    joined(dice, asked)
+}
+
 /// The rings of states and of roles are chosen so that some need more than a thousand rounds, the longest 1,954.
 pub fn some_many_rounds(dice: &mut Dice) -> Asked {
-    let (down, up) = dice.pick(&[(7, 9), (9, 7), (5, 11), (7, 8), (3, 4), (6, 9), (4, 10)]);
+    let (down, up) =
+        dice.pick(&[(7, 9), (9, 7), (5, 11), (7, 8), (3, 4), (6, 9), (4, 10), (16, 15), (13, 19), (15, 16)]);
     let ring = dice.pick(&[31, 31, 29, 17, 5, 1]);
     many_rounds(dice, down, up, ring)
 }
@@ -106,7 +115,7 @@ pub fn pair_of(dice: &mut Dice, asked: &Asked) -> [u16; 2] {
 
 pub fn call_of(dice: &mut Dice, asked: &Asked) -> Call {
     let most = asked.collection.counts.most_rounds();
-    let allowance = asked.allowance.unwrap_or(dice.pick(&[most, u16::MAX]));
+    let allowance = asked.allowance.unwrap_or(dice.pick(&[most, 0xFFFF, 0x1_0000, u32::MAX]));
     Call::of(&asked.collection, allowance)
 }
 
@@ -142,7 +151,7 @@ fn bad_count(dice: &mut Dice, call: &mut Call) {
         0 => call.counts[0] = at_least(dice, 65),
         1 => call.counts[1] = at_least(dice, 33),
         2 => call.counts[2] = at_least(dice, 256),
-        3 => call.counts[3] = at_least(dice, 17),
+        3 => call.counts[3] = at_least(dice, MOST_STATES + 1),
         4 => call.counts[3] = 0,
         _ => call.counts[4] = at_least(dice, call.counts[3]),
     }
@@ -225,7 +234,10 @@ pub fn make_wild(dice: &mut Dice, lent: &mut Lent) {
     let often = dice.pick(&[1, 3, 10, 50]);
     let call = &mut lent.call;
     let tables = call.tables.iter_mut().flatten();
-    let asked = lent.asks.numbers().iter_mut().chain([&mut call.allowance]);
+    let asked = lent.asks.numbers().iter_mut();
+    if dice.percent(often) {
+        call.allowance = dice.next() as u32 >> dice.pick(&[0, 8, 16, 24, 26, 28]);
+    }
     for number in call.counts.iter_mut().chain(tables).chain(asked) {
         if dice.percent(often) {
             *number = dice.next() as u16 >> dice.pick(&[0, 8, 10, 12]);

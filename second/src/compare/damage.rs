@@ -5,8 +5,12 @@ use super::dice::Dice;
 use super::expressions::expressed;
 use super::generate::small;
 use super::marks::damaged_expression;
-use super::text::{self, line};
+use super::text::{self, allowance, line};
+use super::wide::{wide_states, widened};
 use crate::collection::Counts;
+use crate::desk::question::{MOST_FINALS, MOST_STEPS};
+use crate::desk::read::lines;
+use crate::numbers::{FEW_STATES, MOST_STATES};
 
 /// A faulty file, with the line and number it was made for and the refusals that must give way to that number.
 pub struct Damaged {
@@ -20,8 +24,8 @@ pub fn damaged(dice: &mut Dice) -> Damaged {
     if dice.percent(4) {
         return tiny(dice);
     }
-    let mut damaged = match dice.pick(&[4, 5, 6, 8, 9, 10, 11]) {
-        _ if dice.percent(35) => damaged_expression(dice),
+    let mut damaged = match dice.pick(&[4, 4, 4, 5, 5, 6, 6, 8, 8, 8, 9, 9, 10, 11, 11]) {
+        _ if dice.percent(42) => damaged_expression(dice),
         4 => bad_counts(dice),
         5 => one_too_many(dice),
         11 => bad_place(dice),
@@ -53,12 +57,14 @@ fn tiny(dice: &mut Dice) -> Damaged {
 fn sound_lines(dice: &mut Dice) -> (Counts, Vec<Vec<u8>>) {
     let asked = small(dice);
     let asked = expressed(dice, asked, 5);
+    let asked = widened(dice, asked, 75);
     (asked.collection.counts, text::lines(dice, &asked))
 }
 
 /// The same without an expression, so that any other frame may follow.
 fn plain_lines(dice: &mut Dice) -> (Counts, Vec<Vec<u8>>) {
     let asked = small(dice);
+    let asked = widened(dice, asked, 75);
     (asked.collection.counts, text::lines(dice, &asked))
 }
 
@@ -79,7 +85,7 @@ fn one_bad_line(dice: &mut Dice, number: u8) -> Damaged {
         6 => (undeclared(dice, &counts), Vec::new()),
         _ => (bad_ask(dice, &counts), Vec::new()),
     };
-    let at = if number >= 9 && dice.percent(30) { 1 } else { dice.between(2, lines.len() + 1) };
+    let at = if number >= 9 && dice.percent(20) { 1 } else { dice.between(2, lines.len() + 1) };
     if at == 1 {
         also.push(11);
         // Sometimes there is nothing else.
@@ -94,10 +100,7 @@ fn bad_characters(dice: &mut Dice) -> (Vec<u8>, Vec<u8>) {
         dice.pick(&[&b"0A00"[..], b"0B0000", b"0C0040", b"010101010100", b"07000001", b"0600001267"]);
     match dice.below(6) {
         0 => (Vec::new(), Vec::new()),
-        1 => {
-            let characters = dice.pick(&[65, 66, 66, 67, 68, 128, 130, 200]);
-            ((0..characters).map(|_| dice.pick(b"0123456789ABCDEF")).collect(), vec![10])
-        }
+        1 => (too_long(dice), vec![10]),
         2 => (sound[..dice.pick(&[1, sound.len() - 1])].to_vec(), vec![10]),
         3 => (b"010101010100F".to_vec(), vec![10, 11]),
         // Line ends and spaces that a lenient reader would take away, and one that would be added to an odd line.
@@ -123,10 +126,32 @@ fn bad_characters(dice: &mut Dice) -> (Vec<u8>, Vec<u8>) {
     }
 }
 
+/// More characters than a line may have: 64, or 130 of an expression.
+fn too_long(dice: &mut Dice) -> Vec<u8> {
+    let (characters, kind) = match dice.percent(50) {
+        true => {
+            (dice.pick(&[65, 66, 66, 67, 68, 128, 130, 132, 200]), dice.pick(&[b"02", b"0C", b"0E", b"1D"]))
+        }
+        false => (dice.pick(&[131, 132, 132, 132, 132, 134, 260]), b"0D"),
+    };
+    let others = (2..characters).map(|_| dice.pick(b"0123456789ABCDEF"));
+    kind.iter().copied().chain(others).collect()
+}
+
+/// A sound input with a line more that is too long, or an allowance of a wrong length; and its line and number.
+pub fn spoilt(dice: &mut Dice, input: &[u8]) -> (Vec<u8>, usize, u8) {
+    let mut all: Vec<Vec<u8>> = lines(input).map(<[u8]>::to_vec).collect();
+    let before = dice.between(1, all.len());
+    let number = if dice.percent(30) { 9 } else { 10 };
+    let bytes = dice.pick(&[1, 3, 5]);
+    all.insert(before, if number == 9 { too_long(dice) } else { line(&vec![0x0C; bytes + 1]) });
+    (text::input(dice, &all), before + 1, number)
+}
+
 /// The kinds of frames that have one length.
 const KINDS: [usize; 13] = [1, 2, 3, 4, 5, 6, 7, 8, 9, 10, 11, 12, 14];
 
-/// How many bytes a frame of each kind has, its kind included; 06 and 07 may have two more, and 0D any number.
+/// How many bytes a frame of each kind has, its kind included; 06, 07 and 0C may have two more, and 0D any number.
 const LENGTHS: [usize; 15] = [0, 6, 3, 3, 3, 3, 3, 4, 4, 4, 2, 3, 3, 0, 2];
 
 fn bad_frame(dice: &mut Dice) -> (Vec<u8>, Vec<u8>) {
@@ -138,8 +163,8 @@ fn bad_frame(dice: &mut Dice) -> (Vec<u8>, Vec<u8>) {
     };
     let length = loop {
         let length = dice.pick(&[1, 2, 3, 4, 5, 6, 7, 8, 31, 32]);
-        let deed_noted = matches!(kind, 6 | 7) && length == LENGTHS[kind] + 2;
-        if unknown || length != LENGTHS[kind] && !deed_noted {
+        let longer = !unknown && matches!(kind, 6 | 7 | 12) && length == LENGTHS[kind] + 2;
+        if unknown || length != LENGTHS[kind] && !longer {
             break length;
         }
     };
@@ -233,13 +258,13 @@ fn bad_counts(dice: &mut Dice) -> Damaged {
 }
 
 fn bad_counts_frame(dice: &mut Dice) -> [u8; 6] {
-    let states = dice.between(1, 16);
+    let states = if dice.percent(75) { wide_states(dice) } else { dice.between(1, FEW_STATES.into()) };
     let mut frame = [1, dice.below(65) as u8, dice.below(33) as u8, dice.below(256) as u8, states as u8, 0];
-    match dice.below(5) {
+    match dice.below(6) {
         0 => frame[1] = over(dice, 65),
         1 => frame[2] = over(dice, 33),
         2 => frame[4] = 0,
-        3 => frame[4] = over(dice, 17),
+        3 => frame[4] = over(dice, usize::from(MOST_STATES) + 1),
         _ => frame[5] = over(dice, states),
     }
     frame
@@ -260,16 +285,17 @@ fn bad_place(dice: &mut Dice) -> Damaged {
             Damaged { lines, at, number: 11, also: vec![4] }
         }
         3 => {
-            let rounds = [0x0C, dice.below(256) as u8, dice.below(256) as u8];
+            let given = dice.next() as u32 >> dice.pick(&[0, 8, 16, 24]);
+            let (rounds, again) = (allowance(dice, given), allowance(dice, given));
             lines.retain(|sound| !sound.starts_with(b"0C"));
             let at = dice.between(2, lines.len() + 1);
             lines.insert(at - 1, line(&rounds));
             let later = dice.between(at, lines.len());
-            lines.insert(later, line(&rounds));
+            lines.insert(later, line(&again));
             Damaged { lines, at: later + 1, number: 11, also: Vec::new() }
         }
         4 => {
-            let first: &[u8] = dice.pick(&[&b"02FFFF"[..], b"07000000", b"0BFFFF", b"0EFF", b"0A10"]);
+            let first: &[u8] = dice.pick(&[&b"02FFFF"[..], b"07000000", b"0BFFFF", b"0EFF", b"0A20"]);
             let also = if matches!(first[1], b'B' | b'E') { 8 } else { 6 };
             lines.insert(0, first.to_vec());
             Damaged { lines, at: 1, number: 11, also: vec![also] }
@@ -285,14 +311,16 @@ fn bad_place(dice: &mut Dice) -> Damaged {
 fn one_too_many(dice: &mut Dice) -> Damaged {
     let kind = dice.pick(&[2, 3, 4, 5, 6, 7, 7, 7, 8, 8, 0x0A, 0x0A, 0x0B, 0x0B]);
     let most = match kind {
-        2 | 3 | 8 => 512,
+        2 | 3 => 512,
+        8 => MOST_STEPS,
         4 | 5 => 128,
         6 => 1_024,
         7 => 4_096,
-        0x0A => 16,
+        0x0A => MOST_FINALS,
         _ => 256,
     };
-    let mut lines = vec![line(&[1, 2, 2, 2, 2, 0])];
+    let states = if dice.percent(30) { 2 } else { wide_states(dice) as u8 };
+    let mut lines = vec![line(&[1, 2, 2, 2, states, 0])];
     // Asks of both kinds share their room.
     let pairs = dice.pick(&[0, 50, 100]);
     for _ in 0..most {
@@ -315,7 +343,7 @@ fn one_too_many(dice: &mut Dice) -> Damaged {
         (6, 1) => (fact(dice, &[6, 0, 0]), Vec::new()),
         (7, 1) => (fact(dice, &[7, 0, 0, 1]), Vec::new()),
         (8, 0) => (line(&[9, 0, 2, 0]), vec![6]),
-        (0x0A, 0) => (line(&[0x0A, 2]), vec![6]),
+        (0x0A, 0) => (line(&[0x0A, states]), vec![6]),
         (0x0B, 0) => (line(&[0x0B, 0, 2]), vec![8]),
         (0x0B, 1) => (line(&[0x0E, dice.pick(&[2, 0xFF])]), vec![8]),
         _ => (lines[1].clone(), Vec::new()),

@@ -4,14 +4,16 @@ use super::built_out::questioned;
 use super::dice::Dice;
 use super::generate::Asked;
 use crate::collection::{Counts, Step};
+use crate::desk::frame::MOST_OF_EXPRESSION;
 use crate::expression::automaton::Automaton;
 use crate::expression::words::{all_words, Derived};
 use crate::expression::{read, Expression, Letter, CLOSE, OPEN, OR, TIMES};
 use crate::model::{Answer, TooLarge};
-use crate::numbers::{State, MOST_STATES};
+use crate::numbers::{State, FEW_STATES, MOST_STATES};
+use std::ops::RangeInclusive;
 
-/// A frame of 64 characters has so many bytes beside its kind.
-pub const MOST_BYTES: usize = 31;
+/// A frame 0D of 130 characters has so many bytes beside its kind.
+pub const MOST_BYTES: usize = MOST_OF_EXPRESSION / 2 - 1;
 
 /// So many role and test marks can stand in an accepted file.
 pub const MOST_MARKS: usize = MOST_STATES as usize - 1;
@@ -24,21 +26,45 @@ pub fn declared(counts: &Counts) -> Vec<u8> {
 /// Often enough puts an expression in place of the steps and finals; its states are then the declared ones.
 pub fn expressed(dice: &mut Dice, asked: Asked, marks: usize) -> Asked {
     if dice.percent(30) {
+        let marks = if dice.percent(40) { MANY_MARKS } else { 1..=marks };
         with_expression(dice, asked, marks)
     } else {
         asked
     }
 }
 
+/// So many role and test marks make 17 to 32 states.
+pub const MANY_MARKS: RangeInclusive<usize> = FEW_STATES as usize..=MOST_MARKS;
+
 /// Nothing is changed where neither a role nor a name is declared.
-pub fn with_expression(dice: &mut Dice, mut asked: Asked, marks: usize) -> Asked {
+pub fn with_expression(dice: &mut Dice, mut asked: Asked, marks: RangeInclusive<usize>) -> Asked {
     let letters = declared(&asked.collection.counts);
     if !letters.is_empty() {
-        let marks = dice.between(1, marks);
+        let any = dice.between(*marks.start(), *marks.end());
+        let marks = dice.pick(&[any, any, any, *marks.end()]);
         let deep = dice.pick(&[0, 1, 2, 3, 8]);
-        put(&mut asked, throw_marks(dice, &letters, [marks, deep], MOST_BYTES));
+        let mut row = throw_marks(dice, &letters, [marks, deep], MOST_BYTES);
+        if dice.percent(30) {
+            stretch(dice, &mut row);
+        }
+        put(&mut asked, row);
     }
     asked
+}
+
+/// More items any number of times, until the row is as long as it may be or each of them is.
+fn stretch(dice: &mut Dice, row: &mut Vec<u8>) {
+    while row.len() < MOST_BYTES {
+        let once = |at: &usize| {
+            let item = row[*at] < OPEN || row[*at] == CLOSE;
+            item && row.get(at + 1) != Some(&TIMES)
+        };
+        let places: Vec<usize> = (0..row.len()).filter(once).collect();
+        if places.is_empty() {
+            return;
+        }
+        row.insert(dice.pick(&places) + 1, TIMES);
+    }
 }
 
 fn put(asked: &mut Asked, marks: Vec<u8>) {
@@ -124,7 +150,7 @@ fn item(dice: &mut Dice, letters: &[u8], [marks, deep]: [usize; 2], row: &mut Ve
 
 /// Whether a file's expression, matched by derivatives, has the words of its automaton and the answers of the desk. The
 /// error is what was expected and what was found.
-pub fn agrees(marks: &[u8], asked: &Asked, answers: &[(u8, u16)]) -> Result<(), (String, String)> {
+pub fn agrees(marks: &[u8], asked: &Asked, answers: &[(u8, u32)]) -> Result<(), (String, String)> {
     let fails = |what: String| Err((what, "the automaton says something else".to_string()));
     let Ok(expression) = read::expression(marks) else { return fails("an expression".to_string()) };
     let automaton = Automaton::of(&expression);
@@ -160,8 +186,8 @@ fn derived_answers(expression: &Expression, asked: &Asked) -> Option<Result<Vec<
 }
 
 /// A spent allowance says nothing of the answer.
-fn same(derived: &[Answer], answers: &[(u8, u16)]) -> bool {
-    let agrees = |(derived, answer): (&Answer, &(u8, u16))| match derived {
+fn same(derived: &[Answer], answers: &[(u8, u32)]) -> bool {
+    let agrees = |(derived, answer): (&Answer, &(u8, u32))| match derived {
         Answer::No => matches!(answer.0, 0 | 3),
         Answer::Yes => matches!(answer.0, 1 | 3),
         Answer::Contradiction => answer.0 == 2,

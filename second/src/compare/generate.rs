@@ -5,6 +5,7 @@ use super::dice::Dice;
 use super::throw::*;
 use crate::ask::Ask;
 use crate::collection::{Collection, ConceptFact, Counts, RoleFact, Step};
+use crate::desk::question::MOST_STEPS;
 use crate::numbers::{Concept, Individual, Role, State};
 
 /// A collection with its asks.
@@ -12,9 +13,15 @@ pub struct Asked {
     pub collection: Collection,
     pub asks: Vec<Ask>,
     /// None where the file is to have no frame 0C, so that as many rounds are allowed as can be needed.
-    pub allowance: Option<u16>,
+    pub allowance: Option<u32>,
     /// The marks of a question typed as an expression; the steps and finals are then its automaton's.
     pub expression: Option<Vec<u8>>,
+}
+
+/// Fewer rounds than that; sometimes so many more that two bytes of the number would be few.
+fn few_rounds(dice: &mut Dice, end: usize) -> u32 {
+    let few = dice.below(end) as u32;
+    few + dice.pick(&[0, 0, 0, 0, 0, 0, 0, 0, 0, 0x1_0000])
 }
 
 /// Few enough elements for the built-out model, dense enough that all four answers are frequent.
@@ -51,7 +58,7 @@ pub fn small(dice: &mut Dice) -> Asked {
     if dice.percent(50) {
         rings_of_steps(dice, &mut collection);
     }
-    let allowance = if dice.percent(40) { None } else { Some(dice.below(5) as u16) };
+    let allowance = if dice.percent(35) { None } else { Some(few_rounds(dice, 4)) };
     let asks = all_asks(&collection);
     Asked { collection, asks, allowance, expression: None }
 }
@@ -68,13 +75,14 @@ fn deep_clash(dice: &mut Dice) -> Asked {
         exclusion_below(dice, &mut collection, deep, Concept(1));
     }
     let asks = all_asks(&collection);
-    Asked { collection, asks, allowance: Some(dice.below(5) as u16), expression: None }
+    Asked { collection, asks, allowance: Some(few_rounds(dice, 5)), expression: None }
 }
 
 /// A question that goes down state by state and need not come back: most of its ends are unnamed, and many are deep.
 pub fn deep_end(dice: &mut Dice) -> Asked {
     let (ring, few, many) = (dice.between(1, 3), dice.between(2, 6), dice.between(7, 12));
-    let states = dice.pick(&[few, many, many, many]);
+    let most = dice.between(17, 20);
+    let states = dice.pick(&[few, many, many, many, most]);
     let mut collection = Collection::empty(counts(dice, 2, ring, (1, 3), (states, states)));
     collection.counts.start = State(0);
     let amounts = Amounts {
@@ -117,7 +125,7 @@ pub fn deep_end(dice: &mut Dice) -> Asked {
     if dice.percent(40) {
         rings_of_steps(dice, &mut collection);
     }
-    let allowance = if dice.percent(60) { None } else { Some(dice.below(3) as u16) };
+    let allowance = if dice.percent(60) { None } else { Some(few_rounds(dice, 3)) };
     let asks = all_asks(&collection);
     Asked { collection, asks, allowance, expression: None }
 }
@@ -130,7 +138,7 @@ fn owner_0(dice: &mut Dice) -> ConceptFact {
 fn small_rings(dice: &mut Dice) -> Asked {
     let (down, up, ring) = (dice.between(1, 3), dice.between(1, 4), dice.between(1, 2));
     let mut asked = many_rounds(dice, down, up, ring);
-    asked.allowance = asked.allowance.map(|_| dice.below(30) as u16);
+    asked.allowance = asked.allowance.map(|_| few_rounds(dice, 30));
     asked
 }
 
@@ -153,7 +161,7 @@ pub fn medium(dice: &mut Dice) -> Asked {
         0 | 1 => throw_exclusions(dice, &mut collection, 3, 2),
         _ => harmless_exclusions(dice, &mut collection, 20, 5),
     }
-    let allowance = if dice.percent(60) { None } else { Some(dice.below(20) as u16) };
+    let allowance = if dice.percent(60) { None } else { Some(few_rounds(dice, 20)) };
     let asks = some_asks(dice, &collection, 40);
     Asked { collection, asks, allowance, expression: None }
 }
@@ -163,7 +171,8 @@ pub fn full(dice: &mut Dice) -> Asked {
     if dice.percent(10) {
         return full_rings(dice);
     }
-    let counts = Counts::new(64, 32, 255, 16, dice.below(16) as u16).expect("counts in range");
+    let states = dice.pick(&[16, 32, 32]);
+    let counts = Counts::new(64, 32, 255, states, dice.below(states.into()) as u16).expect("counts in range");
     let mut collection = Collection::empty(counts);
     let layered = dice.percent(60);
     let distinct = |dice: &mut Dice, most: usize| if layered { dice.between(1, most / 4) } else { most };
@@ -174,7 +183,7 @@ pub fn full(dice: &mut Dice) -> Asked {
         role_exclusions: 0,
         facts: 1_024,
         role_facts: if dice.percent(50) { 4_096 } else { dice.between(100, 500) },
-        steps: if dice.percent(50) { 512 } else { dice.between(16, 60) },
+        steps: if dice.percent(50) { MOST_STEPS } else { dice.between(16, 60) },
         finals: dice.between(1, 4),
     };
     throw_records(dice, &mut collection, &amounts);
@@ -190,14 +199,15 @@ pub fn full(dice: &mut Dice) -> Asked {
         harmless_exclusions(dice, &mut collection, 512, 128);
     }
     repeat_to_the_most(dice, &mut collection);
-    let allowance = if dice.percent(80) { None } else { Some(dice.below(4) as u16) };
+    let allowance = if dice.percent(80) { None } else { Some(few_rounds(dice, 4)) };
     let asks = some_asks(dice, &collection, 256);
     Asked { collection, asks, allowance, expression: None }
 }
 
 /// Full tables that need more than a thousand rounds.
 fn full_rings(dice: &mut Dice) -> Asked {
-    let Asked { mut collection, allowance, .. } = many_rounds(dice, 7, 9, 31);
+    let (down, up) = dice.pick(&[(7, 9), (11, 8)]);
+    let Asked { mut collection, allowance, .. } = many_rounds(dice, down, up, 31);
     collection.counts.names = 64;
     collection.counts.individuals = 255;
     let amounts = Amounts { facts: 1_024, role_facts: dice.between(50, 4_096), ..Amounts::default() };
@@ -239,8 +249,8 @@ pub fn many_rounds(dice: &mut Dice, down: usize, up: usize, ring: usize) -> Aske
     collection.finals.push(state(down + dice.below(up)));
     let allowance = match dice.below(4) {
         0 => None,
-        1 => Some(dice.between(64, 1_900) as u16),
-        _ => Some(0xFFFF),
+        1 => Some(dice.between(64, 1_900) as u32),
+        _ => Some(dice.pick(&[0xFFFF, 0x1_0000, u32::MAX])),
     };
     let asks = all_asks(&collection);
     Asked { collection, asks, allowance, expression: None }
@@ -248,22 +258,26 @@ pub fn many_rounds(dice: &mut Dice, down: usize, up: usize, ring: usize) -> Aske
 
 /// More than a thousand rounds are needed and allowed; an allowance that is given may be less than those needed.
 pub fn over_a_thousand(dice: &mut Dice) -> Asked {
-    let (down, up) = dice.pick(&[(7, 9), (9, 7)]);
-    let ring = dice.pick(&[31, 29, 17]);
+    let (down, up) = dice.pick(&[(7, 9), (9, 7), (7, 10), (8, 13), (3, 29)]);
+    let ring = dice.pick(&[31, 31, 17]);
     let mut asked = many_rounds(dice, down, up, ring);
-    let given = [1_001, 1_050, 1_500, u16::MAX].map(Some);
-    asked.allowance = if dice.percent(70) { None } else { dice.pick(&given) };
+    let given = [1_001, 1_001, 1_050, 1_050, 1_500, 1_500, 0xFFFF, 0x1_0000, u32::MAX].map(Some);
+    asked.allowance = if dice.percent(60) { None } else { dice.pick(&given) };
     asked
 }
 
 /// Most concepts are below one name, which is tested from most states to most, so that round 1 adds thousands of marks.
 pub fn broad(dice: &mut Dice) -> Asked {
-    let (names, roles) = (dice.between(32, 64), dice.between(16, 32));
-    let mut collection = Collection::empty(counts(dice, names, roles, (2, 12), (12, 16)));
+    // Most of them add over 65,535 marks.
+    let widest = dice.percent(75);
+    let (names, roles) = if widest { (64, 32) } else { (dice.between(32, 64), dice.between(16, 32)) };
+    let states = if widest { (31, 32) } else { dice.pick(&[(12, 16), (17, 28)]) };
+    let mut collection = Collection::empty(counts(dice, names, roles, (2, 12), states));
     let amounts =
         Amounts { facts: 6, role_facts: 12, steps: dice.below(20), finals: 2, ..Amounts::default() };
     throw_records(dice, &mut collection, &amounts);
-    let (most_concepts, most_steps) = (dice.pick(&[80, 95, 100]), dice.pick(&[70, 95, 100]));
+    let (most_concepts, most_steps) = (dice.pick(&[80, 95, 100]), dice.pick(&[80, 95, 100]));
+    // Of 32 states there are 992 such tests; with the steps thrown before them the table isn't full.
     let tested = Concept(dice.below(names) as u8);
     let counts = collection.counts;
     let below = counts.all_concepts().filter(|_| dice.percent(most_concepts));
@@ -271,7 +285,7 @@ pub fn broad(dice: &mut Dice) -> Asked {
     let ends = counts.all_states().flat_map(|from| counts.all_states().map(move |to| (from, to)));
     let tests = ends.filter(|(from, to)| from != to && dice.percent(most_steps));
     collection.steps.extend(tests.map(|(from, to)| Step::Test { from, name: tested, to }));
-    let allowance = if dice.percent(50) { None } else { Some(dice.below(4) as u16) };
+    let allowance = if dice.percent(50) { None } else { Some(few_rounds(dice, 4)) };
     let asks = some_asks(dice, &collection, 12);
     Asked { collection, asks, allowance, expression: None }
 }

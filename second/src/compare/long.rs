@@ -1,4 +1,4 @@
-//! Long inputs for the desk: beyond the 467,155 bytes that 7,187 lines of 64 characters have.
+//! Long inputs for the desk: beyond the 501,475 bytes that 7,715 lines of 64 characters have.
 
 use super::damage::Damaged;
 use super::dice::Dice;
@@ -7,10 +7,10 @@ use super::text;
 use super::throw::throw_exclusions;
 use crate::numbers::Role;
 
-/// 7,187 lines of 64 characters and their ends; a sound file has at most 7,186 lines.
-pub const MOST_READ: usize = 467_155;
+/// 7,715 lines of 64 characters and their ends; a sound file has at most 7,714 lines, and one with an expression far fewer.
+pub const MOST_READ: usize = 65 * (MOST_SOUND_LINES + 1);
 
-const MOST_SOUND_LINES: usize = 7_186;
+const MOST_SOUND_LINES: usize = 7_714;
 
 pub fn long(dice: &mut Dice) -> Damaged {
     match dice.below(6) {
@@ -27,7 +27,7 @@ fn one_long_line(dice: &mut Dice) -> Damaged {
 }
 
 fn all_lines_of_64(dice: &mut Dice) -> Damaged {
-    let mut lines = vec![vec![b'0'; 64]; 7_186 + dice.below(4)];
+    let mut lines = vec![vec![b'0'; 64]; MOST_SOUND_LINES + dice.below(4)];
     if dice.percent(50) {
         lines[0] = b"010101010100".to_vec();
         return Damaged { lines, at: 2, number: 10, also: Vec::new() };
@@ -41,10 +41,10 @@ fn empty_lines(dice: &mut Dice) -> Damaged {
     Damaged { lines, at: 2, number: 9, also: Vec::new() }
 }
 
-/// All tables full, 256 asks and an allowance: whatever comes next is a fault, on line 7,187.
+/// All tables full, 256 asks and an allowance: whatever comes next is a fault, on line 7,715.
 fn fault_after_the_fullest_file(dice: &mut Dice) -> Damaged {
     let mut asked = full(dice);
-    asked.allowance = Some(dice.below(65_536) as u16);
+    asked.allowance = Some(dice.below(65_536) as u32);
     fill_exclusions(dice, &mut asked);
     let mut lines = text::lines(dice, &asked);
     assert_eq!(lines.len(), MOST_SOUND_LINES, "the fullest file");

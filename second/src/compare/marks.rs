@@ -2,21 +2,26 @@
 
 use super::damage::Damaged;
 use super::dice::Dice;
-use super::expressions::{declared, throw_marks, with_expression, MOST_BYTES};
+use super::expressions::{declared, throw_marks, with_expression, MANY_MARKS, MOST_BYTES};
 use super::generate::{small, Asked};
 use super::text::{self, line};
 use crate::expression::{Letter, CLOSE, OPEN, OR, TIMES};
+use crate::numbers::MOST_STATES;
 
 /// A sound file whose question is an expression.
 fn sound(dice: &mut Dice) -> Asked {
     loop {
         let asked = small(dice);
-        let asked = with_expression(dice, asked, 5);
+        let marks = if dice.percent(80) { MANY_MARKS } else { 1..=5 };
+        let asked = with_expression(dice, asked, marks);
         if asked.expression.is_some() {
             return asked;
         }
     }
 }
+
+/// The most states.
+const MOST: usize = MOST_STATES as usize;
 
 pub fn damaged_expression(dice: &mut Dice) -> Damaged {
     match dice.pick(&[6, 11, 11, 12, 12, 12, 13, 13, 13, 14, 14, 14]) {
@@ -42,7 +47,8 @@ fn frame(row: &[u8]) -> Vec<u8> {
 
 /// A row that is no expression, and neither too deep nor with a mark that isn't declared.
 pub fn bad_row(dice: &mut Dice, letters: &[u8]) -> Vec<u8> {
-    let (marks, deep) = (dice.between(1, 5), dice.below(4));
+    let (few, many, deep) = (dice.between(1, 5), dice.between(16, 31), dice.below(4));
+    let marks = dice.pick(&[few, few, many]);
     // With room for what is put in.
     let mut row = throw_marks(dice, letters, [marks, deep], MOST_BYTES - 3);
     let place = dice.below(row.len() + 1);
@@ -76,13 +82,13 @@ fn no_expression(dice: &mut Dice) -> Damaged {
 fn miscount(dice: &mut Dice, asked: &mut Asked, row: &[u8]) -> Vec<u8> {
     let needed = row.iter().filter(|mark| Letter::of(**mark).is_some()).count() + 1;
     let counts = &mut asked.collection.counts;
-    if (2..=16).contains(&needed) && dice.percent(40) {
+    if (2..=MOST).contains(&needed) && dice.percent(40) {
         counts.states = needed as u8;
         counts.start.0 = dice.between(1, needed - 1) as u8;
         return vec![14];
     }
-    let near = [needed - 1, needed + 1, 16, 1];
-    let other = near.into_iter().filter(|states| (1..=16).contains(states) && *states != needed);
+    let near = [needed - 1, needed + 1, MOST, 17, 16, 1];
+    let other = near.into_iter().filter(|states| (1..=MOST).contains(states) && *states != needed);
     let other: Vec<usize> = other.collect();
     counts.states = dice.pick(&other) as u8;
     counts.start.0 = dice.below(usize::from(counts.states)) as u8;
@@ -95,7 +101,8 @@ fn other_states(dice: &mut Dice) -> Damaged {
     let mut row = asked.expression.clone().expect("an expression");
     if dice.percent(25) {
         // Too many marks for any count of states.
-        let marks = dice.between(16, MOST_BYTES);
+        let any = dice.between(MOST, MOST_BYTES);
+        let marks = dice.pick(&[MOST, any, any, MOST_BYTES]);
         row = (0..marks).map(|_| dice.pick(&letters)).collect();
     }
     miscount(dice, &mut asked, &row);

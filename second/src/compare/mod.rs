@@ -1,4 +1,4 @@
-//! `second compare`: thousands of cases from a seed, eight parts, a histogram of what was hit, and the count at the end.
+//! `second compare`: thousands of cases from a seed, nine parts, a histogram of what was hit, and the count at the end.
 
 mod built_out;
 mod calls;
@@ -8,8 +8,10 @@ mod deeds;
 mod dice;
 pub mod expressions;
 mod generate;
+mod inputs;
 mod long;
 mod marks;
+mod moved;
 mod outputs;
 mod parts;
 pub mod protocol;
@@ -21,13 +23,14 @@ mod tally;
 mod text;
 mod throw;
 mod typed;
+mod wide;
 
 use child::{Driver, Words};
 use dice::Dice;
 use parts::{Difference, Outcome};
 use std::panic::{catch_unwind, AssertUnwindSafe};
 use std::sync::atomic::{AtomicU64, Ordering};
-use tally::{Tally, LEAST_HITS};
+use tally::{Tally, Wanted, LEAST_HITS};
 
 pub struct Options {
     pub cases: u64,
@@ -52,6 +55,7 @@ const TYPED: u64 = 5;
 const FROM: u64 = 6;
 const ROUNDS: u64 = 7;
 const MIXED: u64 = 8;
+const MOVED: u64 = 9;
 const MOST_SHOWN: u64 = 5;
 
 /// What the desk program can answer with, in an answer or a refusal.
@@ -61,7 +65,7 @@ pub const DESK_NUMBERS: [u8; 14] = [0, 1, 2, 3, 4, 5, 6, 8, 9, 10, 11, 12, 13, 1
 pub fn desk_met() -> Vec<&'static str> {
     let once_more = [deeds::CHANGED, deeds::LEFT_OUT, deeds::MIXED];
     let of_facts = [&[parts::SELF_DEALING], &deeds::NOTED[..]].concat();
-    [&of_facts, &parts::NONE_GIVEN[..], &once_more, &outputs::MET[..]].concat()
+    [&of_facts, &parts::NONE_GIVEN[..], &once_more, &inputs::MET[..], &outputs::MET[..]].concat()
 }
 
 /// What the library can answer a pair or one individual with.
@@ -79,41 +83,56 @@ pub fn compare(options: &Options) -> (u64, u64) {
         None => println!("  skipped: no --desk command was given"),
         Some(words) => {
             let work = || |dice, tally: &mut Tally| parts::desk_part(&words, dice, tally);
-            judge(&mut total, run(options, DESK, work), &DESK_NUMBERS, &desk_met());
+            let wanted = Wanted { numbers: &DESK_NUMBERS, wide: &DESK_NUMBERS, met: &desk_met() };
+            judge(&mut total, run(options, DESK, work), &wanted);
         }
     }
     println!("b. the library through its C boundary against module library, with both areas");
-    through_drivers(options, &mut total, (LIBRARY, &ANSWERS, &ASKED_MET), parts::library_part);
+    through_drivers(options, &mut total, (LIBRARY, wanted(&ANSWERS, &ASKED_MET)), parts::library_part);
     println!("c. rows of pairs, likewise, with the entries of each row");
-    through_drivers(options, &mut total, (ROWS, &ANSWERS, &rows::MET), parts::row_part);
+    through_drivers(options, &mut total, (ROWS, wanted(&ANSWERS, &rows::MET)), parts::row_part);
     println!("d. the tables made of an expression, likewise, with the rows they are put into");
-    through_drivers(options, &mut total, (TYPED, &typed::NUMBERS, &typed::MET), parts::typed_part);
+    through_drivers(
+        options,
+        &mut total,
+        (TYPED, Wanted { numbers: &typed::NUMBERS, wide: &typed::WIDE, met: &typed::MET }),
+        parts::typed_part,
+    );
     println!("e. modules library and desk against the built-out model, on small collections");
     let work = || |dice, tally: &mut Tally| built_out::model_part(dice, tally);
-    judge(
-        &mut total,
-        run(options, MODEL, work),
-        &[0, 1, 2, 3],
-        &[&shown::MET[..], &built_out::MET[..]].concat(),
-    );
+    let met = [&shown::MET[..], &built_out::MET[..]].concat();
+    judge(&mut total, run(options, MODEL, work), &wanted(&[0, 1, 2, 3], &met));
     println!("f. the library's call for one individual, likewise with both areas");
-    through_drivers(options, &mut total, (FROM, &ANSWERS, &ASKED_MET), parts::from_part);
+    through_drivers(options, &mut total, (FROM, wanted(&ANSWERS, &ASKED_MET)), parts::from_part);
     println!("g. how many marks each round makes, likewise with both areas and the row of counts");
-    through_drivers(options, &mut total, (ROUNDS, &rounds::NUMBERS, &rounds::MET), parts::rounds_part);
+    through_drivers(
+        options,
+        &mut total,
+        (ROUNDS, wanted(&rounds::NUMBERS, &rounds::MET)),
+        parts::rounds_part,
+    );
     println!("h. rows of both kinds of ask, likewise, with the entries of each row");
-    through_drivers(options, &mut total, (MIXED, &ANSWERS, &rows::MIXED_MET), parts::mixed_part);
+    through_drivers(options, &mut total, (MIXED, wanted(&ANSWERS, &rows::MIXED_MET)), parts::mixed_part);
+    println!("i. areas moved to the places of today and back, likewise with both areas");
+    let moved = Wanted { numbers: &moved::NUMBERS, wide: &[], met: &moved::MET };
+    through_drivers(options, &mut total, (MOVED, moved), parts::moved_part);
     total
 }
 
 /// One case put to a library driver.
 type DriverCase = fn(&mut Driver, Dice, &mut Tally) -> Outcome;
 
-/// A part's number, and what must be hit often enough in it: numbers, and what else is to be met.
-type Part<'a> = (u64, &'a [u8], &'a [&'static str]);
+/// A part's number, and what must be hit often enough in it.
+type Part<'a> = (u64, Wanted<'a>);
+
+/// Each number in cases with 17 to 32 states too.
+fn wanted<'a>(numbers: &'a [u8], met: &'a [&'static str]) -> Wanted<'a> {
+    Wanted { numbers, wide: numbers, met }
+}
 
 /// A part in which library drivers answer, each thread with one of its own.
 fn through_drivers(options: &Options, total: &mut (u64, u64), part: Part, case: DriverCase) {
-    let (part, numbers, met) = part;
+    let (part, wanted) = part;
     let Some(words) = options.library.as_deref().and_then(Words::of) else {
         println!("  skipped: no --library command was given");
         return;
@@ -124,7 +143,7 @@ fn through_drivers(options: &Options, total: &mut (u64, u64), part: Part, case: 
         let start = || Driver::start(&words, &ended_badly);
         move |dice, tally: &mut Tally| with_driver(start, &mut driver, |ready| case(ready, dice, tally))
     };
-    judge(total, run(options, part, work), numbers, met);
+    judge(total, run(options, part, work), &wanted);
     let ended_badly = ended_badly.into_inner();
     if ended_badly > 0 {
         println!("  FAILED: {ended_badly} library drivers ended with another exit status than 0");
@@ -207,9 +226,9 @@ fn show(difference: &Difference, seed: u64, part: u64, case: u64) {
     println!("  second program:\n{}\n  other:\n{}", head(&difference.expected), head(&difference.found));
 }
 
-fn judge(total: &mut (u64, u64), tally: Tally, numbers: &[u8], met: &[&'static str]) {
+fn judge(total: &mut (u64, u64), tally: Tally, wanted: &Wanted) {
     tally.print();
-    let seldom = tally.too_seldom(numbers, met);
+    let seldom = tally.too_seldom(wanted);
     for what in &seldom {
         println!("  FAILED: {what} was hit in fewer than {LEAST_HITS} cases");
     }

@@ -12,13 +12,18 @@ pub const FROM: [&str; 4] = [
 ];
 
 /// What an output can be, beside the numbers in it.
-pub const MET: [&str; 10] = [
+pub const MET: [&str; 15] = [
     "answers after no round",
     "answers after one round",
     "answers after 2 to 1,000 rounds",
     "answers after more rounds",
     "rounds up to the allowance, and more needed",
     "a round of a thousand marks or more",
+    "a round of over 65,535 marks",
+    "counts of two bytes",
+    "counts of four bytes",
+    "rounds of two bytes",
+    "rounds of four bytes",
     FROM[0],
     FROM[1],
     FROM[2],
@@ -39,6 +44,17 @@ pub fn is_spent(output: &[u8]) -> bool {
     text.lines().any(|line| !line.starts_with("8A") && !line.starts_with("8F") && number(line) == 3)
 }
 
+/// The line that an output calls faulty.
+pub fn faulty_line(output: &[u8]) -> Option<usize> {
+    output.starts_with(b"8F").then(|| field(&String::from_utf8_lossy(output), 2, 6))
+}
+
+/// The numbers in an output's answers, or in its refusal.
+pub fn numbers(output: &[u8]) -> BTreeSet<u8> {
+    let text = String::from_utf8_lossy(output);
+    text.lines().filter(|line| !line.starts_with("8A")).map(|line| number(line) as u8).collect()
+}
+
 /// Counts what was met in an output, once for a case.
 pub fn count(output: &[u8], tally: &mut Tally) {
     let text = String::from_utf8_lossy(output);
@@ -51,7 +67,7 @@ pub fn count(output: &[u8], tally: &mut Tally) {
     }
     // Answers 0 and 1 of one file all have the same count.
     if number(first) < 2 {
-        tally.rounds(field(first, first.len() - 4, first.len()) as u16);
+        tally.rounds(field(first, number_at(first) + 2, first.len()) as u32);
     }
     tally.met(match rounds.len() {
         0 => MET[0],
@@ -62,8 +78,17 @@ pub fn count(output: &[u8], tally: &mut Tally) {
     if number(first) == 3 && !rounds.is_empty() {
         tally.met(MET[4]);
     }
-    if rounds.iter().any(|line| field(line, 6, 10) >= MANY_MARKS) {
+    if rounds.iter().any(|line| added(line) >= MANY_MARKS) {
         tally.met(MET[5]);
+    }
+    if rounds.iter().any(|line| added(line) > 65_535) {
+        tally.met(MET[6]);
+    }
+    // An answer's count is as wide as the line is longer than its other fields.
+    let digits = first.len() - number_at(first) - 2;
+    tally.met(MET[if digits == 4 { 7 } else { 8 }]);
+    if !rounds.is_empty() {
+        tally.met(MET[if digits == 4 { 9 } else { 10 }]);
     }
     let of_one: BTreeSet<usize> =
         others.iter().filter(|line| line.starts_with("8E")).map(|line| number(line)).collect();
@@ -72,8 +97,21 @@ pub fn count(output: &[u8], tally: &mut Tally) {
 
 /// The number stands behind two bytes, but in 8E behind one.
 fn number(line: &str) -> usize {
-    let at = if line.starts_with("8E") { 4 } else { 6 };
+    let at = number_at(line);
     field(line, at, at + 2)
+}
+
+fn number_at(line: &str) -> usize {
+    if line.starts_with("8E") {
+        4
+    } else {
+        6
+    }
+}
+
+/// How many marks the round of such a line added: its two numbers are equally wide.
+fn added(line: &str) -> usize {
+    field(line, 1 + line.len() / 2, line.len())
 }
 
 fn field(line: &str, from: usize, to: usize) -> usize {

@@ -2,12 +2,14 @@
 
 use super::calls::{from_lent, lent, some_many_rounds, Asks, CountRow, Lent};
 use super::child::{run_desk, Driver, Words};
-use super::damage::{damaged, Damaged};
+use super::damage::{damaged, spoilt, Damaged};
 use super::deeds::{lent_with_others, noted, renoted, CHANGED};
 use super::dice::Dice;
-use super::expressions::{expressed, MOST_MARKS};
+use super::expressions::{self, expressed, MOST_MARKS};
 use super::generate::{broad, full, medium, over_a_thousand, small, Asked};
+use super::inputs;
 use super::long::long;
+use super::moved::moved;
 use super::outputs;
 use super::protocol;
 use super::rounds::rounds_lent;
@@ -15,10 +17,11 @@ use super::rows::{met, mixed_lent, mixed_met, row_lent};
 use super::tally::Tally;
 use super::text;
 use super::typed::{self, typed};
+use super::wide::{is_wide, joined, widened};
 use crate::collection::Collection;
-use crate::desk::desk;
-use crate::desk::read::read;
-use crate::library::{ask, ask_from, marks, SHAPES};
+use crate::desk::read::{read, Fault};
+use crate::desk::{desk, fault_line};
+use crate::library::{ask, ask_from, marks, role_and_test_marks, SHAPES};
 use std::collections::BTreeSet;
 
 /// What differed, with the input that shows it.
@@ -50,13 +53,13 @@ fn deals_with_itself(lent: &Lent) -> bool {
 fn desk_case(dice: &mut Dice, tally: &mut Tally) -> (Vec<u8>, Option<Damaged>) {
     type Make = fn(&mut Dice) -> Asked;
     let (kind, sound): (&str, Option<Make>) = match dice.below(1_000) {
-        0..=254 => ("small", Some(small)),
-        255..=304 => ("medium", Some(medium)),
-        305..=324 => ("full", Some(full)),
-        325..=328 => ("many rounds", Some(some_many_rounds)),
-        329..=394 => ("over a thousand rounds", Some(over_a_thousand)),
-        395..=439 => ("broad", Some(broad)),
-        440..=454 => ("long", None),
+        0..=239 => ("small", Some(small)),
+        240..=284 => ("medium", Some(medium)),
+        285..=304 => ("full", Some(full)),
+        305..=308 => ("many rounds", Some(some_many_rounds)),
+        309..=374 => ("over a thousand rounds", Some(over_a_thousand)),
+        375..=444 => ("broad", Some(broad)),
+        445..=457 => ("long", None),
         _ => ("damaged", None),
     };
     tally.kind(kind);
@@ -65,6 +68,10 @@ fn desk_case(dice: &mut Dice, tally: &mut Tally) -> (Vec<u8>, Option<Damaged>) {
         // These two are made for what their own question does.
         if !matches!(kind, "over a thousand rounds" | "broad") {
             asked = expressed(dice, asked, if kind == "small" { 6 } else { MOST_MARKS });
+        }
+        asked = widened(dice, asked, 60);
+        if kind == "small" {
+            asked = joined(dice, asked);
         }
         if asked.expression.is_some() {
             tally.kind("with an expression");
@@ -76,11 +83,21 @@ fn desk_case(dice: &mut Dice, tally: &mut Tally) -> (Vec<u8>, Option<Damaged>) {
     (text::input(dice, &damaged.lines), Some(damaged))
 }
 
+/// Sound inputs below this length are asked once more with a line that is not.
+const MOST_SPOILT: usize = 20_000;
+
 /// Part (a): a desk program against module `desk`, byte for byte.
 pub fn desk_part(words: &Words, mut dice: Dice, tally: &mut Tally) -> Outcome {
     let (input, made_for) = desk_case(&mut dice, tally);
     let expected = desk(&input);
     outputs::count(&expected, tally);
+    let wide = is_wide(inputs::states(&input).unwrap_or(0));
+    if wide {
+        outputs::numbers(&expected).into_iter().for_each(|number| tally.wide(number));
+    }
+    inputs::met(&input, outputs::faulty_line(&expected).unwrap_or(usize::MAX))
+        .into_iter()
+        .for_each(|what| tally.met(what));
     let itself = |input: &[u8], expected: &[u8], found: &[u8]| Difference {
         input: input.to_vec(),
         expected: String::from_utf8_lossy(expected).into_owned(),
@@ -99,14 +116,29 @@ pub fn desk_part(words: &Words, mut dice: Dice, tally: &mut Tally) -> Outcome {
             }
         }
     }
+    let sound = made_for.is_none();
     if let Some(damaged) = made_for {
-        let line = format!("8F{:04X}{:02X}\n", damaged.at, damaged.number).into_bytes();
+        let line = fault_line(Fault { line: damaged.at, number: damaged.number });
         if line != expected {
             return Err(itself(&input, &line, &expected));
         }
         damaged.also.iter().for_each(|also| tally.order(damaged.number, *also));
     }
     writes(words, &input, &expected)?;
+    if sound && input.len() < MOST_SPOILT {
+        let (input, at, number) = spoilt(&mut dice, &input);
+        tally.number(number);
+        if wide {
+            tally.wide(number);
+        }
+        inputs::met(&input, at).into_iter().for_each(|what| tally.met(what));
+        let expected = fault_line(Fault { line: at, number });
+        let found = desk(&input);
+        if found != expected {
+            return Err(itself(&input, &expected, &found));
+        }
+        writes(words, &input, &expected)?;
+    }
     let Some((what, other)) = renoted(&mut dice, &input) else { return Ok(()) };
     tally.met(what);
     match desk(&other) {
@@ -143,6 +175,9 @@ fn one_ask(driver: &mut Driver, lent: Lent, dice: &mut Dice, tally: &mut Tally) 
     let (answers, expected) = protocol::answer(&lent);
     let (number, count) = answers.expect("one ask is always answered")[0];
     tally.number(number);
+    if is_wide(lent.call.counts[3]) {
+        tally.wide(number);
+    }
     if number < 2 {
         tally.rounds(count);
     }
@@ -207,6 +242,9 @@ fn one_row(driver: &mut Driver, lent: Lent, dice: &mut Dice, tally: &mut Tally) 
     let answers = answers.unwrap_or_default();
     let numbers: BTreeSet<u8> = answers.iter().map(|answer| answer.0).collect();
     numbers.iter().for_each(|number| tally.number(*number));
+    if is_wide(lent.call.counts[3]) {
+        numbers.iter().for_each(|number| tally.wide(*number));
+    }
     if numbers.iter().any(|number| *number < 4) && deals_with_itself(&lent) {
         tally.met(SELF_DEALING);
     }
@@ -234,6 +272,9 @@ pub fn typed_part(driver: &mut Driver, mut dice: Dice, tally: &mut Tally) -> Out
     let (made, expected) = protocol::answer_expression(&typed);
     let number = made.as_ref().err().copied().unwrap_or(0);
     tally.number(number);
+    if expressions::MANY_MARKS.contains(&role_and_test_marks(&typed.marks)) {
+        tally.wide(number);
+    }
     typed::met(&typed, made.as_ref().ok()).into_iter().for_each(|what| tally.met(what));
     let request = protocol::request_expression(&typed);
     if let Some(planted) = typed.planted.filter(|planted| *planted != number) {
@@ -252,6 +293,16 @@ fn replies(driver: &mut Driver, request: String, expected: &str) -> Outcome {
         Err(error) => error.to_string(),
     };
     Err(Difference { input: request.into_bytes(), expected: expected.to_string(), found })
+}
+
+/// Part (i): an area moved to the places of today or back, likewise: the number, both areas and what lies behind them.
+pub fn moved_part(driver: &mut Driver, mut dice: Dice, tally: &mut Tally) -> Outcome {
+    let (moved, met) = moved(&mut dice);
+    tally.kind(moved.kind);
+    met.into_iter().for_each(|what| tally.met(what));
+    let (number, expected) = protocol::answer_moved(&moved);
+    tally.number(number);
+    replies(driver, protocol::request_moved(&moved), &expected)
 }
 
 /// Part (g): likewise of how many marks each round makes, with how many rounds are told, the row of counts and what lies

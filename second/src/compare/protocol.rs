@@ -1,8 +1,9 @@
 //! The line protocol of PROTOCOL.md: one library call per line in hexadecimal, one line back.
 
 use super::calls::{Asks, CountRow, Lent, Row};
+use super::moved::Moved;
 use super::typed::Typed;
-use crate::area::AREA;
+use crate::area::{from_16, to_16, AREA};
 use crate::library::{ask, ask_all, ask_from, ask_row, made_of, marks, Call, Made};
 
 /// Bytes behind each area that the call must not touch; they are filled with the complement of the area's fill. So it is
@@ -15,14 +16,15 @@ pub const MOST_AREA: usize = 8 * AREA;
 /// The most entries that are lent for a row's numbers, and for its counts.
 pub const MOST_ENTRIES: usize = 1_024;
 
-/// The most counts that a row has room for: twice as many as two bytes can tell apart.
+/// The most counts that a row has room for: twice as many as two bytes can tell apart, and more than rounds can be needed.
 pub const MOST_ROOM: usize = 2 << 16;
 
 /// The most numbers that are lent for steps, and for finals.
-pub const MOST_MADE: usize = 4_096;
+pub const MOST_MADE: usize = 8_192;
 
-/// What stands before the call where a number is to be told.
+/// What stands before the call where a number is to be told, and where a count is.
 const UNTOLD: u16 = 0xFFFF;
+const UNCOUNTED: u32 = u32::MAX;
 
 /// A line that asks for a row begins with it; it is no digit.
 const ROW: char = 'R';
@@ -39,11 +41,18 @@ const ROUNDS: char = 'N';
 /// Likewise a line that asks for the tables of an expression.
 const EXPRESSION: char = 'M';
 
+/// Likewise a line that has an area moved: a stored one to the places of today, or one of today to the stored places.
+const FROM_16: char = 'S';
+const TO_16: char = 'T';
+
 /// The reply line to any line.
 pub fn reply(line: &str) -> String {
-    let replied = match line.strip_prefix(EXPRESSION) {
-        Some(digits) => read_expression(digits).map(|typed| answer_expression(&typed).1),
-        None => read_request(line).map(|lent| answer(&lent).1),
+    let replied = match line.chars().next() {
+        Some(EXPRESSION) => read_expression(&line[1..]).map(|typed| answer_expression(&typed).1),
+        Some(kind @ (FROM_16 | TO_16)) => {
+            read_moved(kind == TO_16, &line[1..]).map(|moved| answer_moved(&moved).1)
+        }
+        _ => read_request(line).map(|lent| answer(&lent).1),
     };
     replied.unwrap_or("!".to_string())
 }
@@ -64,7 +73,7 @@ pub fn request(lent: &Lent) -> String {
         }
         Asks::Rounds(_) => line.insert(0, ROUNDS),
     }
-    line += &digits(&[call.allowance]);
+    line += &format!("{:08X}", call.allowance);
     let ([area, spare], [first, second]) = (lent.lengths, lent.fills);
     line += &format!("{area:08X}{spare:08X}{first:02X}{second:02X}");
     match &lent.asks {
@@ -107,7 +116,7 @@ pub fn read_request(line: &str) -> Option<Lent> {
             }
         }
     };
-    let [allowance] = take_numbers(&mut digits)?;
+    let allowance = take(&mut digits, 8)? as u32;
     let lengths = [take(&mut digits, 8)?, take(&mut digits, 8)?];
     let fills = [take(&mut digits, 2)? as u8, take(&mut digits, 2)? as u8];
     let held = match &mut asks {
@@ -150,16 +159,16 @@ fn take(digits: &mut &str, width: usize) -> Option<usize> {
 
 /// The answers that module `library` gives, None where a row is refused, and the reply line. Of how many marks
 /// each round makes there is one, whose count is how many rounds are told.
-pub fn answer(lent: &Lent) -> (Option<Vec<(u8, u16)>>, String) {
+pub fn answer(lent: &Lent) -> (Option<Vec<(u8, u32)>>, String) {
     let [mut area, mut spare] = [0, 1].map(|which| vec![lent.fills[which]; lent.lengths[which]]);
     let (answers, told) = match &lent.asks {
         Asks::Pair(pair) => {
             let (number, count) = ask(&lent.call, *pair, &mut area, &mut spare);
-            (Some(vec![(number, count)]), format!("{number:02X}{count:04X}"))
+            (Some(vec![(number, count)]), format!("{number:02X}{count:08X}"))
         }
         Asks::From(first) => {
             let (number, count) = ask_from(&lent.call, *first, &mut area, &mut spare);
-            (Some(vec![(number, count)]), format!("{number:02X}{count:04X}"))
+            (Some(vec![(number, count)]), format!("{number:02X}{count:08X}"))
         }
         Asks::Row(row) => {
             let answers = ask_all(&lent.call, &row.asked, row.entries, &mut area, &mut spare);
@@ -175,7 +184,7 @@ pub fn answer(lent: &Lent) -> (Option<Vec<(u8, u16)>>, String) {
         Asks::Rounds(row) => {
             let (number, added) = marks(&lent.call, row.room, &mut area, &mut spare);
             let (rounds, behind) = put_into(row, added.as_deref());
-            (Some(vec![(number, rounds)]), format!("{number:02X}{rounds:04X}{behind}"))
+            (Some(vec![(number, rounds)]), format!("{number:02X}{rounds:08X}{behind}"))
         }
     };
     let guards = lent.fills.map(|fill| hash(&[!fill; GUARD]));
@@ -185,25 +194,27 @@ pub fn answer(lent: &Lent) -> (Option<Vec<(u8, u16)>>, String) {
 
 /// What the call gives, then the entries of numbers and of counts, each with what lies behind it. Without answers they are
 /// as they were filled.
-fn told(row: &Row, given: u8, answers: Option<&[(u8, u16)]>) -> String {
-    let filled = u16::from_le_bytes([row.fill; 2]);
-    let (numbers, counts): (Vec<u8>, Vec<u16>) = match answers {
+fn told(row: &Row, given: u8, answers: Option<&[(u8, u32)]>) -> String {
+    let filled = u32::from_le_bytes([row.fill; 4]);
+    let (numbers, counts): (Vec<u8>, Vec<u32>) = match answers {
         Some(answers) => answers.iter().copied().unzip(),
         None => (vec![row.fill; row.entries[0]], vec![filled; row.entries[1]]),
     };
     let numbers: String = numbers.iter().map(|number| format!("{number:02X}")).collect();
+    let counts: String = counts.iter().map(|count| format!("{count:08X}")).collect();
     let behind = hash(&[!row.fill; GUARD]);
-    format!("{given:02X}{numbers}{behind:016X}{}{behind:016X}", digits(&counts))
+    format!("{given:02X}{numbers}{behind:016X}{counts}{behind:016X}")
 }
 
 /// How many rounds are told, and the hashes of the row and of what lies behind it. Without counts all is as it was before.
-fn put_into(row: &CountRow, counts: Option<&[u16]>) -> (u16, String) {
-    let mut after = vec![u16::from_le_bytes([row.fill; 2]); row.room];
-    let told = counts.map_or(UNTOLD, |counts| {
+fn put_into(row: &CountRow, counts: Option<&[u32]>) -> (u32, String) {
+    let mut after = vec![u32::from_le_bytes([row.fill; 4]); row.room];
+    let told = counts.map_or(UNCOUNTED, |counts| {
         after[..counts.len()].copy_from_slice(counts);
-        counts.len() as u16
+        counts.len() as u32
     });
-    (told, format!("{:016X}{:016X}", hash_numbers(&after), hash(&[!row.fill; GUARD])))
+    let after: Vec<u8> = after.iter().flat_map(|count| count.to_le_bytes()).collect();
+    (told, format!("{:016X}{:016X}", hash(&after), hash(&[!row.fill; GUARD])))
 }
 
 pub fn request_expression(typed: &Typed) -> String {
@@ -238,6 +249,34 @@ pub fn answer_expression(typed: &Typed) -> (Result<Made, u8>, String) {
     let behind = hash(&[!typed.fill; GUARD]);
     let told = digits(&told);
     (made, format!("{number:02X}{told}{steps:016X}{finals:016X}{behind:016X}{behind:016X}"))
+}
+
+pub fn request_moved(moved: &Moved) -> String {
+    let kind = if moved.back { TO_16 } else { FROM_16 };
+    let bytes: String = moved.before.iter().map(|byte| format!("{byte:02X}")).collect();
+    let (before, after, fill) = (moved.before.len(), moved.after, moved.fill);
+    format!("{kind}{before:08X}{bytes}{after:08X}{fill:02X}")
+}
+
+/// What stands behind the letter; None when the line isn't a request.
+fn read_moved(back: bool, mut digits: &str) -> Option<Moved> {
+    let many = take(&mut digits, 8).filter(|many| *many <= MOST_AREA)?;
+    let before = (0..many).map(|_| Some(take(&mut digits, 2)? as u8)).collect::<Option<_>>()?;
+    let after = take(&mut digits, 8).filter(|many| *many <= MOST_AREA)?;
+    let fill = take(&mut digits, 2)? as u8;
+    digits.is_empty().then_some(Moved { kind: "", back, before, after, fill })
+}
+
+/// The number that module `area` gives, and the reply line.
+pub fn answer_moved(moved: &Moved) -> (u8, String) {
+    let mut after = vec![moved.fill; moved.after];
+    let number = match moved.back {
+        true => to_16(&moved.before, &mut after),
+        false => from_16(&moved.before, &mut after),
+    };
+    let (before, after) = (hash(&moved.before), hash(&after));
+    let behind = hash(&[!moved.fill; GUARD]);
+    (number, format!("{number:02X}{before:016X}{after:016X}{behind:016X}{behind:016X}"))
 }
 
 /// Each number as two bytes, the low one first.

@@ -1,7 +1,8 @@
 //! Rows of pairs and of both kinds of ask for the library: of every length, with undeclared individuals in every place, and
 //! with lengths and kinds that do not fit.
 
-use super::calls::{call_of, make_stranger, make_wild, pair_of, plant, some_many_rounds, Asks, Lent, Row};
+use super::calls::{call_of, make_stranger, make_wild, pair_of, plant, some_many_rounds, some_wide};
+use super::calls::{Asks, Lent, Row};
 use super::deeds::CHANGED;
 use super::dice::Dice;
 use super::generate::{full, medium, small, Asked};
@@ -76,6 +77,7 @@ fn lent_for(dice: &mut Dice, asks: impl Fn(&mut Dice, &Asked) -> Asks) -> Lent {
         582..=619 => ("wild", small(dice)),
         _ => ("damaged", small(dice)),
     };
+    let asked = some_wide(dice, asked);
     let fills = [dice.below(256) as u8, dice.below(256) as u8];
     let asks = asks(dice, &asked);
     let call = call_of(dice, &asked);
@@ -176,15 +178,15 @@ fn misfit(dice: &mut Dice, row: &mut Row, width: usize) {
 }
 
 /// What a row is, of those of `MET`; it is answered unless a length does not fit.
-pub fn met(row: &Row, answers: Option<&[(u8, u16)]>) -> Vec<&'static str> {
+pub fn met(row: &Row, answers: Option<&[(u8, u32)]>) -> Vec<&'static str> {
     match answers {
         Some(answers) => met_answered(answers),
         None => met_refused(row),
     }
 }
 
-fn met_answered(answers: &[(u8, u16)]) -> Vec<&'static str> {
-    let stranger = |answer: &(u8, u16)| answer.0 == 8;
+fn met_answered(answers: &[(u8, u32)]) -> Vec<&'static str> {
+    let stranger = |answer: &(u8, u32)| answer.0 == 8;
     let between = answers.get(1..answers.len().saturating_sub(1)).unwrap_or_default();
     let last = answers.last().is_some_and(stranger);
     let length = match answers.len() {
@@ -227,19 +229,19 @@ fn so_of(faults: impl Iterator<Item = (&'static str, bool)>) -> Vec<&'static str
 }
 
 /// What a row of both kinds of ask is, of those of `MIXED_MET`; it is answered unless a length or a kind does not fit.
-pub fn mixed_met(row: &Row, individuals: u16, answers: Option<&[(u8, u16)]>) -> Vec<&'static str> {
+pub fn mixed_met(row: &Row, individuals: u16, answers: Option<&[(u8, u32)]>) -> Vec<&'static str> {
     match answers {
         Some(answers) => mixed_answered(row, individuals, answers),
         None => mixed_refused(row),
     }
 }
 
-fn mixed_answered(row: &Row, individuals: u16, answers: &[(u8, u16)]) -> Vec<&'static str> {
+fn mixed_answered(row: &Row, individuals: u16, answers: &[(u8, u32)]) -> Vec<&'static str> {
     let asks: Vec<&[u16]> = row.asked.chunks_exact(ASK).collect();
     let ones = asks.iter().filter(|ask| ask[0] == 1).count();
     let refused = |kind: u16| asks.iter().zip(answers).any(|(ask, answer)| ask[0] == kind && answer.0 == 8);
-    let unread = |(ask, answer): (&&[u16], &(u8, u16))| ask[0] == 1 && ask[2] >= individuals && answer.0 < 4;
-    let around = |three: &[(u8, u16)]| three[1].0 == 8 && three[0].0 != 8 && three[2].0 != 8;
+    let unread = |(ask, answer): (&&[u16], &(u8, u32))| ask[0] == 1 && ask[2] >= individuals && answer.0 < 4;
+    let around = |three: &[(u8, u32)]| three[1].0 == 8 && three[0].0 != 8 && three[2].0 != 8;
     let faults = [
         ("no ask", asks.is_empty()),
         ("asks of one kind", !asks.is_empty() && (ones == 0 || ones == asks.len())),

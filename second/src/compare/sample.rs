@@ -22,7 +22,7 @@ pub fn sample(kind: &str, seed: u64) -> Option<Vec<u8>> {
                 _ => return None,
             };
             if kind == "rounds" {
-                asked.allowance = Some(u16::MAX);
+                asked.allowance = Some(u32::MAX);
             }
             text::lines(dice, &asked)
         }

@@ -5,6 +5,13 @@ use std::collections::BTreeMap;
 /// A number hit in fewer cases than this fails the comparison.
 pub const LEAST_HITS: u64 = 50;
 
+/// What must be hit often enough in a part: numbers, numbers of cases with 17 to 32 states, and what else is to be met.
+pub struct Wanted<'a> {
+    pub numbers: &'a [u8],
+    pub wide: &'a [u8],
+    pub met: &'a [&'static str],
+}
+
 #[derive(Default)]
 pub struct Tally {
     pub cases: u64,
@@ -12,6 +19,8 @@ pub struct Tally {
     /// Cases the built-out model was too large for.
     pub skipped: u64,
     numbers: BTreeMap<u8, u64>,
+    /// Those of cases with 17 to 32 states.
+    wide: BTreeMap<u8, u64>,
     kinds: BTreeMap<&'static str, u64>,
     rounds: BTreeMap<u32, u64>,
     faulty_lines: BTreeMap<u32, u64>,
@@ -30,8 +39,13 @@ impl Tally {
         *self.numbers.entry(number).or_default() += 1;
     }
 
-    pub fn rounds(&mut self, rounds: u16) {
-        *self.rounds.entry(bucket(rounds.into())).or_default() += 1;
+    /// Likewise where 17 to 32 states are declared, or made of an expression.
+    pub fn wide(&mut self, number: u8) {
+        *self.wide.entry(number).or_default() += 1;
+    }
+
+    pub fn rounds(&mut self, rounds: u32) {
+        *self.rounds.entry(bucket(rounds as usize)).or_default() += 1;
     }
 
     pub fn faulty_line(&mut self, line: usize) {
@@ -62,6 +76,7 @@ impl Tally {
         self.failed += other.failed;
         self.skipped += other.skipped;
         add(&mut self.numbers, other.numbers);
+        add(&mut self.wide, other.wide);
         add(&mut self.kinds, other.kinds);
         add(&mut self.rounds, other.rounds);
         add(&mut self.faulty_lines, other.faulty_lines);
@@ -78,6 +93,7 @@ impl Tally {
         println!("  cases {}, different {}{skipped}", self.cases, self.failed);
         print_row("kinds", &self.kinds, |kind| kind.to_string());
         print_row("numbers (cases that had them)", &self.numbers, |number| number.to_string());
+        print_row("of 17 to 32 states", &self.wide, |number| number.to_string());
         print_row("rounds", &self.rounds, range);
         print_row("faulty line", &self.faulty_lines, range);
         print_row("depth of the model", &self.depths, |depth| depth.to_string());
@@ -85,13 +101,16 @@ impl Tally {
         print_row("met", &self.met, |met| met.to_string());
     }
 
-    /// Those of the numbers, and of what else is to be met, that were hit too seldom.
-    pub fn too_seldom(&self, numbers: &[u8], met: &[&'static str]) -> Vec<String> {
+    /// Those of the numbers, of all cases and of those with 17 to 32 states, and of what else is to be met, that were hit too
+    /// seldom.
+    pub fn too_seldom(&self, wanted: &Wanted) -> Vec<String> {
         let seldom = |hits: Option<&u64>| hits.copied().unwrap_or(0) < LEAST_HITS;
-        let numbers = numbers.iter().filter(|number| seldom(self.numbers.get(number)));
-        let met = met.iter().filter(|what| seldom(self.met.get(*what)));
+        let numbers = wanted.numbers.iter().filter(|number| seldom(self.numbers.get(number)));
+        let wide = wanted.wide.iter().filter(|number| seldom(self.wide.get(number)));
+        let met = wanted.met.iter().filter(|what| seldom(self.met.get(*what)));
         let numbers = numbers.map(|number| format!("number {number}"));
-        numbers.chain(met.map(|what| format!("\"{what}\""))).collect()
+        let wide = wide.map(|number| format!("number {number} of 17 to 32 states"));
+        numbers.chain(wide).chain(met.map(|what| format!("\"{what}\""))).collect()
     }
 }
 

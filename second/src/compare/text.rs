@@ -31,12 +31,19 @@ pub fn lines(dice: &mut Dice, asked: &Asked) -> Vec<Vec<u8>> {
     }
     lines.extend(question(asked));
     lines.extend(asked.asks.iter().map(|ask| line(&ask.frame())));
-    lines.extend(asked.allowance.map(|rounds| line(&[0x0C, (rounds >> 8) as u8, rounds as u8])));
+    lines.extend(asked.allowance.map(|rounds| line(&allowance(dice, rounds))));
     dice.shuffle(&mut lines);
     let counts = &collection.counts;
     lines
         .insert(0, line(&[1, counts.names, counts.roles, counts.individuals, counts.states, counts.start.0]));
     lines
+}
+
+/// The frame 0C: two bytes or four, where two can hold it.
+pub fn allowance(dice: &mut Dice, rounds: u32) -> Vec<u8> {
+    let bytes = rounds.to_be_bytes();
+    let short = rounds <= u16::MAX.into() && dice.percent(50);
+    [&[0x0C], &bytes[if short { 2 } else { 0 }..]].concat()
 }
 
 /// The steps and finals, or the expression that they are made of.

@@ -4,6 +4,7 @@ use super::deeds::throw_deed;
 use super::dice::Dice;
 use crate::clash::{breaks_concepts, breaks_roles, element_concepts, last_roles, pair_roles};
 use crate::collection::{Collection, ConceptFact, Counts, RoleFact, Step};
+use crate::desk::question::{MOST_FINALS, MOST_STEPS};
 use crate::numbers::{Concept, Individual, Role, State};
 use crate::order::Orders;
 use crate::people::People;
@@ -72,7 +73,7 @@ fn throw_state(dice: &mut Dice, counts: &Counts) -> State {
     State(dice.below(usize::from(counts.states)) as u8)
 }
 
-fn throw_step(dice: &mut Dice, counts: &Counts) -> Option<Step> {
+pub fn throw_step(dice: &mut Dice, counts: &Counts) -> Option<Step> {
     let (from, to) = (throw_state(dice, counts), throw_state(dice, counts));
     let test = counts.names > 0 && dice.percent(25);
     if test {
@@ -215,8 +216,8 @@ pub fn repeat_to_the_most(dice: &mut Dice, collection: &mut Collection) {
     fill(dice, &mut collection.role_exclusions, 128);
     fill(dice, &mut collection.concept_facts, 1_024);
     fill(dice, &mut collection.role_facts, 4_096);
-    fill(dice, &mut collection.steps, 512);
-    fill(dice, &mut collection.finals, 16);
+    fill(dice, &mut collection.steps, MOST_STEPS);
+    fill(dice, &mut collection.finals, MOST_FINALS);
     if dice.percent(50) {
         collection.concept_facts.iter_mut().for_each(|fact| fact.deed = throw_deed(dice));
         collection.role_facts.iter_mut().for_each(|fact| fact.deed = throw_deed(dice));

@@ -10,24 +10,27 @@ use crate::library::{role_and_test_marks, Made, ROOM};
 /// What the library can answer a row of marks with: its tables are made, or why none are.
 pub const NUMBERS: [u8; 5] = [0, 5, 12, 13, 14];
 
+/// What it can answer where there are 16 to 31 role and test marks.
+pub const WIDE: [u8; 4] = [0, 5, 12, 13];
+
 /// What such a row can be, beside the number it is answered with.
 pub const MET: [&str; 12] = [
     "no mark",
     "one mark",
-    "2 to 31 marks",
-    "32 to 255 marks",
+    "2 to 64 marks",
+    "65 to 255 marks",
     "over 255 marks",
     "the empty word",
     "brackets 8 deep",
-    "15 role and test marks",
-    "16 role and test marks",
+    "31 role and test marks",
+    "32 role and test marks",
     "too few numbers for steps",
     "too few numbers for finals",
     "numbers to spare",
 ];
 
 /// The most marks of a row that isn't meant to be long.
-const MOST: usize = 44;
+const MOST: usize = 90;
 
 pub struct Typed {
     pub kind: &'static str,
@@ -45,9 +48,9 @@ pub fn typed(dice: &mut Dice) -> Typed {
         0..=34 => ("sound", sound(dice, &letters), Some(0)),
         35..=46 => ("damaged", damaged(dice, &letters), Some(12)),
         47..=51 => ("deep", deep_row(dice, &letters, &mut Vec::new()), Some(13)),
-        52..=57 => ("nested", nested(dice, &letters), Some(13)),
-        58..=67 => ("many marks", many_marks(dice, &letters), Some(14)),
-        68..=89 => ("wild", wild(dice, &letters), None),
+        52..=59 => ("nested", nested(dice, &letters), Some(13)),
+        60..=68 => ("many marks", many_marks(dice, &letters), Some(14)),
+        69..=89 => ("wild", wild(dice, &letters), None),
         _ => {
             let (marks, number) = long(dice, &letters);
             ("long", marks, Some(number))
@@ -56,7 +59,7 @@ pub fn typed(dice: &mut Dice) -> Typed {
     let mut typed = Typed { kind, marks, rows: ROOM, fill: dice.below(256) as u8, planted };
     match dice.below(100) {
         0..=19 => make_short(dice, &mut typed),
-        20..=39 => typed.rows = ROOM.map(|least| least + dice.below(2_000) / dice.pick(&[1, 100, 2_000])),
+        20..=39 => typed.rows = ROOM.map(|least| least + dice.below(4_000) / dice.pick(&[1, 100, 2_000])),
         _ => {}
     }
     typed
@@ -74,7 +77,7 @@ fn letters(dice: &mut Dice) -> Vec<u8> {
 
 fn sound(dice: &mut Dice, letters: &[u8]) -> Vec<u8> {
     let (few, any) = (dice.between(1, 6), dice.between(1, MOST_MARKS));
-    let marks = dice.pick(&[1, few, any, MOST_MARKS]);
+    let marks = dice.pick(&[1, few, any, any, MOST_MARKS]);
     let deep = dice.pick(&[0, 1, 2, 3, 8, 8]);
     throw_marks(dice, letters, [marks, deep], MOST)
 }
@@ -91,7 +94,8 @@ fn damaged(dice: &mut Dice, letters: &[u8]) -> Vec<u8> {
 /// An expression but for its depth, 9 or 10; and sometimes for its count of role and test marks.
 fn nested(dice: &mut Dice, letters: &[u8]) -> Vec<u8> {
     let (few, deep) = (dice.between(1, 6), dice.between(9, 10));
-    let marks = dice.pick(&[few, few, MOST_MARKS + 1]);
+    let many = dice.between(16, MOST_MARKS);
+    let marks = dice.pick(&[few, many, many, MOST_MARKS + 1]);
     loop {
         let row = throw_marks(dice, letters, [marks, deep], MOST);
         if depth(&row) > 8 {
@@ -102,7 +106,7 @@ fn nested(dice: &mut Dice, letters: &[u8]) -> Vec<u8> {
 
 /// An expression but for the count of its role and test marks.
 fn many_marks(dice: &mut Dice, letters: &[u8]) -> Vec<u8> {
-    let more = dice.between(MOST_MARKS + 1, 22);
+    let more = dice.between(MOST_MARKS + 1, 45);
     let marks = dice.pick(&[MOST_MARKS + 1, MOST_MARKS + 1, more]);
     let deep = dice.below(4);
     throw_marks(dice, letters, [marks, deep], MOST)
@@ -131,7 +135,7 @@ fn long(dice: &mut Dice, letters: &[u8]) -> (Vec<u8>, u8) {
     let letter = dice.pick(letters);
     match dice.below(6) {
         // So many that a byte, or two, would hold a count that can be declared.
-        0 => (vec![letter; 256 + dice.below(17)], 14),
+        0 => (vec![letter; 256 + dice.below(33)], 14),
         1 => (vec![letter; 65_535], 14),
         // Brackets closed, and then not so many more opened that it is too deep; or one more.
         2 => {
@@ -177,17 +181,17 @@ pub fn met(typed: &Typed, made: Option<&Made>) -> Vec<&'static str> {
     let length = match typed.marks.len() {
         0 => "no mark",
         1 => "one mark",
-        2..=31 => "2 to 31 marks",
-        32..=255 => "32 to 255 marks",
+        2..=64 => "2 to 64 marks",
+        65..=255 => "65 to 255 marks",
         _ => "over 255 marks",
     };
     let ([steps, finals], states) = (typed.rows, made.map_or(0, |made| made.states));
-    let sixteen = role_and_test_marks(&typed.marks) == MOST_MARKS + 1;
+    let one_more = role_and_test_marks(&typed.marks) == MOST_MARKS + 1;
     let parts = [
         ("the empty word", made.is_some_and(|made| made.tables[1].first() == Some(&0))),
         ("brackets 8 deep", made.is_some() && depth(&typed.marks) == 8),
-        ("15 role and test marks", usize::from(states) == MOST_MARKS + 1),
-        ("16 role and test marks", sixteen && stand(typed) == [14]),
+        ("31 role and test marks", usize::from(states) == MOST_MARKS + 1),
+        ("32 role and test marks", one_more && stand(typed) == [14]),
         ("too few numbers for steps", steps < ROOM[0] && finals >= ROOM[1]),
         ("too few numbers for finals", finals < ROOM[1] && steps >= ROOM[0]),
         ("numbers to spare", made.is_some() && (steps > ROOM[0] || finals > ROOM[1])),

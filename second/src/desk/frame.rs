@@ -35,12 +35,23 @@ pub enum Frame {
     Ask(u8, u8),
     /// Of one individual.
     AskFrom(u8),
-    Allowance(u16),
+    Allowance(u32),
     /// The marks of an expression; no number of them is the wrong length.
     Expression(Vec<u8>),
 }
 
-const MOST_CHARACTERS: usize = 64;
+/// The most characters of a line, and of one that begins with the two characters 0D.
+pub const MOST_CHARACTERS: usize = 64;
+pub const MOST_OF_EXPRESSION: usize = 130;
+
+/// The most characters that a line may have which begins so.
+pub fn most_characters(line: &[u8]) -> usize {
+    if line.starts_with(b"0D") {
+        MOST_OF_EXPRESSION
+    } else {
+        MOST_CHARACTERS
+    }
+}
 
 /// Number 9, then number 10.
 pub fn frame(line: &[u8]) -> Result<Frame, u8> {
@@ -49,7 +60,7 @@ pub fn frame(line: &[u8]) -> Result<Frame, u8> {
 }
 
 fn digits(line: &[u8]) -> Option<Vec<u8>> {
-    if line.is_empty() || line.len() > MOST_CHARACTERS || line.len() % 2 == 1 {
+    if line.is_empty() || line.len() > most_characters(line) || line.len() % 2 == 1 {
         return None;
     }
     line.chunks(2).map(|pair| Some(digit(pair[0])? * 16 + digit(pair[1])?)).collect()
@@ -80,7 +91,8 @@ fn shaped(bytes: &[u8]) -> Option<Frame> {
         [0x09, from, name, to] => Frame::TestStep { from, name, to },
         [0x0A, state] => Frame::Final(state),
         [0x0B, first, second] => Frame::Ask(first, second),
-        [0x0C, high, low] => Frame::Allowance(u16::from_be_bytes([high, low])),
+        [0x0C, high, low] => Frame::Allowance(u16::from_be_bytes([high, low]).into()),
+        [0x0C, a, b, c, d] => Frame::Allowance(u32::from_be_bytes([a, b, c, d])),
         [0x0E, first] => Frame::AskFrom(first),
         [0x0D, ref marks @ ..] => Frame::Expression(marks.to_vec()),
         _ => return None,

@@ -4,6 +4,8 @@ pub mod frame;
 pub mod question;
 pub mod read;
 
+use crate::ask::Ask;
+use crate::numbers::FEW_STATES;
 use crate::prepared::Prepared;
 use read::{Fault, File};
 
@@ -14,20 +16,34 @@ pub fn desk(input: &[u8]) -> Vec<u8> {
     }
 }
 
-/// 8F, line number (two bytes), number. No faulty line stands beyond 7,187: by then some table is over-full.
+/// 8F, line number (two bytes), number. No faulty line stands beyond 7,715: by then some table is over-full.
 pub fn fault_line(fault: Fault) -> Vec<u8> {
     let [high, low] = (fault.line as u16).to_be_bytes();
     written(&[0x8F, high, low, fault.number])
 }
 
-/// 8A, round (two bytes), marks added (two bytes).
-pub fn round_line(round: u16, added: u16) -> Vec<u8> {
-    let ([high, low], [more, less]) = (round.to_be_bytes(), added.to_be_bytes());
-    written(&[0x8A, high, low, more, less])
+/// A count as it is written, and a round's number: two bytes where at most 16 states are declared, else four.
+fn count(states: u8, count: u32) -> Vec<u8> {
+    let bytes = count.to_be_bytes();
+    // Of at most 16 states no count is above 30,720.
+    let few = u16::from(states) <= FEW_STATES;
+    bytes[if few { 2 } else { 0 }..].to_vec()
 }
 
-/// A line for each worked round, once; then one for each ask, in the order asked: 8B, first, second, or 8E, individual; and
-/// answer, count (two bytes).
+/// 8A, round, marks added, each as wide as a count of so many states.
+pub fn round_line(states: u8, round: u32, added: u32) -> Vec<u8> {
+    written(&[vec![0x8A], count(states, round), count(states, added)].concat())
+}
+
+/// 8B, first, second, or 8E, individual; and the number and the count of so many states.
+pub fn answer_line(states: u8, ask: Ask, number: u8, rounds: u32) -> Vec<u8> {
+    let mut bytes = ask.frame();
+    bytes[0] |= 0x80;
+    bytes.push(number);
+    written(&[bytes, count(states, rounds)].concat())
+}
+
+/// A line for each worked round, once; then one for each ask, in the order asked.
 fn answers(file: &File) -> Vec<u8> {
     // Every ask reads the whole file, so the collection is prepared once; without an ask there is no need.
     if file.asks.is_empty() {
@@ -35,10 +51,11 @@ fn answers(file: &File) -> Vec<u8> {
     }
     let mut prepared = Prepared::of(&file.collection, file.allowance());
     let rounds = (1..).zip(prepared.added().unwrap_or_default());
-    let mut output: Vec<u8> = rounds.flat_map(|(round, added)| round_line(round, *added)).collect();
+    let states = file.collection.counts.states;
+    let mut output: Vec<u8> = rounds.flat_map(|(round, added)| round_line(states, round, *added)).collect();
     for &ask in &file.asks {
-        let (number, count) = prepared.answer(ask);
-        output.extend(written(&ask.answered(number, count)));
+        let (number, rounds) = prepared.answer(ask);
+        output.extend(answer_line(states, ask, number, rounds));
     }
     output
 }

@@ -7,6 +7,11 @@ use crate::expression::automaton::Automaton;
 use crate::expression::{read, Letter};
 use crate::numbers::State;
 
+/// Role steps and test steps together.
+pub const MOST_STEPS: usize = 1_024;
+
+pub const MOST_FINALS: usize = 32;
+
 /// A question typed as an expression, and its automaton.
 pub struct Typed {
     pub marks: Vec<u8>,
@@ -25,7 +30,7 @@ pub fn question(file: &mut File, frame: Frame, at: usize) -> Result<(), u8> {
     let step = match frame {
         Frame::Final(state) => {
             let record = counts.state(state.into());
-            return put(&mut collection.finals, &mut lines.finals, 16, at, record);
+            return put(&mut collection.finals, &mut lines.finals, MOST_FINALS, at, record);
         }
         Frame::RoleStep { from, role, to } => {
             let read = ends(from, to).zip(counts.signed_role(role.into()));
@@ -38,7 +43,7 @@ pub fn question(file: &mut File, frame: Frame, at: usize) -> Result<(), u8> {
         _ => unreachable!("only steps and finals come here"),
     };
     // Role steps and test steps stand in one table and share its room.
-    put(&mut collection.steps, &mut lines.steps, 512, at, step)
+    put(&mut collection.steps, &mut lines.steps, MOST_STEPS, at, step)
 }
 
 /// An expression: 11, 6, 13, 12, 14.

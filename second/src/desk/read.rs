@@ -13,7 +13,7 @@ const MOST_ASKS: usize = 256;
 pub struct File {
     pub collection: Collection,
     pub asks: Vec<Ask>,
-    pub allowance: Option<u16>,
+    pub allowance: Option<u32>,
     /// Where the question is typed as an expression; its steps and finals are in the collection.
     pub expression: Option<Typed>,
     pub lines: Lines,
@@ -42,7 +42,7 @@ pub struct Fault {
 
 impl File {
     /// Without a frame 0C as many rounds as can be needed.
-    pub fn allowance(&self) -> u16 {
+    pub fn allowance(&self) -> u32 {
         self.allowance.unwrap_or(self.collection.counts.most_rounds())
     }
 }

@@ -1,8 +1,10 @@
 //! A faulty file's line in words: which line, which number, and what about it.
 
-use crate::desk::frame::{frame, Frame};
+use crate::desk::frame::{frame, most_characters, Frame};
+use crate::desk::question::{MOST_FINALS, MOST_STEPS};
 use crate::desk::read::{lines, Fault};
 use crate::expression::{read, Letter};
+use crate::numbers::MOST_STATES;
 
 pub struct Faulty {
     pub fault: Fault,
@@ -41,8 +43,8 @@ fn characters(line: &[u8]) -> String {
     let odd_one = |byte: &u8| !matches!(byte, b'0'..=b'9' | b'A'..=b'F');
     if line.is_empty() {
         "the line is empty".to_string()
-    } else if line.len() > 64 {
-        format!("the line has {} characters; 64 is the most", line.len())
+    } else if line.len() > most_characters(line) {
+        format!("the line has {} characters; {} is the most", line.len(), most_characters(line))
     } else if line.len() % 2 == 1 {
         format!("the line has {} characters, an odd number", line.len())
     } else {
@@ -64,7 +66,7 @@ const KINDS: [(&str, &str); 14] = [
     ("a test step", "3"),
     ("a final", "1"),
     ("an ask", "2"),
-    ("the allowance", "2"),
+    ("the allowance", "2 or 4"),
     // Any number of marks is right.
     ("an expression", "any number of"),
     ("an ask of one individual", "1"),
@@ -103,8 +105,8 @@ fn counts(line: &[u8]) -> String {
         format!("{names} names are declared; 64 is the most")
     } else if roles > 32 {
         format!("{roles} roles are declared; 32 is the most")
-    } else if states == 0 || states > 16 {
-        format!("{states} states are declared; there are 1 to 16")
+    } else if !(1..=MOST_STATES).contains(&states.into()) {
+        format!("{states} states are declared; there are 1 to {MOST_STATES}")
     } else {
         format!("the start state {start} is not below the {states} states")
     }
@@ -118,9 +120,9 @@ fn too_many(line: &[u8]) -> String {
         Ok(Frame::RoleExclusion(..)) => ("role exclusions", 128),
         Ok(Frame::ConceptFact { .. }) => ("concept facts", 1_024),
         Ok(Frame::RoleFact { .. }) => ("role facts", 4_096),
-        Ok(Frame::Final(_)) => ("finals", 16),
+        Ok(Frame::Final(_)) => ("finals", MOST_FINALS),
         Ok(Frame::Ask(..) | Frame::AskFrom(_)) => ("asks", 256),
-        _ => ("steps of both kinds", 512),
+        _ => ("steps of both kinds", MOST_STEPS),
     };
     format!("one frame too many: there are already {most} {table}")
 }

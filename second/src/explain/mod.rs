@@ -12,7 +12,7 @@ pub mod walk;
 
 use crate::ask::Ask;
 use crate::desk::read::{read, File};
-use crate::desk::round_line;
+use crate::desk::{answer_line, round_line};
 use crate::numbers::Individual;
 use crate::prepared::Prepared;
 use below::{spot, Below};
@@ -41,7 +41,7 @@ pub struct Asked {
     pub line: usize,
     pub ask: Ask,
     pub number: u8,
-    pub count: u16,
+    pub count: u32,
     pub behind: Behind,
 }
 
@@ -58,12 +58,19 @@ pub enum Behind {
 impl Explanation {
     /// The line that the desk writes for a round; None without an ask, and for a round that it doesn't work.
     pub fn round_line(&self, round: usize) -> Option<String> {
-        let worked = 1..=self.rounds.needed().min(self.file.allowance().into());
+        let worked = 1..=self.rounds.needed().min(self.file.allowance() as usize);
         let written = self.clash.is_none() && !self.asks.is_empty() && worked.contains(&round);
         written.then(|| {
-            let line = round_line(round as u16, self.rounds.added[round - 1].len() as u16);
+            let added = self.rounds.added[round - 1].len() as u32;
+            let line = round_line(self.file.collection.counts.states, round as u32, added);
             String::from_utf8_lossy(&line).trim_end().to_string()
         })
+    }
+
+    /// The line that the desk writes for an ask.
+    pub fn answer_line(&self, asked: &Asked) -> String {
+        let line = answer_line(self.file.collection.counts.states, asked.ask, asked.number, asked.count);
+        String::from_utf8_lossy(&line).trim_end().to_string()
     }
 
     /// `1 (given)`, or `72 (none is given: 6 concepts × 4 states × 3)`.

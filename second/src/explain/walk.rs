@@ -50,7 +50,7 @@ pub struct Walk {
     /// In the order found.
     pub reached: Vec<Place>,
     /// The same as bits: the states in which each individual is reached.
-    seen: Vec<u16>,
+    seen: Vec<u32>,
 }
 
 impl<'a> Ground<'a> {
@@ -132,7 +132,7 @@ impl<'a> Ground<'a> {
 
 impl Walk {
     /// Those of the states in which the individual hasn't been reached yet.
-    fn new_states(&self, who: Individual, states: u16) -> impl Iterator<Item = State> {
+    fn new_states(&self, who: Individual, states: u32) -> impl Iterator<Item = State> {
         marked((states & !self.seen[who.at()]).into()).map(State)
     }
 

@@ -69,8 +69,8 @@ fn trips(known: &Known, concept: Concept, role: Role, before: &Marks, after: &mu
 }
 
 /// For each sheet after the first, how many marks stand in it and not in the one before.
-pub fn added(sheets: &[Marks]) -> Vec<u16> {
-    sheets.windows(2).map(|pair| pair[1].difference(&pair[0]).count() as u16).collect()
+pub fn added(sheets: &[Marks]) -> Vec<u32> {
+    sheets.windows(2).map(|pair| pair[1].difference(&pair[0]).count() as u32).collect()
 }
 
 /// The sheets of round 0, 1, 2 … up to the first that one more round leaves unchanged.

@@ -28,8 +28,7 @@ pub fn answers(explained: &Explanation) -> String {
     let mut table = Table::new(&ANSWERS);
     for asked in &explained.asks {
         let Asked { ask: asked_of, number, count, .. } = asked;
-        let bytes = asked_of.answered(*number, *count).into_iter();
-        let typed = format!("`{}`", bytes.map(|byte| format!("{byte:02X}")).collect::<String>());
+        let typed = format!("`{}`", explained.answer_line(asked));
         table.row([ask(*asked_of), in_words(asked), number.to_string(), count.to_string(), typed]);
     }
     table.text()
@@ -56,7 +55,7 @@ pub fn path_form(explained: &Explanation) -> String {
 
 /// `yes, 2 rounds`.
 pub fn in_words(asked: &Asked) -> String {
-    let count = usize::from(asked.count);
+    let count = asked.count as usize;
     match asked.number {
         0 => format!("no, {}", counted(count, "round")),
         1 => format!("yes, {}", counted(count, "round")),

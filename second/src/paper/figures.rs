@@ -55,7 +55,7 @@ mod tests {
             let prepared = Prepared::of(&explained.file.collection, allowance);
             let standing = standing(&prepared.area().expect("no contradiction"));
             assert_eq!(marks_after(&explained, worked(&explained)), standing);
-            let added = prepared.added().expect("no contradiction").iter().map(|added| usize::from(*added));
+            let added = prepared.added().expect("no contradiction").iter().map(|added| *added as usize);
             assert_eq!(marks_of_round_0(&explained) + added.sum::<usize>(), standing);
         }
     }

@@ -73,7 +73,7 @@ fn square(explained: &Explanation, round: usize, from: State, concept: Concept) 
 
 /// The rounds that the desk works: those needed, or the allowance where that is less.
 pub fn worked(explained: &Explanation) -> usize {
-    explained.rounds.needed().min(explained.file.allowance().into())
+    explained.rounds.needed().min(explained.file.allowance() as usize)
 }
 
 pub fn marks_of_round_0(explained: &Explanation) -> usize {

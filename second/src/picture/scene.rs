@@ -106,11 +106,11 @@ impl<'a> Scene<'a> {
     }
 
     /// From the individual down the row: a step along each role, then whatever loops the closed sheet has there.
-    fn states_at(&self, element: &Element, places: &[(Individual, State)]) -> u16 {
+    fn states_at(&self, element: &Element, places: &[(Individual, State)]) -> u32 {
         let collection = &self.explained.file.collection;
         let rules = Rules::of(collection, &Orders::of(collection));
         let at_root = places.iter().filter(|place| place.0 == element.who);
-        let mut here: u16 = at_root.map(|place| 1 << place.1 .0).sum();
+        let mut here: u32 = at_root.map(|place| 1 << place.1 .0).sum();
         for role in &element.row {
             let loops = self.explained.rounds.closed.loops(role.inverse().neighbour());
             let down = then(&rules.along[role.at()], loops);

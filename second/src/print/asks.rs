@@ -21,23 +21,23 @@ pub fn asks(explained: &Explanation) -> String {
 
 fn ask(asked: &Asked, explained: &Explanation) -> String {
     let Asked { line, ask, number, count, behind } = asked;
-    let written: String = ask.answered(*number, *count).iter().map(|byte| format!("{byte:02X}")).collect();
+    let written = explained.answer_line(asked);
     let mut text = match ask {
         Ask::Pair(first, second) => format!("Line {line}: ({first}, {second}): {written}, "),
         Ask::From(first) => format!("Line {line}: {first} to any element: {written}, "),
     };
     match behind {
         Behind::Path(path) => {
-            text += &format!("yes, {}\n{}", names::rounds((*count).into()), self::path(path))
+            text += &format!("yes, {}\n{}", names::rounds(*count as usize), self::path(path))
         }
         Behind::Reached(places) => {
             let start = explained.file.collection.counts.start;
-            text += &format!("no, {}\n", names::rounds((*count).into()));
+            text += &format!("no, {}\n", names::rounds(*count as usize));
             text += &format!("  from ({}, {start}) the walk reaches {}\n", ask.first(), reached(places));
         }
         Behind::Everywhere(places, spots) => {
             let start = explained.file.collection.counts.start;
-            text += &format!("no, {}\n", names::rounds((*count).into()));
+            text += &format!("no, {}\n", names::rounds(*count as usize));
             text += &format!("  from ({}, {start}) paths come to {}\n", ask.first(), reached(places));
             text += &format!("  and below the individuals {}\n", unnamed(spots));
         }

@@ -123,7 +123,7 @@ fn people(explained: &Explanation) -> String {
 
 fn sheet(explained: &Explanation) -> String {
     let counts = &explained.file.collection.counts;
-    let allowance = usize::from(explained.file.allowance());
+    let allowance = explained.file.allowance() as usize;
     let needed = explained.rounds.needed();
     let mut marks = usize::from(counts.states) * counts.all_concepts().count();
     let mut text = format!(

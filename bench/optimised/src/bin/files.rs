@@ -4,11 +4,11 @@ use std::io::Write;
 use std::process::ExitCode;
 
 const USAGE: &str =
-    "files make KIND [SIZE]   a file to measure with: least, medium, dense, layered, chain or laps; with a size:
-                         facts (0 to 4096), rules (0 to 512), states (1 to 16) or asks (0 to 256)
+    "files make KIND [SIZE]   a file to measure with: least, medium, dense, layered, chain, laps, wide or wide-laps; with a
+                         size: facts (0 to 4096), rules (0 to 512), states (1 to 32) or asks (0 to 256)
 files spread KIND SIZE SEED
                          one of the spread: expressions, clusters, few-roles, many-roles, contradictions, chains or
-                         ladders; large or small
+                         ladders; large or small, wide-large or wide-small
 files plot               lines of series, size, program and instructions, parted by tabs, to an SVG
 files strip              lines of kind, size, the desk's instructions and the optimised program's, likewise";
 

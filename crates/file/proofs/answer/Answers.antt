@@ -3,6 +3,7 @@ use Rattle.file.proofs.Served.{reply-writes}
 use Rattle.file.proofs.WritesLaws.{writes-once, writes-length}
 use Rattle.file.proofs.Told.{listed, text-long, text-lines, fault-told}
 use Rattle.file.proofs.DeedLaws.{writes-without-deeds}
+use Rattle.file.proofs.FormerLaws.{writes-as-it-did}
 use Rattle.file.proofs.Default.{never-spent}
 use Rattle.file.proofs.answer.Goals as goal
 
@@ -33,3 +34,6 @@ returns-clause-fault c = λ before r f. (fault-told (returns-clause-written c) b
 
 pub returns-clause-deeds : goal.returns-clause-deeds
 returns-clause-deeds c = λ other s. (writes-without-deeds _ other s _).0 (returns-clause-written c)
+
+pub returns-clause-former : goal.returns-clause-former
+returns-clause-former c = λ fs s. (writes-as-it-did _ fs s _).0 (returns-clause-written c)

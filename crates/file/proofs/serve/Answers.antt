@@ -1,4 +1,4 @@
-use Rattle.file.proofs.Served.{on_ok, served, served-only, served-deeds, served-unspent}
+use Rattle.file.proofs.Served.{on_ok, served, served-only, served-deeds, served-unspent, served-former}
 use Rattle.file.proofs.serve.Goals as goal
 
 pub returns-clause-written : goal.returns-clause-written
@@ -15,3 +15,6 @@ returns-clause-deeds g c = on_ok c.serve.result (served-deeds (g.S.Source.remain
 
 pub returns-clause-started : goal.returns-clause-started
 returns-clause-started g c = λ e told. served (g.S.Source.remaining c.args.source) _ (c.serve.ensures.started e told)
+
+pub returns-clause-former : goal.returns-clause-former
+returns-clause-former g c = on_ok c.serve.result (served-former (g.S.Source.remaining c.args.source) _) c.serve.ensures.written

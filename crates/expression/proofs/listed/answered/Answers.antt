@@ -14,14 +14,15 @@ pub returns-then-reader-marks : goal.returns-then-reader-marks
 returns-then-reader-marks c =
     no_expression (not-whole _ c.in-Ok.ensures.outcome (λ h. let k = c.if-is_too_deep.ensures.1 h in cc) c.if-reader-marks.true)
 
-pub returns-then-reader-ge-NUMBERS : goal.returns-then-reader-ge-NUMBERS
-returns-then-reader-ge-NUMBERS c =
-    many-marks _ c.in-Ok.ensures.outcome c.if-reader-marks.false (λ h. let k = c.if-is_too_deep.ensures.1 h in cc) c.if-reader-ge-NUMBERS.true
+pub returns-then-not-has_states : goal.returns-then-not-has_states
+returns-then-not-has_states c =
+    many-marks _ c.in-Ok.ensures.outcome c.if-reader-marks.false (λ h. let k = c.if-is_too_deep.ensures.1 h in cc)
+    (λ h. let k = c.has_states.ensures.1 h in cc)
 
 pub returns : goal.returns
 returns c =
     let l = c.start.ensures.long in
     let s = c.start.ensures.start in
     let t = c.listed.ensures.steps in
-    it-is _ c.in-Ok.ensures.outcome c.if-reader-marks.false (λ h. let k = c.if-is_too_deep.ensures.1 h in cc) (omega arith) (omega arith) c.final_states.ensures
+    it-is _ c.in-Ok.ensures.outcome c.if-reader-marks.false (λ h. let k = c.if-is_too_deep.ensures.1 h in cc) (c.has_states.ensures.0 c.if-not-has_states.false) (omega arith) c.final_states.ensures
     c.listed.result c.listed.ensures.states (rw s at t) c.listed.ensures.finals

@@ -1,9 +1,10 @@
-use Rattle.std.proofs.Common.{◌≢◌, refl, Iter, inl, inr, ⊎_elim, ap, ◌∙◌, arith}
+use Rattle.std.proofs.Common.{◌≢◌, Iter, inl, inr, ⊎_elim, ap, ◌∙◌, arith}
 use Rattle.std.specs.Slice.Iter.{iter_rest}
 use Rattle.laws.specs.Truth.{test-false}
 use Rattle.kinds.specs.declared.Answer.{Answer}
 use Rattle.kinds.specs.declared.Ask.{Ask}
 use Rattle.tables.specs.declared.table.Records.{Records}
+use Rattle.file.specs.Text.{count_width, answer_line}
 use Rattle.file.specs.Replying.{ask_count}
 use Rattle.file.proofs.Answering.{nothing-asked}
 use Rattle.file.proofs.Each.{all_left, ask_in_bytes, answered_next, left_next, none_left}
@@ -30,7 +31,7 @@ pub loop-ask-preserved : goal.loop-ask-preserved
 loop-ask-preserved g c =
     let p = c.in-Some.ensures.steps in
     let v = c.loop-ask.invariant in
-    let line = answered_next _ _ _ _ _ _ _ _ v.here p.0.0 p.0.1 p.1 _ refl in
+    let line = answered_next _ _ _ _ _ _ _ _ v.here p.0.0 p.0.1 p.1 _ (ap (λ n. answer_line n c.in-Some.ask c.in-Some.answer.now) (c.of-width.ensures ∙ ap count_width c.collection.ensures.counts)) in
     let done = more_done c.args.file.now v.question _ (λ out. g.T.Taker.takes c.args.to.now out c.put_answer.new.to) _ _ line
     (λ x t. g.met.T.Taker.more _ _ _ x _ t c.in_ok-put_answer.ensures.ok) v.done in
     record {
@@ -49,7 +50,7 @@ pub returns-in_err-put_answer-clause-err : goal.returns-in_err-put_answer-clause
 returns-in_err-put_answer-clause-err g c =
     let p = c.in-Some.ensures.steps in
     let v = c.loop-ask.invariant in
-    let line = answered_next _ _ _ _ _ _ _ _ v.here p.0.0 p.0.1 p.1 _ refl in
+    let line = answered_next _ _ _ _ _ _ _ _ v.here p.0.0 p.0.1 p.1 _ (ap (λ n. answer_line n c.in-Some.ask c.in-Some.answer.now) (c.of-width.ensures ∙ ap count_width c.collection.ensures.counts)) in
     let next = left_next _ _ _ _ _ _ _ _ v.here p.0.0 p.0.1 p.1 in
     passed_on c.from_residual-in_err-put_answer.result _ _ c.from_residual-in_err-put_answer.ensures.1
     (all_from c.args.file.now v.question _ (λ x y t. g.met.T.Taker.before _ _ x y _ t) _ (omega (arith, p.0.0.after, next.within))

@@ -2,6 +2,7 @@
 use Rattle.expression.proofs.Clauses.{automaton-once}
 use Rattle.lampsaffron.proofs.Given.{gives-once, row-once}
 use Rattle.lampsaffron.proofs.AsksLaws.{asking-once}
+use Rattle.lampsaffron.proofs.AreasLaws.{moving-once, moving-back-once}
 use Rattle.lampsaffron.proofs.Made.{made-once, tables-once}
 use Rattle.lampsaffron.proofs.Rounds.{marks-once}
 use Rattle.lampsaffron.proofs.theorems.unique.Goals as goal
@@ -26,3 +27,9 @@ returns-clause-one_number c = made-once
 
 pub returns-clause-one_automaton : goal.returns-clause-one_automaton
 returns-clause-one_automaton c = λ row a b x y. automaton-once a b x y
+
+pub returns-clause-one_moving : goal.returns-clause-one_moving
+returns-clause-one_moving c = moving-once
+
+pub returns-clause-one_moving_back : goal.returns-clause-one_moving_back
+returns-clause-one_moving_back c = moving-back-once

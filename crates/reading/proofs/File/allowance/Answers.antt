@@ -1,4 +1,4 @@
--- The rounds of what was read go into 16 bits.
+-- The rounds of what was read go into 32 bits.
 use Rattle.std.proofs.Common.{arith}
 use Rattle.reading.proofs.Allowance.{most-read}
 use Rattle.reading.proofs.File.allowance.Goals as goal

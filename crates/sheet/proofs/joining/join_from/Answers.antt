@@ -1,6 +1,6 @@
--- One state more.
-use Rattle.sheet.proofs.Laws.{member_more}
+-- Both sides.
+use Rattle.rules.proofs.MadeLaws.{gets_then}
 use Rattle.sheet.proofs.joining.join_from.Goals as goal
 
-pub loop-u-preserved : goal.loop-u-preserved
-loop-u-preserved c = member_more _ c.loop-u.invariant c.in-Some.ensures.steps c.join_pair.ensures
+pub returns : goal.returns
+returns c = gets_then c.lefts.ensures c.rights.ensures

@@ -6,14 +6,7 @@ use Rattle.sheet.proofs.marks.clear_from.Goals as goal
 
 pub loop-t-preserved : goal.loop-t-preserved
 loop-t-preserved c = over_more c.loop-t.invariant c.in-Some.ensures.steps
-    (λ x v. drops_more _ x v (drops_one _ _ _ (omega (
-      arith,
-      v.long,
-      c.told-rows,
-      c.requires.from,
-      c.requires.to _
-          (c.loop-t.invariant.part _ c.in-Some.ensures.steps.member),
-    ))))
+    (λ x v. drops_more _ x v (drops_one _ _ _ (omega (arith, v.long, c.told-rows, c.requires, c.in-Some.ensures.steps.within))))
 
 pub returns : goal.returns
 returns c = over_end c.loop-t.invariant c.in-None.ensures.steps.0 (λ same v. drops_all _ same v)

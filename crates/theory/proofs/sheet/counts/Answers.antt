@@ -1,7 +1,7 @@
 -- How many marks rounds make: the laws of MarksLaws.
 use Rattle.theory.specs.Sheet.{Mark}
 use Rattle.theory.specs.Marks.{Added}
-use Rattle.theory.proofs.MarksLaws.{counted-once, round-counts-once, stands-there, counts-there, counts-make-sheet, adds-some, adds-none, sum-most, counts-most}
+use Rattle.theory.proofs.MarksLaws.{counted-once, round-counts-once, stands-there, counts-there, counts-make-sheet, adds-some, adds-none, sum-most, adds-most, counts-most}
 use Rattle.theory.proofs.sheet.counts.Goals as goal
 
 pub returns : goal.returns
@@ -15,5 +15,6 @@ returns g c = let K = g.K.AnyKind.kind in record {
   some = adds-some K;
   none = adds-none K;
   sum_at_most = sum-most K;
+  adds_at_most = adds-most K;
   counts_at_most = counts-most K;
 }

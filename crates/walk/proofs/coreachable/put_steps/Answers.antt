@@ -8,4 +8,4 @@ pub returns : goal.returns
 unfolding inverse
 returns c =
     let l = rw c.inverse.ensures at c.live_to-live.ensures in
-    adds_as (steps_put _ _ _ _ _ _ c.requires refl l c.preimage-states.ensures) c.put_each.ensures
+    adds_as (steps_put _ _ _ _ _ _ c.requires.role refl l c.preimage-states.ensures) c.put_each.ensures

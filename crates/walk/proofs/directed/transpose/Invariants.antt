@@ -1,10 +1,7 @@
--- `transpose`: the sets of the states below t are made.
-use Rattle.laws.specs.Fill.{Filling}
-use Rattle.kinds.specs.Kinds.{most_states}
-use Rattle.sets.specs.declared.states.StateSet.{StateSet}
-use Rattle.sets.specs.Rows.{no_states}
-use Rattle.walk.proofs.DirectedLaws.{LeadingTo}
+-- `transpose`: the sets of the states that are taken are made.
+use Rattle.sets.proofs.Gathering.{Over}
+use Rattle.walk.proofs.DirectedLaws.{Turning}
 use Rattle.walk.proofs.directed.transpose.Given as goal
 
 abbrev pub invariant-loop-t : goal.invariant-loop-t
-invariant-loop-t l = Filling (λ s (x : StateSet). LeadingTo l.relation s x.0) no_states most_states l.initial.out l.out l.t
+invariant-loop-t l = Over l.initial.t-iterator.rest.0 l.t-iterator.rest.0 (λ D. Turning l.relation D l.out)

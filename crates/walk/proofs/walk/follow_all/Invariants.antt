@@ -12,5 +12,5 @@ invariant-loop-edge l = record {
   given : List FactEdge;
   all : AreGiven (facts_of l.guide) (roles_of l.guide) l.fn.a.0 given (map edge_of l.edge-iterator.rest.now);
   grows : Grows (ByEdges l.guide (Contains given) l.m.0) l.fn.reached l.reached l.grew;
-  made : AreImages l.guide.directed.now.transitions l.m.0 l.images;
+  made : AreImages l.guide.directed.now.transitions.now l.m.0 l.images;
 }

@@ -8,7 +8,7 @@ pub returns-in-Ok-clause-err : goal.returns-in-Ok-clause-err
 returns-in-Ok-clause-err g c = reply-failed _ _ _ _ c.in-Ok.is _ c.put_replies.ensures.err
 
 pub returns-in-Err-clause-ok : goal.returns-in-Err-clause-ok
-returns-in-Err-clause-ok g c = reply-put _ _ _ _ c.in-Err.is _ (rw c.fault.ensures at c.put.ensures.ok)
+returns-in-Err-clause-ok g c = reply-put _ _ _ _ c.in-Err.is _ (rw (c.as_slice.ensures, c.fault.ensures) at c.put.ensures.ok)
 
 pub returns-in-Err-clause-err : goal.returns-in-Err-clause-err
-returns-in-Err-clause-err g c = reply-failed _ _ _ _ c.in-Err.is _ (rw c.fault.ensures at c.put.ensures.err)
+returns-in-Err-clause-err g c = reply-failed _ _ _ _ c.in-Err.is _ (rw (c.as_slice.ensures, c.fault.ensures) at c.put.ensures.err)

@@ -10,7 +10,7 @@ loop-a-init c = loops_none _ _ _ (search rules)
 pub loop-a-preserved : goal.loop-a-preserved
 loop-a-preserved c =
     loops_more _ _ _ _ _ c.loop-a.invariant c.loop-a-test.true
-    (row_is _ _ _ _ _ _ _ c.shared_concepts.ensures c.loops_by-shared.ensures c.by_concept-by_concept.ensures c.loop-a-test.true
+    (row_is _ _ _ _ _ _ _ c.shared_concepts.ensures c.loops_by-shared.ensures c.put_pairs.ensures c.loop-a-test.true
     c.loops_of.ensures)
 
 pub returns : goal.returns

@@ -3,4 +3,4 @@ use Rattle.walk.proofs.SweepLaws.{walked}
 use Rattle.walk.proofs.multi.MultiWalk.walk.Goals as goal
 
 pub returns : goal.returns
-returns c = walked _ _ _ _ _ _ c.rows_are_long.ensures c.begin.ensures c.exhaust_all.ensures
+returns c = walked _ _ _ _ _ _ c.are_rows.ensures c.begin.ensures c.exhaust_all.ensures

@@ -1,0 +1,80 @@
+-- What an input wrote while there were at most 16 states, beside what it writes today.
+use Rattle.std.specs.Prelude.{ℕ, ◌+◌, ◌≡◌, ◌⊎◌, ◌↔◌, List, [], ◌++◌, length}
+use Rattle.std.proofs.Common.{refl, inl, inr, sym, subst}
+use Rattle.frames.specs.declared.Frame.{Frame}
+use Rattle.streams.specs.Lines.{lines}
+use Rattle.reading.specs.declared.Refusal.{Refusal}
+use Rattle.reading.specs.declared.Refusal.TheVariants.{BadCount, BadTable, BadLine, BadFrame}
+use Rattle.reading.specs.Refusal.{refusal_number}
+use Rattle.reading.specs.Tables.{declared_by}
+use Rattle.reading.specs.Reading.{Verdict, faulty, sound, Reading}
+use Rattle.reading.specs.Former.{FormerReading, FormerLimits, IsFormerFault}
+use Rattle.reading.proofs.Once.{reading-once}
+use Rattle.reading.proofs.FormerLaws.{former-once, former-sound, former-else, former-found}
+use Rattle.file.specs.Text.{fault_line}
+use Rattle.file.specs.Rounds.{round_lines}
+use Rattle.file.specs.Writes.{frames_width, Writes, fault, answers}
+use Rattle.file.specs.Former.{FormerWrites, WasSound, TellsFormerFault}
+use Rattle.file.proofs.Widths.{width-few}
+use Rattle.file.proofs.WritesLaws.{by-once}
+
+-- THEOREM: an input wrote one text
+pub former-writes-once : {input x y : List ℕ} → FormerWrites input x → FormerWrites input y → x ≡ y
+former-writes-once = by-once (FormerReading []) (λ fs. 2) (λ ls v w a b. former-once a b)
+
+module _ (input : List ℕ) (fs : List Frame) (s : WasSound input fs) where
+  still : Reading [] (lines input) (sound fs) × FormerLimits (lines input) fs
+  still = (former-sound (lines input) fs).0 s
+
+  narrow : frames_width fs ≡ 2
+  narrow = width-few (declared_by fs) still.1.states
+
+  as-it-did : {text : List ℕ} → Writes input text → FormerWrites input text
+  as-it-did (fault before r h) = let e = reading-once h still.0 in absurd cc
+  as-it-did (answers gs q counts out h is t a) =
+      let e = reading-once h still.0 in
+      let d : gs ≡ fs = cc in
+      let n : frames_width gs ≡ 2 = rw d narrow in
+      subst (λ w. FormerWrites input (round_lines w 0 counts ++ out)) (sym n) (answers gs q counts out (rw d s) is t (rw n at a))
+
+  as-it-does : {text : List ℕ} → FormerWrites input text → Writes input text
+  as-it-does (fault before r h) = let e = former-once h s in absurd cc
+  as-it-does (answers gs q counts out h is t a) =
+      let e = former-once h s in
+      let d : gs ≡ fs = cc in
+      let n : frames_width gs ≡ 2 = rw d narrow in
+      subst (λ w. Writes input (round_lines w 0 counts ++ out)) n (answers gs q counts out (rw d still.0) is t (rw (← n) at a))
+
+  -- THEOREM: an input that was read whole writes what it wrote
+  pub writes-as-it-did : (text : List ℕ) → Writes input text ↔ FormerWrites input text
+  writes-as-it-did text = (as-it-did, as-it-does)
+
+-- a fault with 4, 5, 9 or 10 was told
+its-line : (before : List Frame) (r : Refusal) → IsFormerFault (faulty before r) → TellsFormerFault (fault_line (length before + 1) (refusal_number r))
+its-line before BadCount h = record { line = length before + 1; number = 4; told = refl; one = inl refl }
+its-line before BadTable h = record { line = length before + 1; number = 5; told = refl; one = inr (inl refl) }
+its-line before BadLine h = record { line = length before + 1; number = 9; told = refl; one = inr (inr (inl refl)) }
+its-line before BadFrame h = record { line = length before + 1; number = 10; told = refl; one = inr (inr (inr refl)) }
+its-line before r h = absurd h
+
+-- THEOREM: what any input wrote it writes, or it was the line of such a fault
+pub wrote-as-it-does : {input text : List ℕ} → FormerWrites input text → Writes input text ⊎ TellsFormerFault text
+wrote-as-it-does (answers fs q counts out h is t a) = inl (as-it-does _ fs h (answers fs q counts out h is t a))
+wrote-as-it-does {input} (fault before r h) = by (former-else h)
+  where
+    by : Reading [] (lines input) (faulty before r) ⊎ IsFormerFault (faulty before r)
+        → Writes input (fault_line (length before + 1) (refusal_number r)) ⊎ TellsFormerFault (fault_line (length before + 1) (refusal_number r))
+    by (inl same) = inl (fault before r same)
+    by (inr x) = inr (its-line before r x)
+
+-- THEOREM: and an input that writes anything wrote some text
+pub former-writes-some : {input text : List ℕ} → Writes input text → (out : List ℕ) × FormerWrites input out
+former-writes-some {input} {text} w = by (was w)
+  where
+    was : {x : List ℕ} → Writes input x → (v : Verdict) × FormerReading [] (lines input) v
+    was (fault before r h) = former-found h
+    was (answers fs q counts out h is t a) = former-found h
+
+    by : (v : Verdict) × FormerReading [] (lines input) v → (out : List ℕ) × FormerWrites input out
+    by (faulty before r, h) = (_, fault before r h)
+    by (sound fs, h) = (text, as-it-did input fs h w)
