@@ -12,7 +12,7 @@ use kinds::{Individual, SignedRole};
 #[derive(Clone, Copy)]
 pub struct PackedEdge(pub u16);
 
-// A packed edge is its role times this number, plus its individual. Individuals have smaller numbers, and so have signed roles.
+// A packed edge is its role times this number, plus its individual. An individual has a smaller number, so that both are read back.
 const RADIX: u16 = 256;
 
 impl PackedEdge {

@@ -47,7 +47,7 @@ ThereAndBack = (stored before area old new : List ℕ) (number : ℕ)
     → TellsMoved stored before 0 area → length old ≡ former_length
     → TellsBack area old number new → (number ≡ 0) × (new ≡ stored)
 
--- and so is an area that is moved back, and moved
+-- an area that is moved back, and moved again into a row of its length, is as it was
 abbrev pub BackAndThere : Type 0
 BackAndThere = (area before stored old new : List ℕ) (number : ℕ)
     → TellsBack area before 0 stored → length old ≡ area_length

@@ -20,10 +20,11 @@ use Rattle.walk.specs.Known.{most_kept, place_in, IsKnown, kept_at}
 abbrev pub group : ℕ
 group = 15
 
--- what a walk goes by: the role facts, the roles by which their edges are listed, and the strides
+-- the role facts that a walk goes by
 abbrev pub facts_of : Guide → List ℕ
 facts_of g = g.strides.edges.now.facts.numbers.now
 
+-- the signed roles for which the edges are listed
 abbrev pub roles_of : Guide → ℕ
 roles_of g = g.strides.edges.now.roles.0
 
@@ -159,7 +160,7 @@ Passes g lo hi old new =
 abbrev pub Finds : Guide → Individual → State → List StateSet → Type 0
 Finds g = Found (MoveOf g)
 
--- what a walk takes as known of components, if anything, holds of the strides that it goes by
+-- what a walk is told of components, if it is told anything, is true of the strides that it goes by
 abbrev pub IsLent : Guide → Type 0
 IsLent g = ForSome g.known (λ k. AreKnownBy (MoveOf g) g.state.0 k.now)
 

@@ -1,5 +1,5 @@
-// The transitions that a walk goes by, forward or backward. Backward, each signed role has the transitions of its inverse, transposed: so a walk
-// follows the edges of an individual alike in both directions.
+// This file makes the transitions that a walk goes by, forward or backward. Backward, each signed role has the transitions of its inverse,
+// transposed: so a walk follows the edges of an individual in the same way in both directions.
 
 ghost use Rattle.std.specs.Prelude.{◌≡◌, ◌<◌, ℕ, true};
 ghost use Rattle.kinds.specs.Kinds.{flip};

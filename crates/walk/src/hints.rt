@@ -41,7 +41,7 @@ fn join_row(graph: &mut Relation, row: &Relation) {
     }
 }
 
-// Adds each set of a row but for its own state.
+// Adds each set of a row, without the state whose set it is, to the same set of the graph.
 fn join_onward(graph: &mut Relation, row: &Relation) {
     for s in 0..State::NUMBERS {
         let own = StateSet::only(State(s as u16));

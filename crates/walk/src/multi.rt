@@ -314,7 +314,7 @@ impl MultiWalk {
         led
     }
 
-    // Sweeps, until no individual is behind in a state among some, or a few were made; whether one may still be behind.
+    // Sweeps until no individual is behind in one of the given states, but at most a few times. It tells whether one may still be behind.
     fn sweep_a_few(&mut self, strides: &Strides, among: StateSet) -> bool
         requires ready { Ready self.old }
         ensures { Tries strides.now among.0 self.old self.new result }
@@ -415,8 +415,8 @@ impl MultiWalk {
         out
     }
 
-    // The firsts that are marked at nodes which lead to the hub. It is never put into its caller, so that what a walk backward goes by is on
-    // the stack while it is needed, and at no other time.
+    // The firsts that are marked at nodes which lead to the hub. The function is never inlined, so that the tables of its walk backward are on
+    // the stack only while that walk runs.
     #[inline(never)]
     fn leading_to(&self, strides: &Strides, hub: Hub) -> Sources
         ensures { LeadThere strides.now hub.individual.0 hub.state.0 self.now.words result }
