@@ -1,6 +1,6 @@
 /* The library's calls for C: one pair of individuals asked of a collection, one individual, a row of pairs, or a row of both; how many marks each round of its loop sheet
-   makes; the tables of a question from an expression; and a stored area of 16 states moved to the places of today, and back. docs/RULES.md, section 10, says what each takes
-   and gives, and docs/LINKING.md how to link it. */
+   makes; the tables of a question from an expression; two collections compared; and a stored area of 16 states moved to the places of today, and back. docs/RULES.md, section 10,
+   says what each takes and gives, and docs/LINKING.md how to link it. */
 #ifndef LAMPSAFFRON_H
 #define LAMPSAFFRON_H
 
@@ -41,7 +41,7 @@ enum lampsaffron_number {
 /* Each table is a pointer to its 16-bit numbers, record after record, and how many numbers there are (not how many records).
    A rule and an exclusion have 2 numbers: left, right; a concept fact 3: name, individual, deed number; a role fact 4: role name, first, second,
    deed number; a step 4: kind, state, signed role or name, state; a final 1. A deed number is 0 where none is noted; each is allowed, and nothing
-   that comes back depends on it.
+   that comes back depends on it but from lampsaffron_same_records.
    A pointer must not be null, even where its count is 0; no area may overlap anything else that is passed.
    Returns the number; *count gets its count. After 0, 1 and 3 the first area holds the sheet and the second zeros;
    after all else both are as they came. Every value of every number is answered. */
@@ -153,6 +153,31 @@ uint8_t lampsaffron_expression(
     uint16_t *steps, size_t steps_len,
     uint16_t *finals, size_t finals_len,
     uint16_t *states, uint16_t *steps_used, uint16_t *finals_used);
+
+/* Whether two collections are the same as sets: both declare the same, and each table of both holds the same records, in whatever order and however
+   often. Deed numbers count here, as they do nowhere else: two facts that differ only there are two records. Each collection is five counts and eight
+   tables, as for lampsaffron_ask; neither has an allowance or an area.
+   Returns 4, 5 or 6 where a test refuses the first collection, or else the second; else 1 where they are the same, and 0 where they are not.
+   Nothing is written. */
+uint8_t lampsaffron_same_records(
+    uint16_t names, uint16_t roles, uint16_t individuals, uint16_t states, uint16_t start,
+    const uint16_t *concept_rules, size_t concept_rules_len,
+    const uint16_t *concept_exclusions, size_t concept_exclusions_len,
+    const uint16_t *role_rules, size_t role_rules_len,
+    const uint16_t *role_exclusions, size_t role_exclusions_len,
+    const uint16_t *concept_facts, size_t concept_facts_len,
+    const uint16_t *role_facts, size_t role_facts_len,
+    const uint16_t *steps, size_t steps_len,
+    const uint16_t *finals, size_t finals_len,
+    uint16_t other_names, uint16_t other_roles, uint16_t other_individuals, uint16_t other_states, uint16_t other_start,
+    const uint16_t *other_concept_rules, size_t other_concept_rules_len,
+    const uint16_t *other_concept_exclusions, size_t other_concept_exclusions_len,
+    const uint16_t *other_role_rules, size_t other_role_rules_len,
+    const uint16_t *other_role_exclusions, size_t other_role_exclusions_len,
+    const uint16_t *other_concept_facts, size_t other_concept_facts_len,
+    const uint16_t *other_role_facts, size_t other_role_facts_len,
+    const uint16_t *other_steps, size_t other_steps_len,
+    const uint16_t *other_finals, size_t other_finals_len);
 
 /* An area that was stored while there were at most 16 states, moved to the places of today. After 0 area has 1 at the place of each mark that stands in stored, and 0
    everywhere else: it is the area of the same collection's sheet after the same round.

@@ -1,6 +1,6 @@
 /* The library driver of PROTOCOL.md: reads a call per line, asks lampsaffron_ask, lampsaffron_ask_from, lampsaffron_ask_all,
-   lampsaffron_ask_row, lampsaffron_marks, lampsaffron_expression, lampsaffron_area_from_16 or lampsaffron_area_to_16, writes
-   what they gave and hashes.
+   lampsaffron_ask_row, lampsaffron_marks, lampsaffron_expression, lampsaffron_area_from_16, lampsaffron_area_to_16 or
+   lampsaffron_same_records, writes what they gave and hashes.
    No stdio and no heap: only read and write, declared by hand, and static buffers. */
 #include "lampsaffron.h"
 
@@ -9,10 +9,10 @@ extern long write(int to, const void *bytes, size_t length);
 
 enum { TABLES = 8, MOST_NUMBERS = 65535, MOST_AREA = 131072, MOST_ENTRIES = 1024, MOST_ROOM = 131072, MOST_MADE = 8192, GUARD = 64 };
 
-/* The tables, and after them the pairs or the asks of a row. */
-enum { ASKED = TABLES };
-static uint16_t tables[TABLES + 1][MOST_NUMBERS + 1];
-static size_t lengths[TABLES + 1];
+/* The tables, those of a second collection, and after them the pairs or the asks of a row. */
+enum { OTHER = TABLES, ASKED = 2 * TABLES };
+static uint16_t tables[ASKED + 1][MOST_NUMBERS + 1];
+static size_t lengths[ASKED + 1];
 static uint8_t areas[2][MOST_AREA + GUARD];
 
 /* The entries of a row, and GUARD bytes behind each. */
@@ -28,12 +28,12 @@ static size_t marks_length;
 static uint16_t made[2][MOST_MADE + GUARD / 2];
 
 /* The letters that a request of another kind than a pair begins with; none is a digit. */
-enum { ROW = 'R', MIXED = 'Q', ONE = 'L', ROUNDS = 'N', EXPRESSION = 'M', FROM_16 = 'S', TO_16 = 'T' };
+enum { ROW = 'R', MIXED = 'Q', ONE = 'L', ROUNDS = 'N', EXPRESSION = 'M', FROM_16 = 'S', TO_16 = 'T', TWICE = 'P' };
 
 /* What a request says beside the tables and marks; one individual stands first in the pair. */
 struct request {
     int kind;
-    uint16_t counts[5], pair[2];
+    uint16_t counts[5], other_counts[5], pair[2];
     uint32_t allowance;
     size_t sizes[2], entries[2], room;
     uint8_t fills[2], fill;
@@ -145,11 +145,15 @@ static void send_line(void) {
     }
 }
 
-/* What the calls that ask have in common: the counts and the tables. */
-#define LENT(asked) \
-    (asked)->counts[0], (asked)->counts[1], (asked)->counts[2], (asked)->counts[3], (asked)->counts[4], \
-    tables[0], lengths[0], tables[1], lengths[1], tables[2], lengths[2], tables[3], lengths[3], \
-    tables[4], lengths[4], tables[5], lengths[5], tables[6], lengths[6], tables[7], lengths[7]
+/* A collection: its counts, and its tables from this one on. */
+#define COLLECTION(counts, at) \
+    (counts)[0], (counts)[1], (counts)[2], (counts)[3], (counts)[4], \
+    tables[at], lengths[at], tables[(at) + 1], lengths[(at) + 1], tables[(at) + 2], lengths[(at) + 2], \
+    tables[(at) + 3], lengths[(at) + 3], tables[(at) + 4], lengths[(at) + 4], tables[(at) + 5], lengths[(at) + 5], \
+    tables[(at) + 6], lengths[(at) + 6], tables[(at) + 7], lengths[(at) + 7]
+
+/* What the calls that ask have in common. */
+#define LENT(asked) COLLECTION((asked)->counts, 0)
 
 /* What stands before a call where a count is to be told. */
 #define UNCOUNTED UINT32_C(0xFFFFFFFF)
@@ -242,8 +246,13 @@ static void answer_moved(const struct request *asked) {
     for (int i = 0; i < 2; i++) put(hash(areas[i] + sizes[i], GUARD), 16);
 }
 
+static void answer_twice(const struct request *asked) {
+    put(lampsaffron_same_records(COLLECTION(asked->counts, 0), COLLECTION(asked->other_counts, OTHER)), 2);
+}
+
 static void answer(const struct request *asked) {
     if (asked->kind == EXPRESSION) answer_expression(asked);
+    else if (asked->kind == TWICE) answer_twice(asked);
     else if (moves(asked->kind)) answer_moved(asked);
     else answer_with_areas(asked);
 }
@@ -284,14 +293,19 @@ static void read_moved(struct request *asked) {
     asked->fill = (uint8_t)number(2);
 }
 
+/* The counts of a collection, and its tables from this one on. */
+static void read_collection(uint16_t counts[5], int at) {
+    for (int i = 0; i < 5; i++) counts[i] = (uint16_t)number(4);
+    for (int i = 0; i < TABLES; i++) read_table(at + i);
+}
+
 /* How many individuals are asked of beside those in a row. */
 static int individuals(int kind) {
     return kind == ROUNDS ? 0 : kind == ONE ? 1 : 2;
 }
 
 static void read_ask(struct request *asked) {
-    for (int i = 0; i < 5; i++) asked->counts[i] = (uint16_t)number(4);
-    for (int i = 0; i < TABLES; i++) read_table(i);
+    read_collection(asked->counts, 0);
     if (asks_row(asked->kind)) read_table(ASKED);
     else
         for (int i = 0; i < individuals(asked->kind); i++) asked->pair[i] = (uint16_t)number(4);
@@ -307,6 +321,9 @@ static struct request read_request(void) {
     if (asked.kind == EXPRESSION) {
         read_marks();
         read_entries(&asked, MOST_MADE);
+    } else if (asked.kind == TWICE) {
+        read_collection(asked.counts, 0);
+        read_collection(asked.other_counts, OTHER);
     } else if (moves(asked.kind)) {
         read_moved(&asked);
     } else {

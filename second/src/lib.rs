@@ -6,6 +6,7 @@ pub mod below;
 pub mod clash;
 pub mod collection;
 pub mod compare;
+pub mod copy;
 pub mod desk;
 pub mod element;
 pub mod explain;

@@ -9,6 +9,7 @@ use crate::expression::read::{expression, too_deep};
 use crate::expression::Letter;
 use crate::numbers::{Concept, Deed, Role, State, MOST_STATES};
 use crate::prepared::{Prepared, ALLOWANCE_SPENT, CONTRADICTION};
+use std::collections::BTreeSet;
 
 /// How many numbers a record has and how many records there may be, in the order of docs/RULES.md, section 3.
 pub const SHAPES: [(usize, usize); 8] =
@@ -50,6 +51,25 @@ impl Call {
         ];
         Call { counts: sizes.map(u16::from), tables, allowance }
     }
+}
+
+/// What a collection says, whatever the order and the repeats of its records are. Only whole records are told apart.
+#[derive(Clone, Debug, PartialEq, Eq)]
+pub struct Sets {
+    pub counts: [u16; 5],
+    pub tables: [BTreeSet<Vec<u16>>; 8],
+}
+
+pub fn sets(call: &Call) -> Sets {
+    let records = |table: usize| call.tables[table].chunks(SHAPES[table].0).map(<[u16]>::to_vec).collect();
+    Sets { counts: call.counts, tables: [0, 1, 2, 3, 4, 5, 6, 7].map(records) }
+}
+
+/// Whether two collections are the same as sets, 1 or 0; else the refusal of the first, or else that of the second. Neither
+/// allowance is looked at, and no area is lent.
+pub fn same_records(one: &Call, other: &Call) -> u8 {
+    let refused = |call: &Call| checked(call, AREA, AREA).err();
+    refused(one).or(refused(other)).unwrap_or(u8::from(sets(one) == sets(other)))
 }
 
 fn flat<T>(table: &[T], record: impl Fn(&T) -> Vec<u8>) -> Vec<u16> {

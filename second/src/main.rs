@@ -1,4 +1,4 @@
-//! The commands of the second program: desk, explain, paper, changes, picture, automaton, compare, answer and sample.
+//! The commands of the second program: desk, copy, explain, paper, changes, picture, automaton, compare, answer and sample.
 
 use second::compare::{compare, protocol, Options};
 use second::explain::{Explanation, MOST_STEPS};
@@ -8,6 +8,7 @@ use std::io::{BufRead, Read, Write};
 use std::process::ExitCode;
 
 const USAGE: &str = "second desk                  the desk: standard input to standard output
+second copy                  the copyist: standard input to standard output
 second explain FILE          what stands behind the desk's answers to a file, as readable text
 second paper BLOCK FILE [WORDS]
                              a block about a file, for a page: records, marks, places, automaton, numbers, orders, people, model,
@@ -25,6 +26,7 @@ second compare [OPTIONS]     the comparison
     --seed S      the seed of all cases (1)
     --jobs J      cases at a time (1)
     --desk CMD    the desk program to compare, a command with its words in one argument
+    --copyist CMD the copyist to compare, likewise; --desk is needed too
     --library CMD the library driver to compare, likewise; PROTOCOL.md says what it reads and writes
 second answer                the second program's own library behind that protocol
 second sample KIND SEED      a file for the desk: small, medium, full (256 asks), rounds (1,954 are needed), damaged or long";
@@ -36,7 +38,8 @@ fn main() -> ExitCode {
         None => ("", &[][..]),
     };
     match (command, rest) {
-        ("desk", []) => desk(),
+        ("desk", []) => answered(second::desk::desk),
+        ("copy", []) => answered(second::copy::copy),
         ("explain", [file]) => explain(file),
         ("paper", [block, file]) => paper(block, file, ""),
         ("paper", [block, file, words]) => paper(block, file, words),
@@ -61,10 +64,11 @@ fn usage() -> ExitCode {
     ExitCode::from(2)
 }
 
-fn desk() -> ExitCode {
+/// Whole input to whole output.
+fn answered(program: fn(&[u8]) -> Vec<u8>) -> ExitCode {
     let mut input = Vec::new();
     std::io::stdin().read_to_end(&mut input).expect("standard input can be read");
-    written(&second::desk::desk(&input))
+    written(&program(&input))
 }
 
 /// Whoever reads the output may stop before its end, so an error is told by the exit status only.
@@ -163,6 +167,7 @@ fn read_options(words: &[String]) -> Option<Options> {
             "--seed" => options.seed = value.parse().ok()?,
             "--jobs" => options.jobs = value.parse().ok().filter(|jobs| *jobs > 0)?,
             "--desk" => options.desk = Some(value.clone()),
+            "--copyist" => options.copyist = Some(value.clone()),
             "--library" => options.library = Some(value.clone()),
             _ => return None,
         }

@@ -1,5 +1,6 @@
-//! The stored run cases (cases/README.md): the second desk writes each output, and their lines of rounds are counted to the letter.
+//! The stored run cases (cases/README.md): the second program writes each output and each fair copy, and their lines of rounds are counted to the letter.
 
+use second::copy::copy;
 use second::desk::{desk, read::read};
 use second::model::known::Known;
 use second::model::letter;
@@ -24,6 +25,17 @@ fn every_stored_output_is_written() {
     for (path, input, output) in cases() {
         assert_eq!(String::from_utf8(desk(&input)).expect("text"), output, "{}", path.display());
     }
+}
+
+#[test]
+fn every_stored_copy_is_written() {
+    let mut copies = 0;
+    for (path, input, _) in cases() {
+        let Ok(expected) = std::fs::read_to_string(path.with_extension("copy")) else { continue };
+        assert_eq!(String::from_utf8(copy(&input)).expect("text"), expected, "{}", path.display());
+        copies += 1;
+    }
+    assert!(copies > 40, "{copies} copies");
 }
 
 #[test]

@@ -1,20 +1,20 @@
-//! PROTOCOL.md's six examples, read and answered as it is written there.
+//! PROTOCOL.md's seven examples, read and answered as it is written there.
 
 use second::area::{AREA, STORED};
 use second::compare::protocol::{answer, hash, read_request, reply, request};
 use second::library::ask;
 
-/// The lines of the document's code blocks, for a pair, a row, marks, one individual, the marks of rounds and an area moved: the request,
-/// broken over several, and the reply.
-fn examples() -> [(String, String); 6] {
+/// The lines of the document's code blocks, for a pair, a row, marks, one individual, the marks of rounds, an area moved and two
+/// collections: the request, broken over several, and the reply.
+fn examples() -> [(String, String); 7] {
     let document = include_str!("../PROTOCOL.md");
     let blocks: Vec<&str> = document.split("```").collect();
-    [1, 5, 9, 13, 17, 21].map(|at| (blocks[at].replace('\n', ""), blocks[at + 2].replace('\n', "")))
+    [1, 5, 9, 13, 17, 21, 25].map(|at| (blocks[at].replace('\n', ""), blocks[at + 2].replace('\n', "")))
 }
 
 #[test]
 fn the_examples_are_answered_as_written() {
-    let [pair, row, _, one, rounds, _] = examples();
+    let [pair, row, _, one, rounds, ..] = examples();
     let answers = [vec![(1, 2)], vec![(1, 2), (0, 2), (8, 0)], vec![(1, 2)], vec![(0, 2)]];
     for ((line, reply), answers) in [pair, row, one, rounds].into_iter().zip(answers) {
         let lent = read_request(&line).expect("a request");
@@ -162,7 +162,7 @@ fn a_row_that_does_not_fit_leaves_all_as_it_was() {
 
 #[test]
 fn what_is_no_request() {
-    let [(line, _), (row, _), (marks, _), (one, _), (rounds, _), (moved, _)] = examples();
+    let [(line, _), (row, _), (marks, _), (one, _), (rounds, _), (moved, _), (twice, _)] = examples();
     assert!(read_request("").is_none());
     assert!(read_request("R").is_none());
     let cut = &marks[..marks.len() - 1];
@@ -211,6 +211,34 @@ fn what_is_no_request() {
     assert_eq!(reply(&moved.replacen('S', "T", 1))[..2], *"05");
     // An area longer than a driver holds.
     assert!(read_request(&line.replace("0000400000004000", "0002000100004000")).is_none());
+    // One collection alone, or a digit too many; a pair where two collections are.
+    for other in [twice[..69].to_string(), format!("{twice}0"), format!("P{line}"), twice.to_lowercase()] {
+        assert_eq!(reply(&other), "!", "{other}");
+    }
+}
+
+#[test]
+fn two_collections_are_the_same_whatever_their_order_and_their_repeats() {
+    let (line, _) = &examples()[6];
+    let other = |from: &str, to: &str| {
+        assert_eq!(line.matches(from).count(), 1, "{from}");
+        reply(&line.replacen(from, to, 1))
+    };
+    // Another rule, no rule, another count; the start state is not below the states, in the first or the second.
+    assert_eq!(other("00020000000100010000000200000001", "00020000000100010000000200010000"), "00");
+    assert_eq!(other("00020000000100010000000200000001", "000200000001000100000000"), "00");
+    assert_eq!(other("00020000000100010000000200000001", "00020000000200010000000200000001"), "00");
+    assert_eq!(other("00020000000100010000000200000001", "00020000000100010001000200000001"), "04");
+    assert_eq!(other("P00020000000100010000", "P00020000000100010001"), "04");
+    // The refusal of the first is given, though that of the second is smaller.
+    let broken = line.replacen("000400000001", "000300000001", 1).replacen(
+        "000000010000000000000000",
+        "00000000000000000000",
+        1,
+    );
+    assert_eq!(reply(&broken), "05");
+    let second = broken.replacen("00020000000100010000000200000001", "00020000000100010001000200000001", 1);
+    assert_eq!(reply(&second), "05");
 }
 
 #[test]

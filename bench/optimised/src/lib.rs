@@ -3,6 +3,7 @@
 pub mod answer;
 pub mod bits;
 pub mod clash;
+pub mod copies;
 pub mod desk;
 pub mod draft;
 pub mod expression;

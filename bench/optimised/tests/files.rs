@@ -1,11 +1,12 @@
 //! The benchmark's files measure what they are meant to measure.
 
+use optimised::copies;
 use optimised::desk::desk;
 use optimised::make::make;
 use optimised::plot::plot;
 use optimised::spread;
 use optimised::strip::strip;
-use std::collections::BTreeMap;
+use std::collections::{BTreeMap, BTreeSet};
 
 /// How often each answer comes, and the rounds.
 fn answers(kind: &str, size: Option<usize>) -> (BTreeMap<String, usize>, usize) {
@@ -141,6 +142,27 @@ fn the_spread_is_sound_and_of_its_size() {
     }
     assert!(spread::make("more", "large", 1).is_none() && spread::make("chains", "medium", 1).is_none());
     assert!(spread::make("chains", "small", 1) != spread::make("chains", "small", 2));
+}
+
+#[test]
+fn the_files_for_the_copyist_are_sound_and_in_their_orders() {
+    for kind in copies::KINDS {
+        let file = copies::make(kind).expect("a kind");
+        assert!(desk(file.clone()).is_empty(), "{kind}: a sound file without an ask has no output");
+        let lines: Vec<&[u8]> =
+            file.strip_suffix(b"\n").expect("an end").split(|byte| *byte == b'\n').collect();
+        let different: BTreeSet<&[u8]> = lines.iter().copied().collect();
+        let (rises, falls) = (lines.is_sorted(), lines[1..].is_sorted_by(|one, next| one > next));
+        let expected = match kind {
+            "expression" => (2, 2, true, true),
+            "of-one-record" => (4_097, 2, true, false),
+            _ => (4_097, 4_097, kind == "in-order", kind == "from-the-highest"),
+        };
+        assert_eq!((lines.len(), different.len(), rises, falls), expected, "{kind}");
+        // The longest line that there may be.
+        assert!(kind != "expression" || lines[1].len() == 130);
+    }
+    assert!(copies::make("more").is_none());
 }
 
 #[test]

@@ -1,6 +1,6 @@
 -- Two inputs whose lines differ only in the deed numbers of their facts write the same text.
 use Rattle.std.specs.Prelude.{ℕ, zero, suc, ◌+◌, ◌≡◌, refl, ◌↔◌, List, [], ◌++◌, length}
-use Rattle.std.proofs.Common.{sym, ap, subst}
+use Rattle.std.proofs.Common.{ap, ◌∙◌, subst}
 use Rattle.meaning.specs.Lent.{Call}
 use Rattle.meaning.specs.Deeds.{lent_with}
 use Rattle.meaning.proofs.DeedLaws.{one-collection, deeds-decide-nothing}
@@ -16,9 +16,11 @@ use Rattle.reading.specs.Deeds.{SameButDeed, same, concept, role, SameLine, same
 use Rattle.reading.specs.Deeds.{SameVerdict, both-faulty, both-sound}
 use Rattle.reading.proofs.DeedLaws.{Alike, alike-length, entries-same, table-same, declared-same, allowance-same}
 use Rattle.reading.proofs.DeedLaws.{question-same, tables-alike, reads-without-deeds}
-use Rattle.file.specs.Text.{count_width, fault_line}
+use Rattle.shell.specs.Faults.{fault_line}
+use Rattle.shell.specs.Writes.{fault, said}
+use Rattle.file.specs.Text.{count_width}
 use Rattle.file.specs.Rounds.{round_lines}
-use Rattle.file.specs.Writes.{Answers, Answered, collection_read, frames_width, FileRounds, Writes, fault, answers}
+use Rattle.file.specs.Writes.{Answers, Answered, collection_read, frames_width, FileRounds, RepliesTo, Writes}
 
 -- it works both ways
 frame_turned : {f g : Frame} → SameButDeed f g → SameButDeed g f
@@ -61,6 +63,21 @@ module _ {fs gs : List Frame} (s : Alike fs gs) (q : Listed) where
   rounds-same : (counts : List ℕ) → FileRounds fs q counts → FileRounds gs q counts
   rounds-same counts t = rw (read-same, allowance-same s, declared-same s, entries-same asks s) at t
 
+-- and so is what is written of them
+replies-same : {fs gs : List Frame} → Alike fs gs → {x : List ℕ} → RepliesTo frames_width fs x → RepliesTo frames_width gs x
+replies-same {fs} s r =
+    let q = r.question in
+    let e = width-same s q in
+    record {
+      question = q;
+      is = question-same s q r.is;
+      counts = r.counts;
+      told = rounds-same s q r.counts r.told;
+      out = r.out;
+      answered = rw (entries-same asks s, e) at (answered-same s q (frames_width fs) (entries asks fs) r.out r.answered);
+      whole = r.whole ∙ ap (λ (n : ℕ). round_lines n 0 r.counts ++ r.out) e;
+    }
+
 -- the text of the one is that of the other
 module _ (input other : List ℕ) (s : InStep SameLine (lines input) (lines other)) where
   fault-same : {v w : Verdict} → SameVerdict v w → Reading [] (lines other) w → (before : List Frame) (r : Refusal) → v ≡ faulty before r
@@ -82,14 +99,10 @@ module _ (input other : List ℕ) (s : InStep SameLine (lines input) (lines othe
   writes-same (fault before r h) =
       let w = reads-without-deeds (lines input) (lines other) s (faulty before r) h in
       fault-same w.1 w.2 before r refl
-  writes-same (answers fs q counts out h is t a) =
+  writes-same (said fs x h r) =
       let w = reads-without-deeds (lines input) (lines other) s (sound fs) h in
       let v = sound-same w.1 w.2 fs refl in
-      let d = v.1 in
-      let e = width-same d q in
-      subst (λ (n : ℕ). Writes other (round_lines n 0 counts ++ out)) (sym e)
-      (answers v.0 q counts out v.2 (question-same d q is) (rounds-same d q counts t)
-      (rw (entries-same asks d, e) at (answered-same d q (frames_width fs) (entries asks fs) out a)))
+      said v.0 x v.2 (replies-same v.1 r)
 
 -- THEOREM: what is written does not depend on deed numbers
 pub writes-without-deeds : (input other : List ℕ) → InStep SameLine (lines input) (lines other) → (text : List ℕ)

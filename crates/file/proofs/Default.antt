@@ -13,7 +13,7 @@ use Rattle.file.specs.Told.{number_on}
 use Rattle.file.specs.Laws.{TellsRounds}
 use Rattle.file.specs.Demands.{IsAsModelSays}
 use Rattle.file.specs.Default.{DefaultSuffices, NeverSpent, DefaultSaysAsModel, DefaultTellsAll}
-use Rattle.file.proofs.Told.{question-of, rounds-are-told}
+use Rattle.file.proofs.Told.{replies, asking, rounds-are-told}
 use Rattle.file.proofs.Demanded.{lines-say-as-model, rounds-enough}
 
 allowed : (fs : List Frame) → allowance_given fs ≡ None → rounds_allowed fs ≡ most_rounds (declared_by fs)
@@ -41,8 +41,7 @@ module _ (call : Call) (Found : Type 0) (line : List ℕ) (m : IsAsModelSays cal
 -- THEOREM: and never the allowance spent
 pub never-spent : NeverSpent
 never-spent input text w fs s none k h =
-    let (q, asking, _) = question-of w fs s in
-    decided _ _ _ (default-model input text w fs q asking none k h)
+    decided _ _ _ (default-model input text w fs (replies w fs s).question (asking w fs s) none k h)
 
 -- THEOREM: the rounds that are told of are those needed
 pub default-rounds : DefaultTellsAll

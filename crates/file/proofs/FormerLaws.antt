@@ -1,26 +1,42 @@
 -- What an input wrote while there were at most 16 states, beside what it writes today.
 use Rattle.std.specs.Prelude.{ℕ, ◌+◌, ◌≡◌, ◌⊎◌, ◌↔◌, List, [], ◌++◌, length}
-use Rattle.std.proofs.Common.{refl, inl, inr, sym, subst}
+use Rattle.std.proofs.Common.{refl, inl, inr, sym, ap, ◌∙◌, subst}
 use Rattle.frames.specs.declared.Frame.{Frame}
 use Rattle.streams.specs.Lines.{lines}
 use Rattle.reading.specs.declared.Refusal.{Refusal}
 use Rattle.reading.specs.declared.Refusal.TheVariants.{BadCount, BadTable, BadLine, BadFrame}
 use Rattle.reading.specs.Refusal.{refusal_number}
-use Rattle.reading.specs.Tables.{declared_by}
+use Rattle.reading.specs.Tables.{asks, entries, declared_by}
 use Rattle.reading.specs.Reading.{Verdict, faulty, sound, Reading}
 use Rattle.reading.specs.Former.{FormerReading, FormerLimits, IsFormerFault}
 use Rattle.reading.proofs.Once.{reading-once}
 use Rattle.reading.proofs.FormerLaws.{former-once, former-sound, former-else, former-found}
-use Rattle.file.specs.Text.{fault_line}
+use Rattle.reading.specs.File.{asked}
+use Rattle.shell.specs.Faults.{fault_line}
+use Rattle.shell.specs.Writes.{fault, said}
+use Rattle.shell.proofs.WritesLaws.{by-once}
 use Rattle.file.specs.Rounds.{round_lines}
-use Rattle.file.specs.Writes.{frames_width, Writes, fault, answers}
+use Rattle.file.specs.Writes.{Answered, frames_width, RepliesTo, Writes}
 use Rattle.file.specs.Former.{FormerWrites, WasSound, TellsFormerFault}
 use Rattle.file.proofs.Widths.{width-few}
-use Rattle.file.proofs.WritesLaws.{by-once}
+use Rattle.file.proofs.WritesLaws.{replies-once}
 
 -- THEOREM: an input wrote one text
 pub former-writes-once : {input x y : List ℕ} → FormerWrites input x → FormerWrites input y → x ≡ y
-former-writes-once = by-once (FormerReading []) (λ fs. 2) (λ ls v w a b. former-once a b)
+former-writes-once {input} =
+    by-once (FormerReading []) (RepliesTo (λ fs. 2)) input (λ v w a b. former-once a b) (λ fs h x y. replies-once)
+
+-- what is written of some frames stays where their counts are as wide
+as-wide : {v w : List Frame → ℕ} {fs : List Frame} {x : List ℕ} → v fs ≡ w fs → RepliesTo v fs x → RepliesTo w fs x
+as-wide {fs = fs} e r = record {
+  question = r.question;
+  is = r.is;
+  counts = r.counts;
+  told = r.told;
+  out = r.out;
+  answered = subst (λ (n : ℕ). Answered n (asked fs r.question) (entries asks fs) r.out) e r.answered;
+  whole = r.whole ∙ ap (λ (n : ℕ). round_lines n 0 r.counts ++ r.out) e;
+}
 
 module _ (input : List ℕ) (fs : List Frame) (s : WasSound input fs) where
   still : Reading [] (lines input) (sound fs) × FormerLimits (lines input) fs
@@ -31,19 +47,17 @@ module _ (input : List ℕ) (fs : List Frame) (s : WasSound input fs) where
 
   as-it-did : {text : List ℕ} → Writes input text → FormerWrites input text
   as-it-did (fault before r h) = let e = reading-once h still.0 in absurd cc
-  as-it-did (answers gs q counts out h is t a) =
+  as-it-did (said gs x h r) =
       let e = reading-once h still.0 in
       let d : gs ≡ fs = cc in
-      let n : frames_width gs ≡ 2 = rw d narrow in
-      subst (λ w. FormerWrites input (round_lines w 0 counts ++ out)) (sym n) (answers gs q counts out (rw d s) is t (rw n at a))
+      said fs x s (as-wide narrow (rw d at r))
 
   as-it-does : {text : List ℕ} → FormerWrites input text → Writes input text
   as-it-does (fault before r h) = let e = former-once h s in absurd cc
-  as-it-does (answers gs q counts out h is t a) =
+  as-it-does (said gs x h r) =
       let e = former-once h s in
       let d : gs ≡ fs = cc in
-      let n : frames_width gs ≡ 2 = rw d narrow in
-      subst (λ w. Writes input (round_lines w 0 counts ++ out)) n (answers gs q counts out (rw d still.0) is t (rw (← n) at a))
+      said fs x still.0 (as-wide (sym narrow) (rw d at r))
 
   -- THEOREM: an input that was read whole writes what it wrote
   pub writes-as-it-did : (text : List ℕ) → Writes input text ↔ FormerWrites input text
@@ -59,7 +73,7 @@ its-line before r h = absurd h
 
 -- THEOREM: what any input wrote it writes, or it was the line of such a fault
 pub wrote-as-it-does : {input text : List ℕ} → FormerWrites input text → Writes input text ⊎ TellsFormerFault text
-wrote-as-it-does (answers fs q counts out h is t a) = inl (as-it-does _ fs h (answers fs q counts out h is t a))
+wrote-as-it-does (said fs x h r) = inl (as-it-does _ fs h (said fs x h r))
 wrote-as-it-does {input} (fault before r h) = by (former-else h)
   where
     by : Reading [] (lines input) (faulty before r) ⊎ IsFormerFault (faulty before r)
@@ -73,7 +87,7 @@ former-writes-some {input} {text} w = by (was w)
   where
     was : {x : List ℕ} → Writes input x → (v : Verdict) × FormerReading [] (lines input) v
     was (fault before r h) = former-found h
-    was (answers fs q counts out h is t a) = former-found h
+    was (said fs x h r) = former-found h
 
     by : (v : Verdict) × FormerReading [] (lines input) v → (out : List ℕ) × FormerWrites input out
     by (faulty before r, h) = (_, fault before r h)

@@ -9,7 +9,6 @@ pub mod Demanded
 pub mod Default
 -- Laws that the functions' proofs cite.
 pub mod Widths
-pub mod Spelling
 pub mod Asks
 pub mod Rounds
 pub mod Listening

@@ -11,7 +11,8 @@ use Rattle.kinds.specs.declared.Ask.{Ask}
 use Rattle.kinds.specs.declared.Ask.TheVariants.{Pair, From}
 use Rattle.meaning.specs.Lent.{Call}
 use Rattle.streams.specs.Lines.{lines, longer}
-use Rattle.file.specs.Text.{character, characters, text, round_line, answer_line}
+use Rattle.frames.specs.Text.{character, characters, text}
+use Rattle.file.specs.Text.{round_line, answer_line}
 use Rattle.file.specs.Rounds.{round_lines}
 use Rattle.file.specs.Writes.{Answers, Answered}
 use Rattle.file.specs.Told.{line_in}

@@ -26,13 +26,16 @@ use Rattle.streams.specs.Lines.{lines}
 use Rattle.expression.specs.Listed.{Listed}
 use Rattle.reading.specs.Tables.{asks, entries, table, declared_by, rounds_allowed}
 use Rattle.reading.specs.File.{file_of, asked}
-use Rattle.reading.proofs.Once.{reading-once}
 use Rattle.reading.proofs.Questions.{question-once}
 use Rattle.reading.proofs.Accepted.{whole-accepted}
 use Rattle.reading.proofs.Listed.{refusals-listed}
-use Rattle.file.specs.Text.{character, characters, text, count_width, fault_line, round_line, answer_line, IsInBytes}
+use Rattle.frames.specs.Text.{character, characters, text}
+use Rattle.shell.specs.Faults.{fault_line}
+use Rattle.shell.specs.Writes.{IsSound, IsFaulty}
+use Rattle.shell.proofs.WritesLaws.{faults-near, fault-written, said-written}
+use Rattle.file.specs.Text.{count_width, round_line, answer_line, IsInBytes}
 use Rattle.file.specs.Rounds.{round_lines}
-use Rattle.file.specs.Writes.{Answers, Answered, IsSound, IsAsking, IsFaulty, collection_read, frames_width, FileRounds, Writes, fault, answers}
+use Rattle.file.specs.Writes.{Answers, Answered, IsAsking, collection_read, frames_width, FileRounds, RepliesTo, Writes}
 use Rattle.frames.specs.Frames.{number_in}
 use Rattle.file.specs.Told.{line_in, rounds_in, line_at, round_length, answers_length, number_on, count_on}
 use Rattle.file.specs.Told.{Names, TellsOutcome, IsRoundLine, IsFaultLine}
@@ -44,7 +47,6 @@ use Rattle.file.proofs.Widths.{round-length, answer-length, fault-length}
 use Rattle.file.proofs.Turns.{answered-length}
 use Rattle.file.proofs.Lined.{AreLines, both_lines, line_before, line_after, rounds_lined, round-is, answers_lined, answer-at}
 use Rattle.file.proofs.Rounds.{rounds-length, told-once, none-told, rounds-told, few-told}
-use Rattle.file.proofs.WritesLaws.{fault-line}
 use Rattle.file.proofs.Listed.{sound-listed, count-fits}
 
 -- a digit is read back from its character
@@ -167,31 +169,27 @@ module _ {c : Counts} {width : ℕ} (w : IsWidth c width) (round marks : ℕ) wh
         marks = rw (e, append-nil (bytes_high_first width marks)) at n;
       }
 
-module _ {input text : List ℕ} (w : Writes input text) where
-  -- the lines for a sound input's rounds and asks
-  pub record IsAnswered (fs : List Frame) (q : Listed) (x : List ℕ) : Type 0 where
-    pub counts : List ℕ
-    pub told : FileRounds fs q counts
-    pub out : List ℕ
-    pub lines-are : Answered (frames_width fs) (asked fs q) (entries asks fs) out
-    pub whole : x ≡ round_lines (frames_width fs) 0 counts ++ out
+-- the lines for the rounds and the asks of frames that ask a question
+pub record IsAnswered (fs : List Frame) (q : Listed) (x : List ℕ) : Type 0 where
+  pub counts : List ℕ
+  pub told : FileRounds fs q counts
+  pub out : List ℕ
+  pub lines-are : Answered (frames_width fs) (asked fs q) (entries asks fs) out
+  pub whole : x ≡ round_lines (frames_width fs) 0 counts ++ out
 
-  pub question-of : (fs : List Frame) → IsSound input fs → (q : Listed) × IsAsking input fs q × IsAnswered fs q text
-  question-of fs s = by w
-    where
-      by : {x : List ℕ} → Writes input x → (q : Listed) × IsAsking input fs q × IsAnswered fs q x
-      by (fault before r h) = let e = reading-once h s in absurd cc
-      by (answers gs q counts out h is t a) =
-          let e = reading-once h s in
-          let d : gs ≡ fs = cc in
-          subst (λ (f : List Frame). (q : Listed) × IsAsking input f q × IsAnswered f q (round_lines (frames_width gs) 0 counts ++ out)) d
-          (q, record { sound = h; question = is }, record { counts = counts; told = t; out = out; lines-are = a; whole = refl })
+module _ {input text : List ℕ} (w : Writes input text) where
+  pub replies : (fs : List Frame) → IsSound input fs → RepliesTo frames_width fs text
+  replies fs s = (said-written (RepliesTo frames_width) input fs s text).0 w
+
+  pub asking : (fs : List Frame) (s : IsSound input fs) → IsAsking input fs (replies fs s).question
+  asking fs s = record { sound = s; question = (replies fs s).is }
 
   module _ (fs : List Frame) (q : Listed) (s : IsAsking input fs q) where
     answered : IsAnswered fs q text
     answered =
-        let a = question-of fs s.sound in
-        subst (λ (r : Listed). IsAnswered fs r text) (question-once (file_of fs) a.0 q a.1.question s.question) a.2
+        let r = replies fs s.sound in
+        subst (λ (p : Listed). IsAnswered fs p text) (question-once (file_of fs) r.question q r.is s.question)
+        (record { counts = r.counts; told = r.told; out = r.out; lines-are = r.answered; whole = r.whole })
 
     answers-lined : AreLines answered.out (entries asks fs)
     answers-lined = answers_lined (frames_width fs) (asked fs q) (entries asks fs) answered.out answered.lines-are
@@ -268,22 +266,11 @@ module _ {input text : List ℕ} (w : Writes input text) where
         stand = λ m st. lite-make (collection_read fs q) well _ answered.counts m added st;
       }
 
-  fault-text : (before : List Frame) (r : Refusal) → IsFaulty input before r → text ≡ fault_line (length before + 1) (refusal_number r)
-  fault-text before r s = by w
-    where
-      by : {out : List ℕ} → Writes input out → out ≡ fault_line (length before + 1) (refusal_number r)
-      by (fault bs q h) =
-          let e = reading-once h s in
-          let d : bs ≡ before = cc in
-          let f : q ≡ r = cc in
-          rw (d, f) refl
-      by (answers gs q counts out h is t a) = let e = reading-once h s in absurd cc
-
   -- THEOREM: a faulty input writes the line of its first faulty line's number, and the number that refuses that line
   pub fault-told : (before : List Frame) (r : Refusal) → IsFaulty input before r → IsFaultLine (length before + 1) r text
   fault-told before r s =
-      subst (IsFaultLine (length before + 1) r) (sym (fault-text before r s))
-      (fault-is (length before + 1) r (omega (arith, fault-line input before r s)))
+      subst (IsFaultLine (length before + 1) r) (sym ((fault-written (RepliesTo frames_width) input before r s text).0 w))
+      (fault-is (length before + 1) r (omega (arith, faults-near input before r s)))
 
 -- what stands on a line of an answer to a call
 module _ {width : ℕ} {call : Call} {line : List ℕ} (w : Answers width call line) where
@@ -314,7 +301,8 @@ module _ {input text : List ℕ} (w : Writes input text) (fs : List Frame) (s : 
   -- THEOREM: a sound input writes a line for each ask, which tells its outcome, with an answer from 0 to 3
   pub asks-answered : AnswersEachAsk fs text
   asks-answered =
-      let (q, a, _) = question-of w fs s in
+      let q = (replies w fs s).question in
+      let a = asking w fs s in
       record {
         question = q;
         is = a.question;

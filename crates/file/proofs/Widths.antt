@@ -13,7 +13,9 @@ use Rattle.kinds.specs.Kinds.{CountsFit}
 use Rattle.meaning.specs.Demands.{most_rounds}
 use Rattle.meaning.proofs.Demands.{most-rounds}
 use Rattle.frames.specs.Frames.{number_in}
-use Rattle.file.specs.Text.{few_states, count_width, text, fault_line, round_line, answer_line}
+use Rattle.frames.specs.Text.{text}
+use Rattle.shell.specs.Faults.{fault_line}
+use Rattle.file.specs.Text.{few_states, count_width, round_line, answer_line}
 use Rattle.reading.specs.Tables.{declared_by}
 use Rattle.file.specs.Told.{round_length, fault_length, answer_length}
 use Rattle.file.specs.declared.text.TheConstants.{ROUND_LINE, ANSWER_LINE}

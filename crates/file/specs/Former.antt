@@ -5,12 +5,13 @@ use Rattle.frames.specs.declared.Frame.{Frame}
 use Rattle.streams.specs.Lines.{lines}
 use Rattle.reading.specs.Reading.{sound}
 use Rattle.reading.specs.Former.{FormerReading}
-use Rattle.file.specs.Text.{fault_line}
-use Rattle.file.specs.Writes.{WritesBy, Writes}
+use Rattle.shell.specs.Faults.{fault_line}
+use Rattle.shell.specs.Writes.{WritesBy}
+use Rattle.file.specs.Writes.{RepliesTo, Writes}
 
 -- what an input wrote
 abbrev pub FormerWrites : List ℕ → List ℕ → Type 0
-FormerWrites = WritesBy (FormerReading []) (λ fs. 2)
+FormerWrites = WritesBy (FormerReading []) (RepliesTo (λ fs. 2))
 
 -- it was read whole, as these frames
 abbrev pub WasSound : List ℕ → List Frame → Type 0

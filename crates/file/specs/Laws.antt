@@ -1,5 +1,5 @@
 -- Laws of what an input writes.
-use Rattle.std.specs.Prelude.{ℕ, ◌+◌, ◌<◌, ◌≤◌, ◌≡◌, ◌↔◌, ◌⊎◌, List, Some, length, take, drop, min, sum, slice_index}
+use Rattle.std.specs.Prelude.{ℕ, ◌+◌, ◌<◌, ◌≤◌, ◌≡◌, ◌↔◌, ◌⊎◌, List, Some, length, take, min, sum, slice_index}
 use Rattle.std.specs.Io.KnownBytes.{Appends}
 use Rattle.meaning.specs.Collection.{Collection}
 use Rattle.meaning.specs.Model.{Contradiction}
@@ -12,8 +12,10 @@ use Rattle.frames.specs.declared.Frame.{Frame}
 use Rattle.reading.specs.declared.Refusal.{Refusal}
 use Rattle.reading.specs.Tables.{asks, entries, rounds_allowed}
 use Rattle.reading.specs.File.{IsQuestionOf, asked}
+use Rattle.shell.specs.Laws as any
+use Rattle.shell.specs.Writes.{IsSound, IsFaulty}
 use Rattle.file.specs.declared.TheConstants.{MOST_TEXT}
-use Rattle.file.specs.Writes.{IsSound, IsAsking, IsFaulty, collection_read, frames_width, SameButDeeds, Writes}
+use Rattle.file.specs.Writes.{IsAsking, collection_read, frames_width, SameButDeeds, RepliesTo, Writes}
 use Rattle.file.specs.Serves.{Serves}
 use Rattle.streams.specs.Lines.{lines}
 use Rattle.file.specs.Told.{line_in, rounds_in, line_at, TellsOutcome, IsRoundLine, IsFaultLine}
@@ -83,16 +85,9 @@ FaultTold = (input text : List ℕ) → Writes input text
     → (before : List Frame) (r : Refusal) → IsFaulty input before r
     → IsFaultLine (length before + 1) r text
 
--- and that is at most 7,715
-abbrev pub FaultsNear : Type 0
-FaultsNear = (input : List ℕ) (before : List Frame) (r : Refusal) → IsFaulty input before r
-    → length before + 1 ≤ 7715
-
 -- a text holds n characters of what is written, and then what it held
-pub record IsWritten (input old : List ℕ) (n : ℕ) (text : List ℕ) : Type 0 where
-  pub within : n ≤ length text
-  pub written : Writes input (take n text)
-  pub rest : drop n text ≡ drop n old
+abbrev pub IsWritten : List ℕ → List ℕ → ℕ → List ℕ → Type 0
+IsWritten = any.IsWritten (RepliesTo frames_width)
 
 -- two outcomes of answering in memory are equal: how much is told, and every byte of the text
 abbrev pub WrittenOnce : Type 0

@@ -1,5 +1,5 @@
--- The asks of a file answered, and what is written of what reading found.
-use Rattle.std.specs.Prelude.{ℕ, ◌≡◌, ◌<◌, ◌/◌, List, ◌++◌, Result, Ok, Err, IfSome, length, slice_get}
+-- The rounds of a file told, and its asks answered.
+use Rattle.std.specs.Prelude.{ℕ, ◌≡◌, ◌<◌, ◌/◌, List, ◌++◌, IfSome, length, slice_get}
 use Rattle.kinds.specs.declared.Answer.{Answer}
 use Rattle.meaning.specs.Lent.{collection}
 use Rattle.meaning.specs.Outcome.{Outcome}
@@ -8,10 +8,8 @@ use Rattle.tables.specs.Lists.{lists}
 use Rattle.index.specs.declared.lent.Lent.{Lent}
 use Rattle.expression.specs.Listed.{Listed}
 use Rattle.reading.specs.declared.File.{File}
-use Rattle.reading.specs.declared.Fault.{Fault}
-use Rattle.reading.specs.Refusal.{refusal_number}
 use Rattle.reading.specs.File.{IsQuestion, lent_tables, LendsTables, allowance_in, held_call}
-use Rattle.file.specs.Text.{count_width, fault_line}
+use Rattle.file.specs.Text.{count_width}
 use Rattle.file.specs.Rounds.{round_lines, RoundsTold}
 use Rattle.file.specs.Writes.{Answered}
 
@@ -61,12 +59,3 @@ module _ (file : File) where
     pub text : List ℕ
     pub answered : Answered held_width (held_call file question) ask_count text
     pub so : P (round_lines held_width 0 counts ++ text)
-
--- P of the text for what reading found
-abbrev pub Tells : File → Result (Unit {0}) Fault → (List ℕ → Type 0) → Type 0
-Tells file (Ok u) P = AnswersAll file P
-Tells file (Err fault) P = P (fault_line fault.line (refusal_number fault.refusal))
-
--- what the desk may put for what reading found
-abbrev pub IsReply : File → Result (Unit {0}) Fault → List ℕ → Type 0
-IsReply file found out = Tells file found (λ text. out ≡ text)

@@ -1,8 +1,7 @@
--- The lines that are written (docs/RULES.md, section 8): two characters a byte, capital letters,
--- and 0A at the end.
-use Rattle.std.specs.Prelude.{ℕ, ◌+◌, ◌/◌, ◌%◌, ◌^◌, ◌<◌, List, [], ◌∷◌, ◌++◌, nat_lt, nat_le, if◌then◌else◌}
+-- The lines that are written (docs/RULES.md, section 8).
+use Rattle.std.specs.Prelude.{ℕ, ◌^◌, ◌<◌, List, ◌∷◌, ◌++◌, nat_le, if◌then◌else◌}
 use Rattle.std.specs.Int.{bytes_high_first}
-use Rattle.std.specs.List.{flat_map}
+use Rattle.frames.specs.Text.{text}
 use Rattle.kinds.specs.declared.Counts.{Counts}
 use Rattle.kinds.specs.declared.Answer.{Answer}
 use Rattle.kinds.specs.Answer.{answer_number, answer_count}
@@ -10,18 +9,6 @@ use Rattle.kinds.specs.declared.Ask.{Ask}
 use Rattle.kinds.specs.declared.Ask.TheVariants.{Pair, From}
 use Rattle.file.specs.declared.text.Width.{Width}
 use Rattle.file.specs.declared.text.Width.TheVariants.{Two, Four}
-
--- the character of a digit: 0–9, then A–F
-abbrev pub character : ℕ → ℕ
-character digit = if nat_lt digit 10 then 48 + digit else 55 + digit
-
--- a byte, high digit first
-abbrev pub characters : ℕ → List ℕ
-characters byte = character (byte / 16) ∷ character (byte % 16) ∷ []
-
--- a line of bytes
-unfoldable pub text : List ℕ → List ℕ
-text bytes = flat_map characters bytes ++ 0x0A ∷ []
 
 -- the most states that a file declares whose counts have two bytes
 abbrev pub few_states : ℕ
@@ -35,10 +22,6 @@ count_width c = if nat_le c.states few_states then 2 else 4
 abbrev pub bytes_of : Width → ℕ
 bytes_of Two = 2
 bytes_of Four = 4
-
--- 8F, line number (two bytes), number
-unfoldable pub fault_line : ℕ → ℕ → List ℕ
-fault_line line number = text (0x8F ∷ bytes_high_first 2 line ++ number ∷ [])
 
 -- 8A, round, marks that it added, each as wide as a count
 unfoldable pub round_line : ℕ → ℕ → ℕ → List ℕ

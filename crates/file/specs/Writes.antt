@@ -1,6 +1,6 @@
 -- What a whole input writes, for any bytes (docs/RULES.md, section 8): the line of its first fault,
 -- or a line for each round and an answer for each ask.
-use Rattle.std.specs.Prelude.{ℕ, zero, suc, ◌+◌, ◌≡◌, List, [], ◌++◌, length}
+use Rattle.std.specs.Prelude.{ℕ, zero, suc, ◌≡◌, List, [], ◌++◌}
 use Rattle.kinds.specs.declared.Answer.{Answer}
 use Rattle.meaning.specs.Collection.{Collection}
 use Rattle.meaning.specs.Lent.{Call, collection}
@@ -8,13 +8,11 @@ use Rattle.meaning.specs.Outcome.{Outcome}
 use Rattle.expression.specs.Listed.{Listed}
 use Rattle.frames.specs.declared.Frame.{Frame}
 use Rattle.streams.specs.Lines.{lines}
-use Rattle.reading.specs.declared.Refusal.{Refusal}
-use Rattle.reading.specs.Refusal.{refusal_number}
 use Rattle.reading.specs.Tables.{asks, entries, declared_by, rounds_allowed}
 use Rattle.reading.specs.File.{IsQuestionOf, tables_of, asked}
-use Rattle.reading.specs.Reading.{Verdict, faulty, sound, Reading}
 use Rattle.reading.specs.Deeds.{SameLine, InStep}
-use Rattle.file.specs.Text.{count_width, fault_line, answer_line}
+use Rattle.shell.specs.Writes.{IsSound, WritesOf}
+use Rattle.file.specs.Text.{count_width, answer_line}
 use Rattle.file.specs.Rounds.{round_lines, RoundsTold}
 
 -- the line for a call of the library, where a count has so many bytes: its outcome, and what it asks
@@ -29,11 +27,7 @@ Answered width call zero out = out ≡ []
 Answered width call (suc k) out =
     (x y : List ℕ) × Answered width call k x × Answers width (call k) y × (out ≡ x ++ y)
 
--- an input is read whole, as these frames
-abbrev pub IsSound : List ℕ → List Frame → Type 0
-IsSound input fs = Reading [] (lines input) (sound fs)
-
--- and it asks this question
+-- an input is read whole, as these frames, and it asks this question
 pub record IsAsking (input : List ℕ) (fs : List Frame) (q : Listed) : Type 0 where
   pub sound : IsSound input fs
   pub question : IsQuestionOf fs q
@@ -46,10 +40,6 @@ collection_read fs q = collection (declared_by fs) (tables_of fs q)
 abbrev pub FileRounds : List Frame → Listed → List ℕ → Type 0
 FileRounds fs q = RoundsTold (collection_read fs q) (rounds_allowed fs) (entries asks fs)
 
--- the line after these frames is its first faulty one
-abbrev pub IsFaulty : List ℕ → List Frame → Refusal → Type 0
-IsFaulty input before r = Reading [] (lines input) (faulty before r)
-
 -- two inputs differ only in deed numbers: their lines are one by one the same, sound or not, or facts
 -- that differ only in their deed numbers, typed or left out
 abbrev pub SameButDeeds : List ℕ → List ℕ → Type 0
@@ -59,17 +49,17 @@ SameButDeeds input other = InStep SameLine (lines input) (lines other)
 abbrev pub frames_width : List Frame → ℕ
 frames_width fs = count_width (declared_by fs)
 
--- what is written by a reading of the lines, and by how wide the counts of some frames are: the
--- number of the first faulty line, from 1, and the number that refuses it; or the rounds, and then
--- each ask's answer
-pub data WritesBy (Reads : List (List ℕ) → Verdict → Type 0) (width : List Frame → ℕ)
-    (input : List ℕ) : List ℕ → Type 0 where
-  fault : (before : List Frame) (r : Refusal) → Reads (lines input) (faulty before r)
-      → WritesBy Reads width input (fault_line (length before + 1) (refusal_number r))
-  answers : (fs : List Frame) (q : Listed) (counts out : List ℕ) → Reads (lines input) (sound fs)
-      → IsQuestionOf fs q → FileRounds fs q counts
-      → Answered (width fs) (asked fs q) (entries asks fs) out
-      → WritesBy Reads width input (round_lines (width fs) 0 counts ++ out)
+-- what is written of frames that were read whole, with counts as wide as `width` says: the rounds,
+-- and then each ask's answer
+pub record RepliesTo (width : List Frame → ℕ) (fs : List Frame) (text : List ℕ) : Type 0 where
+  pub question : Listed
+  pub is : IsQuestionOf fs question
+  pub counts : List ℕ
+  pub told : FileRounds fs question counts
+  pub out : List ℕ
+  pub answered : Answered (width fs) (asked fs question) (entries asks fs) out
+  pub whole : text ≡ round_lines (width fs) 0 counts ++ out
 
+-- what the desk writes
 abbrev pub Writes : List ℕ → List ℕ → Type 0
-Writes = WritesBy (Reading []) frames_width
+Writes = WritesOf (RepliesTo frames_width)

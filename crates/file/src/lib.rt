@@ -6,7 +6,8 @@ ghost use Rattle.std.specs.Prelude.{◌≡◌, ◌+◌, ◌*◌, ◌<◌, ◌≤
 ghost use Rattle.std.specs.Io.KnownBytes.{Keeps, Appends};
 ghost use Rattle.std.specs.declared.io.Error.{Error};
 ghost use Rattle.streams.specs.Takes.{TakesStart};
-ghost use Rattle.file.specs.Writes.{IsSound, IsAsking, IsFaulty, frames_width, FileRounds, SameButDeeds, Writes};
+ghost use Rattle.shell.specs.Writes.{IsSound, IsFaulty};
+ghost use Rattle.file.specs.Writes.{IsAsking, frames_width, FileRounds, SameButDeeds, Writes};
 ghost use Rattle.file.specs.Serves.{Serves, AppendsUnspent, FormerServes};
 ghost use Rattle.file.specs.Former.{FormerWrites, WasSound};
 ghost use Rattle.streams.specs.Lines.{lines};

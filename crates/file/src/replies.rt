@@ -1,15 +1,16 @@
-// What reading a file found, written: the line of its fault, or those of its rounds, as they are worked, and of its
-// asks, answered from one preparation.
+// What is written of a file that was read whole: the lines of its rounds, as they are worked, and of its asks, answered
+// from one preparation.
 ghost use Rattle.std.specs.Prelude.{◌≡◌, ◌<◌, OnOk, IfErr};
 ghost use Rattle.reading.specs.Reads.{IsRead};
 ghost use Rattle.file.specs.Text.{bytes_of, round_line, answer_line, IsInBytes};
-ghost use Rattle.file.specs.Replying.{ask_count, held_width, IsLentOf, RoundsAll, AnswersEach, AnswersAll, IsReply};
+ghost use Rattle.file.specs.Replying.{ask_count, held_width, IsLentOf, RoundsAll, AnswersEach, AnswersAll};
+ghost use Rattle.file.specs.Writes.{frames_width, RepliesTo};
 
 use crate::text;
 use crate::text::Width;
 use index::{Checked, Lent, Routes};
 use kinds::{Answer, Ask, MarkCount, RoundListener, Rounds};
-use reading::{ASKS, Fault, File};
+use reading::{ASKS, File};
 use shell::Report;
 use std::io;
 use streams::Taker;
@@ -106,16 +107,13 @@ fn put_replies<T: Taker>(file: &File, to: &mut T) -> io::Result<()>
     Ok(())
 }
 
-// The desk's own report: of a file that was read its replies, and of any other the line of its fault.
+// What the desk writes of a file that was read whole.
 pub(crate) struct Replies;
 
 impl Report for Replies {
-    ghost texts = { IsReply };
+    ghost says = { RepliesTo frames_width };
 
-    fn put<T: Taker>(&self, found: Result<(), Fault>, file: &File, to: &mut T) -> io::Result<()> {
-        match found {
-            Ok(()) => put_replies(file, to),
-            Err(fault) => to.put(text::fault(fault).as_slice()),
-        }
+    fn put<T: Taker>(&self, file: &mut File, to: &mut T) -> io::Result<()> {
+        put_replies(file, to)
     }
 }

@@ -1,7 +1,7 @@
 // Laws of what an input writes. The functions here have nothing to do: each clause is a law.
 ghost use Rattle.file.specs.Laws.{WritesOnce, TextFits, StartWrites, WrittenOnce, ServedOnce};
 ghost use Rattle.file.specs.Laws.{WritesWithoutDeeds};
-ghost use Rattle.file.specs.Laws.{AsksAnswered, RoundsAreTold, NoRoundTold, FaultTold, FaultsNear};
+ghost use Rattle.file.specs.Laws.{AsksAnswered, RoundsAreTold, NoRoundTold, FaultTold};
 ghost use Rattle.file.specs.Demands.{LinesSayAsModel, LinesSayOfExpression, LinesGrow, LinesReturn, RoundsSuffice};
 ghost use Rattle.file.specs.Former.{WritesAsItDid, WroteAsItDoes, FormerWritesOnce, FormerWritesSome};
 ghost use Rattle.file.specs.Default.{DefaultSuffices, NeverSpent, DefaultSaysAsModel, DefaultTellsAll};
@@ -22,7 +22,6 @@ pub fn lines()
     ensures rounds { RoundsAreTold }
     ensures no_round { NoRoundTold }
     ensures fault { FaultTold }
-    ensures near { FaultsNear }
 {}
 
 // What is demanded of the answers.

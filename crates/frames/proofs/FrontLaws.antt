@@ -20,7 +20,7 @@ use Rattle.frames.proofs.Bytes.{byte_within, sound_bytes, front_pairs}
 use Rattle.frames.proofs.Lengths.{may_be_short, no_longer}
 
 -- a digit is no line end
-plain : (c : ℕ) → digit_of c < 16 → (c == 0x0A) ≡ false
+pub plain : (c : ℕ) → digit_of c < 16 → (c == 0x0A) ≡ false
 unfolding digit_of
 plain c h = grind (arith, nat_tests)
 

@@ -1,7 +1,15 @@
 pub mod Worth
+pub mod Spelling
 pub mod Lanes
 pub mod Bytes
 pub mod Lengths
 pub mod ReaderLaws
 pub mod FrontLaws
 pub mod Once
+pub mod Named
+pub mod Spelled
+pub mod FieldBytes
+pub mod ReadBack
+pub mod WrittenBack
+pub mod Numbered
+pub mod Ends

@@ -1,6 +1,8 @@
 pub mod Digits
+pub mod Text
 pub mod Kinds
 pub mod Frames
+pub mod Written
 pub mod Measured
 pub mod Pairs
 pub mod Reader

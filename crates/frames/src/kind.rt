@@ -3,6 +3,7 @@ ghost use Rattle.std.specs.Prelude.{◌≡◌, ◌↔◌, IsTrue, IfSome, Some};
 ghost use Rattle.std.specs.Bool.{OnTrue};
 ghost use Rattle.frames.specs.Kinds.{kind_of, frame_length, HasLength};
 ghost use Rattle.frames.specs.Front.{BeginsLine};
+ghost use Rattle.frames.specs.Written.{kind_byte};
 
 // The bytes that some frames may have more: those of a deed number, and of an allowance that has four.
 const MORE: usize = 2;
@@ -10,22 +11,23 @@ const MORE: usize = 2;
 // The characters of the longest line of a known length.
 const LONGEST: usize = 12;
 
+// Each kind at the byte that names it.
 #[derive(Clone, Copy, PartialEq, Eq)]
 pub enum Kind {
-    Declared,
-    ConceptRule,
-    ConceptExclusion,
-    RoleRule,
-    RoleExclusion,
-    ConceptFact,
-    RoleFact,
-    RoleStep,
-    TestStep,
-    Final,
-    Ask,
-    Allowance,
-    Expression,
-    AskFrom,
+    Declared = 0x01,
+    ConceptRule = 0x02,
+    ConceptExclusion = 0x03,
+    RoleRule = 0x04,
+    RoleExclusion = 0x05,
+    ConceptFact = 0x06,
+    RoleFact = 0x07,
+    RoleStep = 0x08,
+    TestStep = 0x09,
+    Final = 0x0A,
+    Ask = 0x0B,
+    Allowance = 0x0C,
+    Expression = 0x0D,
+    AskFrom = 0x0E,
 }
 
 impl Kind {
@@ -53,6 +55,14 @@ impl Kind {
             _ => return None,
         };
         Some(kind)
+    }
+
+    // The byte that names this kind.
+    #[inline(always)]
+    pub(crate) fn byte(self) -> u8
+        ensures { result ≡ kind_byte self }
+    {
+        self as u8
     }
 
     // Whether a frame's first byte names this kind.

@@ -8,6 +8,7 @@ ghost use Rattle.frames.specs.Kinds.{HasLength};
 ghost use Rattle.frames.specs.Measured.{IsMeasured};
 ghost use Rattle.frames.specs.Pairs.{byte_read};
 ghost use Rattle.frames.specs.Reader.{IsAt, ReadsWhole};
+ghost use Rattle.frames.specs.Written.{kind_in};
 
 use digits::is_sound;
 use kind::Kind;
@@ -18,12 +19,17 @@ use marks::Marks;
 use reader::Reader;
 
 mod digits;
+mod field;
 pub mod held;
 pub mod kind;
 pub mod marks;
 mod pairs;
 mod reader;
+pub mod text;
 pub mod theorems;
+mod written;
+
+pub use written::line_of;
 
 // What a line says.
 #[derive(Drop)]
@@ -42,6 +48,29 @@ pub enum Frame {
     AskFrom(Individual),
     Allowance(Rounds),
     Expression(Marks),
+}
+
+impl Frame {
+    pub fn kind(&self) -> Kind
+        ensures { result ≡ kind_in self.now }
+    {
+        match self {
+            Frame::Declared(_) => Kind::Declared,
+            Frame::ConceptRule(_, _) => Kind::ConceptRule,
+            Frame::ConceptExclusion(_, _) => Kind::ConceptExclusion,
+            Frame::RoleRule(_, _) => Kind::RoleRule,
+            Frame::RoleExclusion(_, _) => Kind::RoleExclusion,
+            Frame::ConceptFact(_, _, _) => Kind::ConceptFact,
+            Frame::RoleFact(_, _, _, _) => Kind::RoleFact,
+            Frame::RoleStep(_, _, _) => Kind::RoleStep,
+            Frame::TestStep(_, _, _) => Kind::TestStep,
+            Frame::Final(_) => Kind::Final,
+            Frame::Ask(_, _) => Kind::Ask,
+            Frame::AskFrom(_) => Kind::AskFrom,
+            Frame::Allowance(_) => Kind::Allowance,
+            Frame::Expression(_) => Kind::Expression,
+        }
+    }
 }
 
 // Why a line is no frame: its characters, or the frame's kind or length.

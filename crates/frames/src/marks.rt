@@ -1,6 +1,11 @@
 // The byte marks of an expression that is typed: as many as a line has room for, and nothing is allocated.
-ghost use Rattle.std.specs.Prelude.{◌≡◌, ◌<◌, ◌++◌, ◌∷◌, [], length};
+ghost use Rattle.std.specs.Prelude.{◌≡◌, ◌<◌, ◌≤◌, ◌++◌, ◌∷◌, [], length};
+ghost use Rattle.frames.specs.Text.{text};
+ghost use Rattle.frames.specs.Written.{frame_bytes};
+ghost use Rattle.frames.specs.declared.Frame.{Frame};
 
+use crate::kind::Kind;
+use crate::text::{LineText, MOST_BYTES};
 use std::marker::Model;
 use streams::LINE;
 
@@ -52,4 +57,21 @@ impl Marks {
     {
         &self.bytes[..self.used]
     }
+
+    // The line of an expression of these marks.
+    pub(crate) fn line(&self) -> LineText
+        ensures { result ≡ text (frame_bytes (Frame.Expression self.now)) }
+    {
+        expression(&self.bytes[..self.used])
+    }
+}
+
+fn expression(marks: &[u8]) -> LineText
+    requires { length marks.now ≤ MOST_MARKS }
+    ensures { result ≡ text (frame_bytes (Frame.Expression marks.now)) }
+{
+    let mut bytes = [0; MOST_BYTES];
+    bytes[0] = Kind::Expression.byte();
+    bytes[1..=marks.len()].copy_from_slice(marks);
+    LineText::of(&bytes[..=marks.len()])
 }

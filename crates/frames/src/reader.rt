@@ -1,6 +1,6 @@
 // A line read byte by byte where it stands: one pass, and what is no digit is gathered on the way.
 ghost use Rattle.std.specs.Prelude.{ℕ, ◌+◌, ◌-◌, ◌/◌, ◌<◌, ◌≤◌, ◌≡◌, ◌↔◌, ◌⊎◌, IsTrue, length, min};
-ghost use Rattle.kinds.specs.Kinds.{concept_name, role_name, individual, state, signed, deed_number, concept_of};
+ghost use Rattle.kinds.specs.Kinds.{deed_number};
 ghost use Rattle.frames.specs.Digits.{bytes};
 ghost use Rattle.streams.specs.declared.TheConstants.{LINE};
 ghost use Rattle.frames.specs.Frames.{number_in, two_bytes, marks_of};
@@ -8,9 +8,10 @@ ghost use Rattle.frames.specs.Pairs.{HoldsPairs, byte_read};
 
 use crate::BASE;
 use crate::digits::digit;
+use crate::field::Field;
 use crate::marks::Marks;
 use crate::pairs::{Pairs, one_by_one};
-use kinds::{Concept, ConceptName, DeedNumber, Individual, RoleName, Rounds, SignedRole, State};
+use kinds::{DeedNumber, Rounds};
 
 // Bytes are below it.
 const BYTE: u16 = 256;
@@ -185,70 +186,5 @@ impl<'a> Reader<'a> {
         ensures { IsTrue result ↔ (self.now.wrong < 16) }
     {
         self.wrong < BASE
-    }
-}
-
-// What stands in one byte of a frame.
-pub(crate) trait Field {
-    ghost of: { ℕ → Self };
-
-    fn of(byte: u16) -> Self
-        ensures { result ≡ of byte };
-}
-
-// A count.
-impl Field for u16 {
-    ghost of = { λ byte. byte };
-
-    fn of(byte: u16) -> u16 {
-        byte
-    }
-}
-
-impl Field for Concept {
-    ghost of = { concept_of };
-
-    fn of(byte: u16) -> Concept {
-        Concept::read(byte)
-    }
-}
-
-impl Field for ConceptName {
-    ghost of = { concept_name };
-
-    fn of(byte: u16) -> ConceptName {
-        ConceptName(byte)
-    }
-}
-
-impl Field for SignedRole {
-    ghost of = { signed };
-
-    fn of(byte: u16) -> SignedRole {
-        SignedRole(byte)
-    }
-}
-
-impl Field for RoleName {
-    ghost of = { role_name };
-
-    fn of(byte: u16) -> RoleName {
-        RoleName(byte)
-    }
-}
-
-impl Field for Individual {
-    ghost of = { individual };
-
-    fn of(byte: u16) -> Individual {
-        Individual(byte)
-    }
-}
-
-impl Field for State {
-    ghost of = { state };
-
-    fn of(byte: u16) -> State {
-        State(byte)
     }
 }

@@ -6,3 +6,4 @@ pub mod Rounds
 pub mod Deeds
 pub mod AsksLaws
 mod AreasLaws
+pub mod SameLaws

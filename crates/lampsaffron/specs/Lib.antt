@@ -4,3 +4,4 @@ pub mod Asks
 pub mod Expression
 pub mod Marks
 pub mod Areas
+pub mod Same

@@ -20,6 +20,7 @@ pub mod areas;
 pub mod asks;
 pub mod marks;
 mod passed;
+pub mod same;
 pub mod theorems;
 
 use crate::passed::Passed;

@@ -26,15 +26,14 @@ pub(crate) struct Passed<'a> {
 }
 
 impl<'a> Passed<'a> {
-    // The collection, each number as its kind, and how many rounds are allowed.
-    pub(crate) fn lent(&self, allowance: Rounds) -> Lent<'a>
+    // The collection, each number as its kind.
+    pub(crate) fn collection(&self) -> Collection<'a>
         ensures counts { let p = self.now in
-            result.collection.counts ≡ counted p.names p.roles p.individuals p.states p.start }
+            result.counts ≡ counted p.names p.roles p.individuals p.states p.start }
         ensures tables { let p = self.now in
-            lists result.collection ≡ lent p.concept_rules.now p.concept_exclusions.now
+            lists result ≡ lent p.concept_rules.now p.concept_exclusions.now
             p.role_rules.now p.role_exclusions.now p.concept_facts.now p.role_facts.now
             p.steps.now p.finals.now }
-        ensures allowance { result.allowance ≡ allowance }
     {
         let counts = Counts {
             names: self.names,
@@ -43,7 +42,7 @@ impl<'a> Passed<'a> {
             states: self.states,
             start: State(self.start),
         };
-        let collection = Collection {
+        Collection {
             counts,
             concept_rules: Table::new(self.concept_rules),
             concept_exclusions: Table::new(self.concept_exclusions),
@@ -53,9 +52,21 @@ impl<'a> Passed<'a> {
             role_facts: Table::new(self.role_facts),
             steps: Table::new(self.steps),
             finals: Table::new(self.finals),
-        };
+        }
+    }
+
+    // And how many rounds are allowed.
+    pub(crate) fn lent(&self, allowance: Rounds) -> Lent<'a>
+        ensures counts { let p = self.now in
+            result.collection.counts ≡ counted p.names p.roles p.individuals p.states p.start }
+        ensures tables { let p = self.now in
+            lists result.collection ≡ lent p.concept_rules.now p.concept_exclusions.now
+            p.role_rules.now p.role_exclusions.now p.concept_facts.now p.role_facts.now
+            p.steps.now p.finals.now }
+        ensures allowance { result.allowance ≡ allowance }
+    {
         Lent {
-            collection,
+            collection: self.collection(),
             allowance,
         }
     }

@@ -1,21 +1,24 @@
 // The theorems of this room: each call gives one outcome, every number and every byte; and of the areas moved.
 ghost use Rattle.std.specs.Prelude.{◌≡◌, ℕ, List};
-ghost use Rattle.meaning.specs.Lent.{Call};
+ghost use Rattle.kinds.specs.declared.Counts.{Counts};
+ghost use Rattle.laws.specs.Once.{AtMostOne};
+ghost use Rattle.meaning.specs.Lent.{Call, Tables};
 ghost use Rattle.index.specs.Preparation.{Preparation};
 ghost use Rattle.lampsaffron.specs.Boundary.{Gives};
 ghost use Rattle.lampsaffron.specs.Row.{TellsRow};
 ghost use Rattle.lampsaffron.specs.Asks.{Left, TellsAsks};
 ghost use Rattle.lampsaffron.specs.Expression.{Makes, Rows, TellsTables};
 ghost use Rattle.lampsaffron.specs.Marks.{Lent, TellsMarks};
+ghost use Rattle.lampsaffron.specs.Same.{SameNumber};
 ghost use Rattle.lampsaffron.specs.Areas.{TellsMoved, TellsBack};
 ghost use Rattle.lampsaffron.specs.Areas.{ThereAndBack, BackAndThere};
 ghost use Rattle.lampsaffron.specs.Areas.{RoundsMoved, RoundsMovedBack};
 ghost use Rattle.expression.specs.Listed.{Listed};
 ghost use Rattle.expression.specs.Answer.{IsAutomatonOf};
 
-// What each call gives and leaves: of one ask, of a row of pairs, of a row of asks, of the marks of
-// rounds, of the tables of an expression, and of an area moved and moved back. Of an expression also the number alone,
-// and the automaton.
+// What each call gives and leaves: of one ask, of a row of pairs, of a row of asks, of the marks of rounds, of the tables
+// of an expression, of two collections compared, and of an area moved and moved back. Of an expression also the number
+// alone, and the automaton.
 pub fn unique()
     ensures one_call { (c : Call) (number number' count count' : ℕ) (x y u v : List ℕ)
         → Gives c number count x y → Gives c number' count' u v
@@ -35,6 +38,8 @@ pub fn unique()
     ensures one_making { (row : List ℕ) (old new new' : Rows) (number number' : ℕ)
         → TellsTables row old number new → TellsTables row old number' new'
         → (number ≡ number') × (new ≡ new') }
+    ensures one_comparing { (c : Counts) (t : Tables) (d : Counts) (u : Tables)
+        → AtMostOne (SameNumber c t d u) }
     ensures one_moving { (stored old new new' : List ℕ) (number number' : ℕ)
         → TellsMoved stored old number new → TellsMoved stored old number' new'
         → (number ≡ number') × (new ≡ new') }

@@ -208,21 +208,21 @@ module _ {fs : List Frame} (t : Taken fs) where
 
   -- the tests 5 to 8; line 1's counts have passed test 4
   module _ (q : Listed) (is : IsQuestion (file_of fs) q) (k : ℕ) where
-    fits : FitsTables q
+    pub fits : FitsTables q
     fits = by (expression_given fs) refl
       where
         by : (o : Option (List ℕ)) → expression_given fs ≡ o → FitsTables q
         by None e = rw (is.typed e) typed-fits
         by (Some row) e = fits-tables q (rw e at is.expressed)
 
-    declared : RecordsDeclared (declared_by fs) q
+    pub declared : RecordsDeclared (declared_by fs) q
     declared = by (expression_given fs) refl
       where
         by : (o : Option (List ℕ)) → expression_given fs ≡ o → RecordsDeclared (declared_by fs) q
         by None e = rw (is.typed e) typed-declared
         by (Some row) e = expressed-declared row e q (rw e at is.expressed)
 
-    tables-ok : TablesOk (asked fs q k)
+    pub tables-ok : TablesOk (asked fs q k)
     tables-ok = record {
       tables = record {
         concept-rules = whole-table concept_rules (omega arith);
@@ -238,7 +238,7 @@ module _ {fs : List Frame} (t : Taken fs) where
       spare = length-replicate {A = ℕ} area_length 0;
     }
 
-    numbers-ok : NumbersOk (asked fs q k)
+    pub numbers-ok : NumbersOk (asked fs q k)
     numbers-ok = record {
       declared = record {
         concept-rules = each concept_rules (omega arith) concept_pair (ConceptsDeclared (declared_by fs)) (record-passes concept_rules);

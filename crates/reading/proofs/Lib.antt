@@ -15,3 +15,4 @@ pub mod Prefix
 pub mod Listed
 pub mod DeedLaws
 pub mod Allowance
+pub mod ShelfLaws

@@ -1,3 +1,4 @@
+pub mod Shelves
 pub mod Refusal
 pub mod Tables
 pub mod File
@@ -9,3 +10,4 @@ pub mod Front
 pub mod Laws
 pub mod Deeds
 pub mod Former
+pub mod Tidy

@@ -11,6 +11,7 @@ ghost use Rattle.reading.specs.Refusal.{refusal_number, refusal_of};
 ghost use Rattle.reading.specs.Laws.{IsListed};
 ghost use Rattle.reading.specs.File.{file_of, file_with, allowance_in, Asks, LendsTables, HasShelfRoom, IsSmall};
 ghost use Rattle.reading.specs.Reads.{IsRead, ReadsFile, told_at_end};
+ghost use Rattle.reading.specs.Tidy.{SpellsOut, TidiesTables};
 ghost use Rattle.reading.specs.Turns.{ExpressionJudged, RowJudged, TakesLine};
 
 use expressed::Expression;
@@ -20,15 +21,19 @@ use frames::marks::Marks;
 use frames::{Frame, Front, Misread};
 use kinds::{Ask, Concept, Counts, Rounds, State};
 use shelf::Shelf;
+use sorted::FINAL_WIDTH;
 use std::io;
 use streams::Source;
 use streams::lines::{Lines, Next};
+use tables::collection::{
+    CONCEPT_EXCLUSIONS, CONCEPT_FACTS, CONCEPT_RULES, FINALS, ROLE_EXCLUSIONS, ROLE_FACTS,
+    ROLE_RULES, STEPS,
+};
 use tables::{Collection, ConceptFact, ConceptPair, RoleFact, RolePair, Step, Table};
 
 pub mod expressed;
 mod judge;
 pub mod shelf;
-mod sizes;
 pub mod theorems;
 
 // The most asks of a file.
@@ -78,16 +83,16 @@ struct Question<'a> {
 pub struct File {
     pub counts: Counts,
     pub allowance: Option<Rounds>,
-    pub concept_rules: Shelf<ConceptPair, { sizes::CONCEPT_RULES }>,
-    pub concept_exclusions: Shelf<ConceptPair, { sizes::CONCEPT_EXCLUSIONS }>,
-    pub role_rules: Shelf<RolePair, { sizes::ROLE_RULES }>,
-    pub role_exclusions: Shelf<RolePair, { sizes::ROLE_EXCLUSIONS }>,
-    pub concept_facts: Shelf<ConceptFact, { sizes::CONCEPT_FACTS }>,
-    pub role_facts: Shelf<RoleFact, { sizes::ROLE_FACTS }>,
-    pub steps: Shelf<Step, { sizes::STEPS }>,
-    pub finals: Shelf<State, { sizes::FINALS }>,
+    pub concept_rules: Shelf<ConceptPair, { ConceptPair::WIDTH }, { CONCEPT_RULES }>,
+    pub concept_exclusions: Shelf<ConceptPair, { ConceptPair::WIDTH }, { CONCEPT_EXCLUSIONS }>,
+    pub role_rules: Shelf<RolePair, { RolePair::WIDTH }, { ROLE_RULES }>,
+    pub role_exclusions: Shelf<RolePair, { RolePair::WIDTH }, { ROLE_EXCLUSIONS }>,
+    pub concept_facts: Shelf<ConceptFact, { ConceptFact::WIDTH }, { CONCEPT_FACTS }>,
+    pub role_facts: Shelf<RoleFact, { RoleFact::WIDTH }, { ROLE_FACTS }>,
+    pub steps: Shelf<Step, { Step::WIDTH }, { STEPS }>,
+    pub finals: Shelf<State, { FINAL_WIDTH }, { FINALS }>,
     pub expression: Option<Expression>,
-    pub asks: Shelf<Ask, { sizes::ASKS }>,
+    pub asks: Shelf<Ask, { Ask::WIDTH }, { ASKS }>,
     pub lines: usize,
 }
 
@@ -228,6 +233,32 @@ impl File {
         self.asks.table()
     }
 
+    // Where an expression is held, the steps and the final states of its automaton take its place, as if they had been typed.
+    pub fn spell_out(&mut self)
+        ensures { SpellsOut self.old self.new }
+    {
+        if let Some(expression) = &self.expression {
+            let automaton = expression.automaton();
+            self.steps.replace(automaton.steps().numbers);
+            self.finals.replace(automaton.finals().numbers);
+            self.expression = None;
+        }
+    }
+
+    // Each table in order, each record once. The asks stay as they came.
+    pub fn tidy(&mut self)
+        ensures { TidiesTables self.old self.new }
+    {
+        self.concept_rules.tidy();
+        self.concept_exclusions.tidy();
+        self.role_rules.tidy();
+        self.role_exclusions.tidy();
+        self.concept_facts.tidy();
+        self.role_facts.tidy();
+        self.steps.tidy();
+        self.finals.tidy();
+    }
+
     // An expression kept with its automaton, or refused. It is a call of its own, never put into `keep`, which would else
     // make room for an automaton at each line.
     #[inline(never)]
@@ -255,17 +286,17 @@ impl File {
     {
         match frame {
             Frame::Declared(counts) => self.counts = counts,
-            Frame::ConceptRule(c, d) => self.concept_rules.push(&[number(c), number(d)]),
-            Frame::ConceptExclusion(c, d) => self.concept_exclusions.push(&[number(c), number(d)]),
-            Frame::RoleRule(r, s) => self.role_rules.push(&[r.0, s.0]),
-            Frame::RoleExclusion(r, s) => self.role_exclusions.push(&[r.0, s.0]),
-            Frame::ConceptFact(a, i, deed) => self.concept_facts.push(&[a.0, i.0, deed.0]),
-            Frame::RoleFact(r, i, j, deed) => self.role_facts.push(&[r.0, i.0, j.0, deed.0]),
-            Frame::RoleStep(s, r, t) => self.steps.push(&[0, s.0, r.0, t.0]),
-            Frame::TestStep(s, a, t) => self.steps.push(&[1, s.0, a.0, t.0]),
-            Frame::Final(s) => self.finals.push(&[s.0]),
-            Frame::Ask(i, j) => self.asks.push(&[0, i.0, j.0]),
-            Frame::AskFrom(i) => self.asks.push(&[1, i.0, 0]),
+            Frame::ConceptRule(c, d) => self.concept_rules.push([number(c), number(d)]),
+            Frame::ConceptExclusion(c, d) => self.concept_exclusions.push([number(c), number(d)]),
+            Frame::RoleRule(r, s) => self.role_rules.push([r.0, s.0]),
+            Frame::RoleExclusion(r, s) => self.role_exclusions.push([r.0, s.0]),
+            Frame::ConceptFact(a, i, deed) => self.concept_facts.push([a.0, i.0, deed.0]),
+            Frame::RoleFact(r, i, j, deed) => self.role_facts.push([r.0, i.0, j.0, deed.0]),
+            Frame::RoleStep(s, r, t) => self.steps.push([0, s.0, r.0, t.0]),
+            Frame::TestStep(s, a, t) => self.steps.push([1, s.0, a.0, t.0]),
+            Frame::Final(s) => self.finals.push([s.0]),
+            Frame::Ask(i, j) => self.asks.push([0, i.0, j.0]),
+            Frame::AskFrom(i) => self.asks.push([1, i.0, 0]),
             Frame::Allowance(rounds) => self.allowance = Some(rounds),
             Frame::Expression(marks) => self.express(marks)?,
         }
@@ -359,7 +390,8 @@ impl File {
 
     // What is found where no line is left. An empty file lacks its line 1.
     fn ended(&self) -> Result<(), Fault>
-        ensures { result ≡ told_at_end self.now }
+        ensures told { result ≡ told_at_end self.now }
+        ensures begun { OnOk result (0 < self.now.lines) }
     {
         if self.lines == 0 {
             return Err(self.fault(Refusal::OutOfPlace));
@@ -375,6 +407,7 @@ fn read_lines<S: Source + Drop>(source: S, file: &mut File) -> io::Result<Result
     ensures found { IfOk result (λ found.
         IfSome (S.remaining source) (λ input. ReadsFile (lines input) found file.new)) }
     ensures taken { IfOk result (λ found. IsRead file.new) }
+    ensures begun { IfOk result (λ found. OnOk found (0 < file.new.lines)) }
     ensures line { IfOk result (λ found. IfErr found (λ fault. fault.line < 2 ^ 16)) }
     ensures fails { IfErr result S.fails }
 {
@@ -400,6 +433,7 @@ pub fn read<S: Source + Drop>(source: S, file: &mut File) -> io::Result<Result<(
     ensures found { IfOk result (λ found.
         IfSome (S.remaining source) (λ input. ReadsFile (lines input) found file.new)) }
     ensures taken { IfOk result (λ found. IsRead file.new) }
+    ensures begun { IfOk result (λ found. OnOk found (0 < file.new.lines)) }
     ensures line { IfOk result (λ found. IfErr found (λ fault. fault.line < 2 ^ 16)) }
     ensures err { OnErr result (file.new ≡ file_of []) }
     ensures fails { IfErr result S.fails }

@@ -1,2 +1,5 @@
+pub mod Faults
+pub mod Writes
 pub mod Reports
 pub mod Message
+pub mod Laws

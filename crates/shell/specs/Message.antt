@@ -4,5 +4,5 @@ use Rattle.shell.specs.declared.ServeError.{ServeError}
 use Rattle.shell.specs.declared.ServeError.TheVariants.{Unread, Unwritten}
 
 abbrev pub message_of : ServeError → List ℕ
-message_of (Unread e) = codes "standard input could not be read, so nothing is answered"
+message_of (Unread e) = codes "standard input could not be read, so nothing is written"
 message_of (Unwritten e) = codes "standard output could not be written whole"

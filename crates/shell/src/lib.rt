@@ -1,15 +1,14 @@
-// The shell of a desk program: an input is read up to its first faulty line, and what the program writes of it goes
-// through a buffer to a sink, or into memory.
+// The shell of a desk program: an input is read up to its first faulty line, and that line's fault, or what the program
+// writes of a file without one, goes through a buffer to a sink, or into memory.
 #![tactic(auto)]
 
-ghost use Rattle.std.specs.Prelude.{◌≡◌, ◌^◌, ◌<◌, ◌≤◌, ℕ, List, Some, Err, Result, IfSome, IfNone, IfErr, IsOk, OnOk, OnErr, length, drop, take};
+ghost use Rattle.std.specs.Prelude.{◌≡◌, ◌^◌, ◌<◌, ◌≤◌, ℕ, List, Some, Err, IfSome, IfNone, IfErr, IsOk, OnOk, OnErr, length, drop, take};
 ghost use Rattle.std.specs.Io.KnownBytes.{Keeps, Appends};
 ghost use Rattle.std.specs.declared.io.Error.{Error};
 ghost use Rattle.streams.specs.Takes.{TakesStart};
-ghost use Rattle.reading.specs.declared.Fault.{Fault};
-ghost use Rattle.reading.specs.declared.File.{File};
 ghost use Rattle.reading.specs.Reads.{IsRead};
-ghost use Rattle.shell.specs.Reports.{OneOf, Reports};
+ghost use Rattle.shell.specs.Writes.{Saying, WritesOf};
+ghost use Rattle.shell.specs.Reports.{OneOf, Tells, TellsFound};
 ghost use Rattle.shell.specs.Message.{message_of};
 
 use reading::{Fault, File, read};
@@ -18,18 +17,21 @@ use streams::memory::{Bytes, Page};
 use streams::output::Gathered;
 use streams::{Sink, Source, Taker};
 
-// What a program writes of an input.
-pub trait Report {
-    // The texts that it may put for what reading found.
-    ghost texts: { File → Result (Unit {0}) Fault → List ℕ → Type 0 };
+mod fault;
+pub mod theorems;
 
-    fn put<T: Taker>(&self, found: Result<(), Fault>, file: &File, to: &mut T) -> io::Result<()>
-        requires read { IsRead file.now }
-        requires line { IfErr found (λ fault. fault.line < 2 ^ 16) }
-        ensures ok { OnOk result
-            (OneOf (texts file.now found) (λ out. T.takes to.old out to.new)) }
+// What a program writes of a file that was read whole.
+pub trait Report {
+    // The texts that it may write of some frames.
+    ghost says: { Saying };
+
+    // Nothing is said of the file afterwards: the program may put its tables in order where they stand.
+    fn put<T: Taker>(&self, file: &mut File, to: &mut T) -> io::Result<()>
+        requires read { IsRead file.old }
+        requires begun { 0 < file.old.lines }
+        ensures ok { OnOk result (Tells says file.old (λ out. T.takes to.old out to.new)) }
         ensures err { IfErr result (λ e.
-            OneOf (texts file.now found) (λ out. T.fails to.old out e to.new)) };
+            Tells says file.old (λ out. T.fails to.old out e to.new)) };
 }
 
 // Why nothing, or not all, is written.
@@ -45,7 +47,7 @@ impl ServeError {
         ensures { result.now ≡ message_of self.now }
     {
         match self {
-            ServeError::Unread(_) => "standard input could not be read, so nothing is answered",
+            ServeError::Unread(_) => "standard input could not be read, so nothing is written",
             ServeError::Unwritten(_) => "standard output could not be written whole",
         }
     }
@@ -61,23 +63,45 @@ impl fmt::Display for ServeError {
     }
 }
 
+// What reading found, put: the line of the fault, or what the program says of the file.
+fn put_found<R: Report, T: Taker>(
+    report: &R,
+    found: Result<(), Fault>,
+    file: &mut File,
+    to: &mut T,
+) -> io::Result<()>
+    requires read { IsRead file.old }
+    requires begun { OnOk found (0 < file.old.lines) }
+    requires line { IfErr found (λ fault. fault.line < 2 ^ 16) }
+    ensures ok { OnOk result
+        (TellsFound R.says found file.old (λ out. T.takes to.old out to.new)) }
+    ensures err { IfErr result (λ e.
+        TellsFound R.says found file.old (λ out. T.fails to.old out e to.new)) }
+{
+    match found {
+        Ok(()) => report.put(file, to),
+        Err(fault) => to.put(fault::line(fault).as_slice()),
+    }
+}
+
 // To a sink, through a buffer.
 fn put_to<R: Report, K: Sink>(
     report: &R,
     found: Result<(), Fault>,
-    file: &File,
+    file: &mut File,
     sink: &mut K,
 ) -> io::Result<()>
-    requires read { IsRead file.now }
+    requires read { IsRead file.old }
+    requires begun { OnOk found (0 < file.old.lines) }
     requires line { IfErr found (λ fault. fault.line < 2 ^ 16) }
-    ensures ok { OnOk result (OneOf (R.texts file.now found)
+    ensures ok { OnOk result (TellsFound R.says found file.old
         (Appends (K.contents sink.old) (K.contents sink.new))) }
-    ensures err { OnErr result (OneOf (R.texts file.now found)
+    ensures err { OnErr result (TellsFound R.says found file.old
         (TakesStart (K.contents sink.old) (K.contents sink.new))) }
     ensures fails { IfErr result K.fails }
 {
     let mut gathered = Gathered::new(sink);
-    report.put(found, file, &mut gathered)?;
+    put_found(report, found, file, &mut gathered)?;
     gathered.finish()
 }
 
@@ -88,7 +112,7 @@ pub fn serve<S: Source + Drop, R: Report, K: Sink>(
     sink: &mut K,
 ) -> Result<(), ServeError>
     ensures written { OnOk result (IfSome (S.remaining source) (λ input.
-        OneOf (Reports R.texts input) (Appends (K.contents sink.old) (K.contents sink.new)))) }
+        OneOf (WritesOf R.says input) (Appends (K.contents sink.old) (K.contents sink.new)))) }
 
     // Where reading fails, the error is the source's, and the sink is as it was.
     ensures unread { (e : Error) → result ≡ Err (ServeError.Unread e) → S.fails e }
@@ -99,7 +123,7 @@ pub fn serve<S: Source + Drop, R: Report, K: Sink>(
     ensures unwritten { (e : Error) → result ≡ Err (ServeError.Unwritten e) → K.fails e }
     ensures started { (e : Error) → result ≡ Err (ServeError.Unwritten e)
         → IfSome (S.remaining source) (λ input.
-        OneOf (Reports R.texts input) (TakesStart (K.contents sink.old) (K.contents sink.new))) }
+        OneOf (WritesOf R.says input) (TakesStart (K.contents sink.old) (K.contents sink.new))) }
 
     // It makes no error of its own.
     ensures ok { ((e : Error) → ¬ S.fails e) → ((e : Error) → ¬ K.fails e) → IsOk result }
@@ -109,7 +133,7 @@ pub fn serve<S: Source + Drop, R: Report, K: Sink>(
         Ok(found) => found,
         Err(e) => return Err(ServeError::Unread(e)),
     };
-    match put_to(report, found, &file, sink) {
+    match put_to(report, found, &mut file, sink) {
         Ok(()) => Ok(()),
         Err(e) => Err(ServeError::Unwritten(e)),
     }
@@ -119,20 +143,21 @@ pub fn serve<S: Source + Drop, R: Report, K: Sink>(
 fn copy<R: Report>(
     report: &R,
     found: Result<(), Fault>,
-    file: &File,
+    file: &mut File,
     text: &mut [u8],
 ) -> Option<usize>
-    requires read { IsRead file.now }
+    requires read { IsRead file.old }
+    requires begun { OnOk found (0 < file.old.lines) }
     requires line { IfErr found (λ fault. fault.line < 2 ^ 16) }
     ensures within { IfSome result (λ n. n ≤ length text.old) }
     ensures written { IfSome result (λ n.
-        OneOf (R.texts file.now found) (λ out. take n text.new ≡ out)) }
+        TellsFound R.says found file.old (λ out. take n text.new ≡ out)) }
     ensures rest { IfSome result (λ n. drop n text.new ≡ drop n text.old) }
     ensures no_room { IfNone result
-        (OneOf (R.texts file.now found) (λ out. length text.old < length out)) }
+        (TellsFound R.says found file.old (λ out. length text.old < length out)) }
 {
     let mut page = Page::new(text);
-    match report.put(found, file, &mut page) {
+    match put_found(report, found, file, &mut page) {
         Ok(()) => Some(page.held()),
         Err(_) => None,
     }
@@ -142,14 +167,14 @@ fn copy<R: Report>(
 // text stays. None where the text has no room for it; what its front then holds is left open.
 pub fn answer<R: Report>(input: &[u8], report: &R, text: &mut [u8]) -> Option<usize>
     ensures within { IfSome result (λ n. n ≤ length text.old) }
-    ensures written { IfSome result (λ n. Reports R.texts input.now (take n text.new)) }
+    ensures written { IfSome result (λ n. WritesOf R.says input.now (take n text.new)) }
     ensures rest { IfSome result (λ n. drop n text.new ≡ drop n text.old) }
     ensures no_room { IfNone result
-        (OneOf (Reports R.texts input.now) (λ out. length text.old < length out)) }
+        (OneOf (WritesOf R.says input.now) (λ out. length text.old < length out)) }
 {
     let mut file = File::new();
     match read(Bytes::new(input), &mut file) {
-        Ok(found) => copy(report, found, &file, text),
+        Ok(found) => copy(report, found, &mut file, text),
         // Bytes in memory are read without fail.
         Err(_) => unreachable!(),
     }

@@ -21,7 +21,7 @@ impl Words {
     }
 }
 
-/// Runs a desk program once: whole input to whole output.
+/// Runs a desk program or a copyist once: whole input to whole output.
 pub fn run_desk(words: &Words, input: &[u8]) -> Result<Vec<u8>> {
     let mut child = words.command().spawn()?;
     let mut stdin = child.stdin.take().expect("standard input was asked for");

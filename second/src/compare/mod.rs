@@ -1,8 +1,9 @@
-//! `second compare`: thousands of cases from a seed, nine parts, a histogram of what was hit, and the count at the end.
+//! `second compare`: thousands of cases from a seed, eleven parts, a histogram of what was hit, and the count at the end.
 
 mod built_out;
 mod calls;
 mod child;
+mod copies;
 mod damage;
 mod deeds;
 mod dice;
@@ -15,6 +16,7 @@ mod moved;
 mod outputs;
 mod parts;
 pub mod protocol;
+mod retyped;
 mod rounds;
 mod rows;
 pub mod sample;
@@ -22,6 +24,7 @@ mod shown;
 mod tally;
 mod text;
 mod throw;
+mod twice;
 mod typed;
 mod wide;
 
@@ -37,12 +40,13 @@ pub struct Options {
     pub seed: u64,
     pub jobs: usize,
     pub desk: Option<String>,
+    pub copyist: Option<String>,
     pub library: Option<String>,
 }
 
 impl Default for Options {
     fn default() -> Options {
-        Options { cases: 3_000, seed: 1, jobs: 1, desk: None, library: None }
+        Options { cases: 3_000, seed: 1, jobs: 1, desk: None, copyist: None, library: None }
     }
 }
 
@@ -56,6 +60,8 @@ const FROM: u64 = 6;
 const ROUNDS: u64 = 7;
 const MIXED: u64 = 8;
 const MOVED: u64 = 9;
+const COPIES: u64 = 10;
+const TWICE: u64 = 11;
 const MOST_SHOWN: u64 = 5;
 
 /// What the desk program can answer with, in an answer or a refusal.
@@ -116,7 +122,24 @@ pub fn compare(options: &Options) -> (u64, u64) {
     println!("i. areas moved to the places of today and back, likewise with both areas");
     let moved = Wanted { numbers: &moved::NUMBERS, wide: &[], met: &moved::MET };
     through_drivers(options, &mut total, (MOVED, moved), parts::moved_part);
+    println!("j. the copyist against module copy, byte for byte, and the desk on what it writes");
+    copies(options, &mut total);
+    println!("k. whether two collections are the same as sets, likewise through the C boundary");
+    through_drivers(options, &mut total, (TWICE, wanted(&twice::NUMBERS, &twice::MET)), parts::twice_part);
     total
+}
+
+/// The part of the copyist, which the desk is to answer.
+fn copies(options: &Options, total: &mut (u64, u64)) {
+    let words = |command: &Option<String>| command.as_deref().and_then(Words::of);
+    let (Some(copyist), Some(desk)) = (words(&options.copyist), words(&options.desk)) else {
+        println!("  skipped: a --copyist command and a --desk command are needed");
+        return;
+    };
+    let programs = copies::Programs { copyist, desk };
+    let work = || |dice, tally: &mut Tally| copies::copies_part(&programs, dice, tally);
+    let wanted = Wanted { numbers: &copies::REFUSALS, wide: &[], met: &copies::copies_met() };
+    judge(total, run(options, COPIES, work), &wanted);
 }
 
 /// One case put to a library driver.

@@ -16,6 +16,7 @@ use super::rounds::rounds_lent;
 use super::rows::{met, mixed_lent, mixed_met, row_lent};
 use super::tally::Tally;
 use super::text;
+use super::twice::{self, twice};
 use super::typed::{self, typed};
 use super::wide::{is_wide, joined, widened};
 use crate::collection::Collection;
@@ -84,7 +85,7 @@ fn desk_case(dice: &mut Dice, tally: &mut Tally) -> (Vec<u8>, Option<Damaged>) {
 }
 
 /// Sound inputs below this length are asked once more with a line that is not.
-const MOST_SPOILT: usize = 20_000;
+pub const MOST_SPOILT: usize = 20_000;
 
 /// Part (a): a desk program against module `desk`, byte for byte.
 pub fn desk_part(words: &Words, mut dice: Dice, tally: &mut Tally) -> Outcome {
@@ -147,8 +148,8 @@ pub fn desk_part(words: &Words, mut dice: Dice, tally: &mut Tally) -> Outcome {
     }
 }
 
-/// The desk program writes just that.
-fn writes(words: &Words, input: &[u8], expected: &[u8]) -> Outcome {
+/// The program writes just that.
+pub fn writes(words: &Words, input: &[u8], expected: &[u8]) -> Outcome {
     let found = match run_desk(words, input) {
         Ok(output) if output == expected => return Ok(()),
         Ok(output) => String::from_utf8_lossy(&output).into_owned(),
@@ -303,6 +304,31 @@ pub fn moved_part(driver: &mut Driver, mut dice: Dice, tally: &mut Tally) -> Out
     let (number, expected) = protocol::answer_moved(&moved);
     tally.number(number);
     replies(driver, protocol::request_moved(&moved), &expected)
+}
+
+/// Part (k): whether two collections are the same as sets, likewise: the number.
+pub fn twice_part(driver: &mut Driver, mut dice: Dice, tally: &mut Tally) -> Outcome {
+    let (twice, met) = twice(&mut dice);
+    tally.kind(twice.kind);
+    let (number, expected) = protocol::answer_twice(&twice.calls);
+    tally.number(number);
+    if twice.calls.iter().any(|call| is_wide(call.counts[3])) {
+        tally.wide(number);
+    }
+    met.into_iter().chain(twice::refused(&twice)).for_each(|what| tally.met(what));
+    twice.changed.filter(|_| number == 0).into_iter().for_each(|what| tally.met(what));
+    let request = protocol::request_twice(&twice);
+    let planted = twice.planted.iter().find_map(|planted| planted.iter().min()).copied();
+    let made_for = planted.or((twice.kind == "same").then_some(1));
+    if let Some(made_for) = made_for.filter(|made_for| *made_for != number) {
+        let found = format!("module library itself: {number}");
+        return Err(Difference {
+            input: request.into_bytes(),
+            expected: format!("number {made_for}"),
+            found,
+        });
+    }
+    replies(driver, request, &expected)
 }
 
 /// Part (g): likewise of how many marks each round makes, with how many rounds are told, the row of counts and what lies

@@ -2,9 +2,10 @@
 
 use super::calls::{Asks, CountRow, Lent, Row};
 use super::moved::Moved;
+use super::twice::Twice;
 use super::typed::Typed;
 use crate::area::{from_16, to_16, AREA};
-use crate::library::{ask, ask_all, ask_from, ask_row, made_of, marks, Call, Made};
+use crate::library::{ask, ask_all, ask_from, ask_row, made_of, marks, same_records, Call, Made};
 
 /// Bytes behind each area that the call must not touch; they are filled with the complement of the area's fill. So it is
 /// behind the entries of a row.
@@ -45,6 +46,9 @@ const EXPRESSION: char = 'M';
 const FROM_16: char = 'S';
 const TO_16: char = 'T';
 
+/// Likewise a line that asks whether two collections are the same as sets.
+const TWICE: char = 'P';
+
 /// The reply line to any line.
 pub fn reply(line: &str) -> String {
     let replied = match line.chars().next() {
@@ -52,6 +56,7 @@ pub fn reply(line: &str) -> String {
         Some(kind @ (FROM_16 | TO_16)) => {
             read_moved(kind == TO_16, &line[1..]).map(|moved| answer_moved(&moved).1)
         }
+        Some(TWICE) => read_twice(&line[1..]).map(|calls| answer_twice(&calls).1),
         _ => read_request(line).map(|lent| answer(&lent).1),
     };
     replied.unwrap_or("!".to_string())
@@ -59,8 +64,7 @@ pub fn reply(line: &str) -> String {
 
 pub fn request(lent: &Lent) -> String {
     let call = &lent.call;
-    let mut line = digits(&call.counts);
-    line.extend(call.tables.iter().map(|table| counted(table)));
+    let mut line = collection(call);
     match &lent.asks {
         Asks::Pair(pair) => line += &digits(pair),
         Asks::From(first) => {
@@ -86,6 +90,12 @@ pub fn request(lent: &Lent) -> String {
     }
 }
 
+/// The counts and the tables.
+fn collection(call: &Call) -> String {
+    let tables = call.tables.iter().map(|table| counted(table));
+    digits(&call.counts) + &tables.collect::<String>()
+}
+
 fn digits(numbers: &[u16]) -> String {
     numbers.iter().map(|number| format!("{number:04X}")).collect()
 }
@@ -98,11 +108,7 @@ fn counted(numbers: &[u16]) -> String {
 pub fn read_request(line: &str) -> Option<Lent> {
     let kind = [ROW, MIXED, ONE, ROUNDS].into_iter().find(|kind| line.starts_with(*kind));
     let mut digits = kind.map_or(line, |_| &line[1..]);
-    let counts = take_numbers(&mut digits)?;
-    let mut tables: [Vec<u16>; 8] = Default::default();
-    for table in &mut tables {
-        *table = take_counted(&mut digits)?;
-    }
+    let mut call = take_collection(&mut digits)?;
     let mut asks = match kind {
         None => Asks::Pair(take_numbers(&mut digits)?),
         Some(ONE) => Asks::From(take(&mut digits, 4)? as u16),
@@ -116,7 +122,7 @@ pub fn read_request(line: &str) -> Option<Lent> {
             }
         }
     };
-    let allowance = take(&mut digits, 8)? as u32;
+    call.allowance = take(&mut digits, 8)? as u32;
     let lengths = [take(&mut digits, 8)?, take(&mut digits, 8)?];
     let fills = [take(&mut digits, 2)? as u8, take(&mut digits, 2)? as u8];
     let held = match &mut asks {
@@ -133,8 +139,17 @@ pub fn read_request(line: &str) -> Option<Lent> {
         }
     };
     let fits = held && digits.is_empty() && lengths.iter().all(|length| *length <= MOST_AREA);
-    let call = Call { counts, tables, allowance };
     fits.then_some(Lent { kind: "", call, asks, lengths, fills, planted: Vec::new() })
+}
+
+/// With an allowance of 0.
+fn take_collection(digits: &mut &str) -> Option<Call> {
+    let counts = take_numbers(digits)?;
+    let mut tables: [Vec<u16>; 8] = Default::default();
+    for table in &mut tables {
+        *table = take_counted(digits)?;
+    }
+    Some(Call { counts, tables, allowance: 0 })
 }
 
 fn take_numbers<const N: usize>(digits: &mut &str) -> Option<[u16; N]> {
@@ -277,6 +292,23 @@ pub fn answer_moved(moved: &Moved) -> (u8, String) {
     let (before, after) = (hash(&moved.before), hash(&after));
     let behind = hash(&[!moved.fill; GUARD]);
     (number, format!("{number:02X}{before:016X}{after:016X}{behind:016X}{behind:016X}"))
+}
+
+pub fn request_twice(twice: &Twice) -> String {
+    let [one, other] = &twice.calls;
+    format!("{TWICE}{}{}", collection(one), collection(other))
+}
+
+/// What stands behind the letter; None when the line isn't a request.
+fn read_twice(mut digits: &str) -> Option<[Call; 2]> {
+    let calls = [take_collection(&mut digits)?, take_collection(&mut digits)?];
+    digits.is_empty().then_some(calls)
+}
+
+/// The number that module `library` gives, and the reply line.
+pub fn answer_twice([one, other]: &[Call; 2]) -> (u8, String) {
+    let number = same_records(one, other);
+    (number, format!("{number:02X}"))
 }
 
 /// Each number as two bytes, the low one first.

@@ -59,7 +59,8 @@ pub fn frame(line: &[u8]) -> Result<Frame, u8> {
     shaped(&bytes).ok_or(10)
 }
 
-fn digits(line: &[u8]) -> Option<Vec<u8>> {
+/// The bytes that a line's characters say; None is number 9.
+pub fn digits(line: &[u8]) -> Option<Vec<u8>> {
     if line.is_empty() || line.len() > most_characters(line) || line.len() % 2 == 1 {
         return None;
     }

@@ -61,7 +61,7 @@ fn answers(file: &File) -> Vec<u8> {
 }
 
 /// Bytes as capital hexadecimal and the end of the line.
-fn written(bytes: &[u8]) -> Vec<u8> {
+pub fn written(bytes: &[u8]) -> Vec<u8> {
     let mut line = Vec::new();
     for byte in bytes {
         line.extend(format!("{byte:02X}").bytes());

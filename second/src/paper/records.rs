@@ -23,6 +23,42 @@ pub fn records_form(input: &[u8]) -> String {
     Table::form(&RECORDS, rows).text()
 }
 
+const COPY: [&str; 3] = ["Written", "In words", "From line"];
+
+/// The fair copy of a sound file: each line with its words, and the lines of the file that it comes from.
+pub fn copy(input: &[u8], words: &Words) -> String {
+    let mut table = Table::new(&COPY);
+    for line in lines(&crate::copy::copy(input)) {
+        table.row([typed(line), in_words(line, words), from(line, input)]);
+    }
+    table.text()
+}
+
+pub fn copy_form(input: &[u8]) -> String {
+    let copied = crate::copy::copy(input);
+    Table::form(&COPY, lines(&copied).map(|_| Vec::new())).text()
+}
+
+/// The lines of the file that say the same frame; those of an expression's automaton come from the line of the expression.
+fn from(written: &[u8], input: &[u8]) -> String {
+    let places = |is: &dyn Fn(&[u8]) -> bool| -> Vec<String> {
+        let found = lines(input).enumerate().filter(|(_, line)| is(line));
+        found.map(|(before, _)| (before + 1).to_string()).collect()
+    };
+    let typed = places(&|line| long(line) == written);
+    let found = if typed.is_empty() { places(&|line| line.starts_with(b"0D")) } else { typed };
+    found.join(", ")
+}
+
+/// A line with what may be left out of it: the deed number of a fact, and the upper half of an allowance.
+fn long(line: &[u8]) -> Vec<u8> {
+    match (line.get(..2), line.len()) {
+        (Some(b"06"), 6) | (Some(b"07"), 8) => [line, &b"0000"[..]].concat(),
+        (Some(b"0C"), 6) => [&b"0C0000"[..], &line[2..]].concat(),
+        _ => line.to_vec(),
+    }
+}
+
 /// The lines that this file has and the other hasn't, and the other way round.
 pub fn changes(input: &[u8], other: &[u8], words: &Words) -> String {
     let mut left: Vec<&[u8]> = lines(other).collect();
@@ -92,6 +128,16 @@ fn by(deed: u16) -> String {
 #[cfg(test)]
 mod tests {
     use super::*;
+
+    #[test]
+    fn a_copy_says_where_its_lines_come_from() {
+        let words = Words::read("Owner,Deed/signs");
+        let text = copy(b"010201010400\n0600000000\n060000\n0C0007\n", &words);
+        assert!(text.contains("| `0600000000` | fact Owner(0) | 2, 3 |"), "{text}");
+        assert!(text.contains("| `0C00000007` | allowance of rounds 7 | 4 |"), "{text}");
+        let text = copy(b"010201010300\n0D0041\n", &words);
+        assert!(text.contains("| `0A02` | state 2 is final | 2 |"), "{text}");
+    }
 
     #[test]
     fn a_line_more_and_a_line_less() {

@@ -9,6 +9,8 @@ const USAGE: &str =
 files spread KIND SIZE SEED
                          one of the spread: expressions, clusters, few-roles, many-roles, contradictions, chains or
                          ladders; large or small, wide-large or wide-small
+files copy KIND          a file for the copyist: 4,096 role facts, random, in-order, from-the-highest, of-one-meaning or
+                         of-one-record; or an expression
 files plot               lines of series, size, program and instructions, parted by tabs, to an SVG
 files strip              lines of kind, size, the desk's instructions and the optimised program's, likewise";
 
@@ -21,6 +23,7 @@ fn main() -> ExitCode {
         ["spread", kind, size, seed] => {
             seed.parse().ok().and_then(|seed| optimised::spread::make(kind, size, seed))
         }
+        ["copy", kind] => optimised::copies::make(kind),
         ["plot"] => drawn(optimised::plot::plot),
         ["strip"] => drawn(optimised::strip::strip),
         _ => None,

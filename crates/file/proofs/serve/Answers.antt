@@ -1,20 +1,20 @@
-use Rattle.file.proofs.Served.{on_ok, served, served-only, served-deeds, served-unspent, served-former}
+use Rattle.std.proofs.lemmas.Option.{IfSome_then}
+use Rattle.std.proofs.lemmas.Result.{on_ok_weaker}
+use Rattle.file.proofs.Served.{served-only, served-deeds, served-unspent, served-former}
 use Rattle.file.proofs.serve.Goals as goal
 
-pub returns-clause-written : goal.returns-clause-written
-returns-clause-written g c = on_ok c.serve.result (served (g.S.Source.remaining c.args.source) _) c.serve.ensures.written
-
 pub returns-clause-only : goal.returns-clause-only
-returns-clause-only g c = on_ok c.serve.result (served-only (g.S.Source.remaining c.args.source) _) c.serve.ensures.written
+returns-clause-only g c =
+    on_ok_weaker c.serve.result (λ w. IfSome_then (g.S.Source.remaining c.args.source) w (λ input o. served-only o)) c.serve.ensures.written
 
 pub returns-clause-unspent : goal.returns-clause-unspent
-returns-clause-unspent g c = on_ok c.serve.result (served-unspent (g.S.Source.remaining c.args.source) _ _) c.serve.ensures.written
+returns-clause-unspent g c =
+    on_ok_weaker c.serve.result (λ w. IfSome_then (g.S.Source.remaining c.args.source) w (λ input o. served-unspent o)) c.serve.ensures.written
 
 pub returns-clause-deeds : goal.returns-clause-deeds
-returns-clause-deeds g c = on_ok c.serve.result (served-deeds (g.S.Source.remaining c.args.source) _) c.serve.ensures.written
-
-pub returns-clause-started : goal.returns-clause-started
-returns-clause-started g c = λ e told. served (g.S.Source.remaining c.args.source) _ (c.serve.ensures.started e told)
+returns-clause-deeds g c =
+    on_ok_weaker c.serve.result (λ w. IfSome_then (g.S.Source.remaining c.args.source) w (λ input o. served-deeds o)) c.serve.ensures.written
 
 pub returns-clause-former : goal.returns-clause-former
-returns-clause-former g c = on_ok c.serve.result (served-former (g.S.Source.remaining c.args.source) _) c.serve.ensures.written
+returns-clause-former g c =
+    on_ok_weaker c.serve.result (λ w. IfSome_then (g.S.Source.remaining c.args.source) w (λ input o. served-former o)) c.serve.ensures.written

@@ -11,7 +11,7 @@ lines-init g c = begun_start (rw c.new-lines.ensures (nothing_held _)) c.require
 pub returns-in-End-clause-found : goal.returns-in-End-clause-found
 returns-in-End-clause-found g c =
     let given = rw c.in-End.is at c.in_ok-next.ensures.ok in
-    ends c.lines.invariant given.1 c.ended.ensures
+    ends c.lines.invariant given.1 c.ended.ensures.told
 
 pub fault-requires : goal.fault-requires
 fault-requires g c = omega (arith, few_lines (is_read c.lines.invariant))

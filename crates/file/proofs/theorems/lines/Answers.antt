@@ -1,5 +1,4 @@
 use Rattle.file.proofs.Told.{asks-answered, rounds-are-told, no-round, fault-told}
-use Rattle.file.proofs.WritesLaws.{fault-line}
 use Rattle.file.proofs.theorems.lines.Goals as goal
 
 pub returns : goal.returns
@@ -8,5 +7,4 @@ returns c = record {
   rounds = λ input text w. rounds-are-told w;
   no_round = λ input text w. no-round w;
   fault = λ input text w. fault-told w;
-  near = fault-line;
 }

@@ -1,4 +1,6 @@
-use Rattle.file.proofs.WritesLaws.{writes-once, writes-length, writes-whole, writes_start, wrote-once, serves-once}
+use Rattle.shell.proofs.WritesLaws.{start-writes, written-once, served-once}
+use Rattle.file.specs.Writes.{frames_width, RepliesTo}
+use Rattle.file.proofs.WritesLaws.{replies-once, writes-once, writes-length}
 use Rattle.file.proofs.DeedLaws.{writes-without-deeds}
 use Rattle.file.proofs.theorems.text.Goals as goal
 
@@ -6,8 +8,8 @@ pub returns : goal.returns
 returns c = record {
   once = λ input text out w v. writes-once w v;
   fits = λ input text w. writes-length w;
-  start = λ input n h text. (writes-whole input n h, writes_start input n h);
+  start = start-writes (RepliesTo frames_width);
   deeds = writes-without-deeds;
-  written_once = λ input old text out n m a b. wrote-once old a.within b.within a.written b.written a.rest b.rest;
-  served_once = serves-once;
+  written_once = written-once (RepliesTo frames_width) (λ fs taken x y. replies-once);
+  served_once = served-once (RepliesTo frames_width) (λ fs taken x y. replies-once);
 }

@@ -1,14 +1,9 @@
-use Rattle.file.proofs.Served.{reply-put, reply-failed}
+use Rattle.std.proofs.lemmas.Result.{on_ok_weaker, IfErr-weaker}
+use Rattle.file.proofs.Served.{replies-tell}
 use Rattle.file.proofs.replies.RepliesReport.put.Goals as goal
 
-pub returns-in-Ok-clause-ok : goal.returns-in-Ok-clause-ok
-returns-in-Ok-clause-ok g c = reply-put _ _ _ _ c.in-Ok.is _ c.put_replies.ensures.ok
+pub returns-clause-ok : goal.returns-clause-ok
+returns-clause-ok g c = on_ok_weaker c.put_replies.result (replies-tell _) c.put_replies.ensures.ok
 
-pub returns-in-Ok-clause-err : goal.returns-in-Ok-clause-err
-returns-in-Ok-clause-err g c = reply-failed _ _ _ _ c.in-Ok.is _ c.put_replies.ensures.err
-
-pub returns-in-Err-clause-ok : goal.returns-in-Err-clause-ok
-returns-in-Err-clause-ok g c = reply-put _ _ _ _ c.in-Err.is _ (rw (c.as_slice.ensures, c.fault.ensures) at c.put.ensures.ok)
-
-pub returns-in-Err-clause-err : goal.returns-in-Err-clause-err
-returns-in-Err-clause-err g c = reply-failed _ _ _ _ c.in-Err.is _ (rw (c.as_slice.ensures, c.fault.ensures) at c.put.ensures.err)
+pub returns-clause-err : goal.returns-clause-err
+returns-clause-err g c = IfErr-weaker c.put_replies.result _ _ (λ e. replies-tell _) c.put_replies.ensures.err

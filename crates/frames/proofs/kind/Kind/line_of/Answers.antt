@@ -1,6 +1,6 @@
 -- A line of a kind's own bytes, or of a fact's and its deed number.
-use Rattle.std.proofs.Common.{◌≡◌, ◌*◌, ◌/◌, ap, arith, inr, refl}
-use Rattle.frames.specs.Kinds.{frame_length, HasLength}
+use Rattle.std.proofs.Common.{◌≡◌, ◌*◌, ◌/◌, arith}
+use Rattle.frames.specs.Kinds.{frame_length}
 use Rattle.frames.proofs.FrontLaws.{own_length, few_bytes, begins_line}
 use Rattle.frames.proofs.kind.Kind.line_of.Goals as goal
 

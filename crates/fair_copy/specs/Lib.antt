@@ -1,0 +1,5 @@
+pub mod Copy
+pub mod Asking
+pub mod Framed
+pub mod Laws
+pub mod Kept

@@ -1,0 +1,8 @@
+pub mod Dedups
+pub mod Members
+pub mod Once
+pub mod Chunks
+pub mod TidyLaws
+pub mod SetLaws
+pub mod Unique
+pub mod Refused
