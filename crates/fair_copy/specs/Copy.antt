@@ -16,8 +16,8 @@ use Rattle.frames.specs.declared.Frame.TheVariants.{RoleStep, TestStep, Final, A
 use Rattle.reading.specs.File.{IsQuestionOf}
 use Rattle.shell.specs.Writes.{WritesOf}
 
--- a frame is copied as it is, but for an ask, which is left out, and an expression, of which the
--- steps and final states stand in its place
+-- Every frame of a file is copied unchanged, with two exceptions: the copy has no asks, and in place
+-- of an expression it has the steps and the final states of the question that the expression asks.
 abbrev pub IsCopied : Frame → Type 0
 IsCopied (Ask a b) = ⊥
 IsCopied (AskFrom a) = ⊥

@@ -20,7 +20,7 @@ use Rattle.walk.specs.Known.{most_kept, place_in, IsKnown, kept_at}
 abbrev pub group : ℕ
 group = 15
 
--- the role facts that a walk goes by
+-- A walk follows the edges that these role facts make.
 abbrev pub facts_of : Guide → List ℕ
 facts_of g = g.strides.edges.now.facts.numbers.now
 
@@ -160,7 +160,8 @@ Passes g lo hi old new =
 abbrev pub Finds : Guide → Individual → State → List StateSet → Type 0
 Finds g = Found (MoveOf g)
 
--- what a walk is told of components, if it is told anything, is true of the strides that it goes by
+-- A walk may start with what is known of some individuals. What is known is then true of the strides
+-- of this walk.
 abbrev pub IsLent : Guide → Type 0
 IsLent g = ForSome g.known (λ k. AreKnownBy (MoveOf g) g.state.0 k.now)
 

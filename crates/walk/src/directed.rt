@@ -1,5 +1,6 @@
-// This file makes the transitions that a walk goes by, forward or backward. Backward, each signed role has the transitions of its inverse,
-// transposed: so a walk follows the edges of an individual in the same way in both directions.
+// This file makes the transitions by which a walk changes its state, in the direction in which the walk goes. For a walk that
+// goes backward each signed role has the transposed transitions of its inverse; so the code that follows the edges of an
+// individual is the same for both directions.
 
 ghost use Rattle.std.specs.Prelude.{◌≡◌, ◌<◌, ℕ, true};
 ghost use Rattle.kinds.specs.Kinds.{flip};
