@@ -23,6 +23,9 @@
 #define LAMPSAFFRON_STEPS 4096
 #define LAMPSAFFRON_FINALS 32
 
+/* The numbers of the longest list of a sheet: four for each of 131,072 entries. */
+#define LAMPSAFFRON_LIST 524288
+
 /* The numbers of answers; 7 is never given. */
 enum lampsaffron_number {
     LAMPSAFFRON_NO = 0,
@@ -178,6 +181,43 @@ uint8_t lampsaffron_same_records(
     const uint16_t *other_role_facts, size_t other_role_facts_len,
     const uint16_t *other_steps, size_t other_steps_len,
     const uint16_t *other_finals, size_t other_finals_len);
+
+/* The list of the closed sheet of a collection: every mark once, with the round in which it first stands, sorted by the round, then by both states,
+   then by the concept. The collection is five counts and eight tables, as for lampsaffron_ask, without an allowance and without areas. An entry has four
+   numbers in list: the round, the state from which the mark leads, the state to which it leads, and its concept.
+   Returns 4, 5 or 6 as the tests do, and 5 as well where list_len is below LAMPSAFFRON_LIST; 2, a contradiction, which has no sheet; else 0.
+   After 0 the entries stand at the front of list, *entries gets how many they are, and the rest of list is as it was. After all else nothing is written. */
+uint8_t lampsaffron_listing(
+    uint16_t names, uint16_t roles, uint16_t individuals, uint16_t states, uint16_t start,
+    const uint16_t *concept_rules, size_t concept_rules_len,
+    const uint16_t *concept_exclusions, size_t concept_exclusions_len,
+    const uint16_t *role_rules, size_t role_rules_len,
+    const uint16_t *role_exclusions, size_t role_exclusions_len,
+    const uint16_t *concept_facts, size_t concept_facts_len,
+    const uint16_t *role_facts, size_t role_facts_len,
+    const uint16_t *steps, size_t steps_len,
+    const uint16_t *finals, size_t finals_len,
+    uint32_t *list, size_t list_len,
+    uint32_t *entries);
+
+/* Where a list that another office sent departs from that of the collection's closed sheet. The collection is lent as for lampsaffron_listing, and the list
+   has four numbers an entry, as that call gives them.
+   Returns 4, 5 or 6 as the tests do, 5 as well where list_len is no multiple of four or above LAMPSAFFRON_LIST, and 6 as well where a state or the concept
+   of an entry is not declared; 2, a contradiction, and then the list is not held against anything; 15, the list is not that of the sheet; else 0.
+   After 15 *entry gets the first entry that departs, counted from 0, and where the list only ends too soon how many entries it has. After all else
+   nothing is written. */
+uint8_t lampsaffron_departs(
+    uint16_t names, uint16_t roles, uint16_t individuals, uint16_t states, uint16_t start,
+    const uint16_t *concept_rules, size_t concept_rules_len,
+    const uint16_t *concept_exclusions, size_t concept_exclusions_len,
+    const uint16_t *role_rules, size_t role_rules_len,
+    const uint16_t *role_exclusions, size_t role_exclusions_len,
+    const uint16_t *concept_facts, size_t concept_facts_len,
+    const uint16_t *role_facts, size_t role_facts_len,
+    const uint16_t *steps, size_t steps_len,
+    const uint16_t *finals, size_t finals_len,
+    const uint32_t *list, size_t list_len,
+    uint32_t *entry);
 
 /* An area that was stored while there were at most 16 states, moved to the places of today. After 0 area has 1 at the place of each mark that stands in stored, and 0
    everywhere else: it is the area of the same collection's sheet after the same round.

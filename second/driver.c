@@ -1,13 +1,13 @@
 /* The library driver of PROTOCOL.md: reads a call per line, asks lampsaffron_ask, lampsaffron_ask_from, lampsaffron_ask_all,
-   lampsaffron_ask_row, lampsaffron_marks, lampsaffron_expression, lampsaffron_area_from_16, lampsaffron_area_to_16 or
-   lampsaffron_same_records, writes what they gave and hashes.
+   lampsaffron_ask_row, lampsaffron_marks, lampsaffron_expression, lampsaffron_area_from_16, lampsaffron_area_to_16,
+   lampsaffron_same_records, lampsaffron_listing or lampsaffron_departs, writes what they gave and hashes.
    No stdio and no heap: only read and write, declared by hand, and static buffers. */
 #include "lampsaffron.h"
 
 extern long read(int from, void *bytes, size_t most);
 extern long write(int to, const void *bytes, size_t length);
 
-enum { TABLES = 8, MOST_NUMBERS = 65535, MOST_AREA = 131072, MOST_ENTRIES = 1024, MOST_ROOM = 131072, MOST_MADE = 8192, GUARD = 64 };
+enum { TABLES = 8, MOST_NUMBERS = 65535, MOST_AREA = 131072, MOST_ENTRIES = 1024, MOST_ROOM = 131072, MOST_MADE = 8192, MOST_LIST = 525312, GUARD = 64 };
 
 /* The tables, those of a second collection, and after them the pairs or the asks of a row. */
 enum { OTHER = TABLES, ASKED = 2 * TABLES };
@@ -22,13 +22,16 @@ static uint32_t row_counts[MOST_ENTRIES + GUARD / 4];
 /* A row of how many marks each round makes, and GUARD bytes behind it. */
 static uint32_t round_marks[MOST_ROOM + GUARD / 4];
 
+/* A row that a list is put into, with GUARD bytes behind it, or a list that is held against a sheet. */
+static uint32_t list[MOST_LIST + GUARD / 4];
+
 /* A row of marks, and the rows for the steps and finals that are made of it, with GUARD bytes behind each. */
 static uint8_t marks[MOST_NUMBERS];
 static size_t marks_length;
 static uint16_t made[2][MOST_MADE + GUARD / 2];
 
 /* The letters that a request of another kind than a pair begins with; none is a digit. */
-enum { ROW = 'R', MIXED = 'Q', ONE = 'L', ROUNDS = 'N', EXPRESSION = 'M', FROM_16 = 'S', TO_16 = 'T', TWICE = 'P' };
+enum { ROW = 'R', MIXED = 'Q', ONE = 'L', ROUNDS = 'N', EXPRESSION = 'M', FROM_16 = 'S', TO_16 = 'T', TWICE = 'P', LISTED = 'U', DEPARTS = 'V' };
 
 /* What a request says beside the tables and marks; one individual stands first in the pair. */
 struct request {
@@ -250,8 +253,25 @@ static void answer_twice(const struct request *asked) {
     put(lampsaffron_same_records(COLLECTION(asked->counts, 0), COLLECTION(asked->other_counts, OTHER)), 2);
 }
 
+static void answer_listed(const struct request *asked) {
+    uint32_t entries = UNCOUNTED;
+    fill_lent(list, sizeof *list * asked->room, asked->fill);
+    put(lampsaffron_listing(COLLECTION(asked->counts, 0), list, asked->room, &entries), 2);
+    put(entries, 8);
+    put(hash_counts(list, asked->room), 16);
+    put(hash((const uint8_t *)(list + asked->room), GUARD), 16);
+}
+
+static void answer_departs(const struct request *asked) {
+    uint32_t entry = UNCOUNTED;
+    put(lampsaffron_departs(COLLECTION(asked->counts, 0), list, asked->room, &entry), 2);
+    put(entry, 8);
+}
+
 static void answer(const struct request *asked) {
     if (asked->kind == EXPRESSION) answer_expression(asked);
+    else if (asked->kind == LISTED) answer_listed(asked);
+    else if (asked->kind == DEPARTS) answer_departs(asked);
     else if (asked->kind == TWICE) answer_twice(asked);
     else if (moves(asked->kind)) answer_moved(asked);
     else answer_with_areas(asked);
@@ -279,10 +299,16 @@ static void read_entries(struct request *asked, size_t most) {
     asked->fill = (uint8_t)number(2);
 }
 
-/* The room of a row of counts, and the byte that fills it. */
-static void read_room(struct request *asked) {
-    asked->room = length_within(8, MOST_ROOM);
+/* The room of a row of counts or for a list, and the byte that fills it. */
+static void read_room(struct request *asked, size_t most) {
+    asked->room = length_within(8, most);
     asked->fill = (uint8_t)number(2);
+}
+
+/* The numbers of a list. */
+static void read_list(struct request *asked) {
+    asked->room = length_within(8, MOST_LIST);
+    for (size_t i = 0; i < asked->room && !bad; i++) list[i] = number(8);
 }
 
 /* The area that is moved, and the length of the other and the byte that fills it. */
@@ -313,7 +339,7 @@ static void read_ask(struct request *asked) {
     for (int i = 0; i < 2; i++) asked->sizes[i] = length_within(8, MOST_AREA);
     for (int i = 0; i < 2; i++) asked->fills[i] = (uint8_t)number(2);
     if (asks_row(asked->kind)) read_entries(asked, MOST_ENTRIES);
-    if (asked->kind == ROUNDS) read_room(asked);
+    if (asked->kind == ROUNDS) read_room(asked, MOST_ROOM);
 }
 
 static struct request read_request(void) {
@@ -324,6 +350,12 @@ static struct request read_request(void) {
     } else if (asked.kind == TWICE) {
         read_collection(asked.counts, 0);
         read_collection(asked.other_counts, OTHER);
+    } else if (asked.kind == LISTED) {
+        read_collection(asked.counts, 0);
+        read_room(&asked, MOST_LIST);
+    } else if (asked.kind == DEPARTS) {
+        read_collection(asked.counts, 0);
+        read_list(&asked);
     } else if (moves(asked.kind)) {
         read_moved(&asked);
     } else {

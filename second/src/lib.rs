@@ -12,6 +12,7 @@ pub mod element;
 pub mod explain;
 pub mod expression;
 pub mod library;
+pub mod listing;
 pub mod model;
 pub mod numbers;
 pub mod order;

@@ -1,14 +1,17 @@
 //! The library's calls: over lent tables, with both areas (docs/RULES.md, sections 3 and 7); what each round adds (section 6);
-//! from marks to tables (section 8).
+//! from marks to tables (section 8); the list of a sheet, and where a list departs from it (section 12).
 
 use crate::area::AREA;
 use crate::ask::Ask;
 use crate::collection::{Collection, ConceptFact, Counts, RoleFact, Step};
+use crate::desk::read::MOST_LISTED;
 use crate::expression::automaton::Automaton;
 use crate::expression::read::{expression, too_deep};
 use crate::expression::Letter;
+use crate::listing::{self, Entry};
 use crate::numbers::{Concept, Deed, Role, State, MOST_STATES};
 use crate::prepared::{Prepared, ALLOWANCE_SPENT, CONTRADICTION};
+use crate::sheet::Mark;
 use std::collections::BTreeSet;
 
 /// How many numbers a record has and how many records there may be, in the order of docs/RULES.md, section 3.
@@ -167,6 +170,53 @@ pub fn marks(call: &Call, room: usize, area: &mut [u8], spare: &mut [u8]) -> (u8
     area.copy_from_slice(&bytes);
     spare.fill(0);
     (if prepared.spent() { ALLOWANCE_SPENT } else { 0 }, Some(added.to_vec()))
+}
+
+/// The numbers of an entry in a row: its round, two states and a concept.
+const ENTRY: usize = 4;
+
+/// The numbers of the longest list; a row that takes one must have room for so many, whatever is put there.
+pub const LONGEST_LIST: usize = ENTRY * MOST_LISTED;
+
+pub fn entry_numbers(entry: &Entry) -> [u32; ENTRY] {
+    let Mark { from, to, concept } = entry.mark;
+    [entry.round, from.0.into(), to.0.into(), concept.0.into()]
+}
+
+/// The list of the closed sheet, for a row that has room for so many numbers: 4, then 5 where it is too short for the longest
+/// list, 5 and 6, 2. Neither an allowance nor an area is lent.
+pub fn list_of(call: &Call, room: usize) -> Result<Vec<Entry>, u8> {
+    let collection = match checked(call, AREA, AREA) {
+        Err(4) => return Err(4),
+        _ if room < LONGEST_LIST => return Err(5),
+        checked => checked?,
+    };
+    listing::listing(&collection).ok_or(CONTRADICTION)
+}
+
+/// The place of the first entry in which a list departs from that of the closed sheet, or of the one after its last where it
+/// is short, which is number 15; None where it is that list. Else 4, 5 where an entry is broken or there are too many, 5 and 6,
+/// then 6 where a state or a concept of an entry is not declared, 2.
+pub fn departs(call: &Call, list: &[u32]) -> Result<Option<usize>, u8> {
+    let entries = list.chunks_exact(ENTRY);
+    let whole = entries.remainder().is_empty() && entries.len() <= MOST_LISTED;
+    let collection = match checked(call, AREA, AREA) {
+        Err(4) => return Err(4),
+        _ if !whole => return Err(5),
+        checked => checked?,
+    };
+    let typed =
+        entries.map(|numbers| entry(&collection.counts, numbers)).collect::<Option<Vec<Entry>>>().ok_or(6)?;
+    let listed = listing::listing(&collection).ok_or(CONTRADICTION)?;
+    Ok(listing::departure(&typed, &listed))
+}
+
+/// None where a state or the concept is not declared; no round is refused.
+fn entry(counts: &Counts, numbers: &[u32]) -> Option<Entry> {
+    let state = |number: u32| counts.state(u16::try_from(number).ok()?);
+    let (from, to) = (state(numbers[1])?, state(numbers[2])?);
+    let concept = counts.basic_concept(u16::try_from(numbers[3]).ok()?)?;
+    Some(Entry { round: numbers[0], mark: Mark { from, to, concept } })
 }
 
 /// One ask after the other, each with the areas as the one before left them.

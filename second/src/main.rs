@@ -1,4 +1,4 @@
-//! The commands of the second program: desk, copy, explain, paper, changes, picture, automaton, compare, answer and sample.
+//! The commands of the second program: desk, copy, list, explain, paper, changes, picture, automaton, compare, answer and sample.
 
 use second::compare::{compare, protocol, Options};
 use second::explain::{Explanation, MOST_STEPS};
@@ -9,6 +9,7 @@ use std::process::ExitCode;
 
 const USAGE: &str = "second desk                  the desk: standard input to standard output
 second copy                  the copyist: standard input to standard output
+second list                  the lister: standard input to standard output
 second explain FILE          what stands behind the desk's answers to a file, as readable text
 second paper BLOCK FILE [WORDS]
                              a block about a file, for a page: records, marks, places, automaton, numbers, orders, people, model,
@@ -27,6 +28,7 @@ second compare [OPTIONS]     the comparison
     --jobs J      cases at a time (1)
     --desk CMD    the desk program to compare, a command with its words in one argument
     --copyist CMD the copyist to compare, likewise; --desk is needed too
+    --lister CMD  the lister to compare, likewise; --desk and --copyist are needed too
     --library CMD the library driver to compare, likewise; PROTOCOL.md says what it reads and writes
 second answer                the second program's own library behind that protocol
 second sample KIND SEED      a file for the desk: small, medium, full (256 asks), rounds (1,954 are needed), damaged or long";
@@ -40,6 +42,7 @@ fn main() -> ExitCode {
     match (command, rest) {
         ("desk", []) => answered(second::desk::desk),
         ("copy", []) => answered(second::copy::copy),
+        ("list", []) => answered(second::listing::list),
         ("explain", [file]) => explain(file),
         ("paper", [block, file]) => paper(block, file, ""),
         ("paper", [block, file, words]) => paper(block, file, words),
@@ -168,6 +171,7 @@ fn read_options(words: &[String]) -> Option<Options> {
             "--jobs" => options.jobs = value.parse().ok().filter(|jobs| *jobs > 0)?,
             "--desk" => options.desk = Some(value.clone()),
             "--copyist" => options.copyist = Some(value.clone()),
+            "--lister" => options.lister = Some(value.clone()),
             "--library" => options.library = Some(value.clone()),
             _ => return None,
         }

@@ -158,14 +158,22 @@ impl Sheet {
     }
 
     pub fn marks(&self) -> impl Iterator<Item = Mark> + '_ {
-        let concepts = (0..128).map(Concept);
-        let rows =
-            concepts.flat_map(|concept| (0..MOST_STATES as u8).map(move |from| (State(from), concept)));
-        rows.flat_map(|(from, concept)| {
-            let row = self.loops(concept)[from.at()];
-            marked(row.into()).map(move |to| Mark { from, to: State(to), concept })
-        })
+        marks_of(|concept, from| self.loops(concept)[from.at()])
     }
+
+    /// The marks that don't stand in another sheet.
+    pub fn marks_beyond<'a>(&'a self, other: &'a Sheet) -> impl Iterator<Item = Mark> + 'a {
+        marks_of(|concept, from| self.loops(concept)[from.at()] & !other.loops(concept)[from.at()])
+    }
+}
+
+/// The marks (s, ·, B) that each row says, in the order of the rows.
+fn marks_of(row: impl Fn(Concept, State) -> u32) -> impl Iterator<Item = Mark> {
+    let concepts = (0..128).map(Concept);
+    let places = concepts.flat_map(|concept| (0..MOST_STATES as u8).map(move |from| (concept, State(from))));
+    places.flat_map(move |(concept, from)| {
+        marked(row(concept, from).into()).map(move |to| Mark { from, to: State(to), concept })
+    })
 }
 
 pub fn join(into: &mut Relation, more: &Relation) {

@@ -1,7 +1,8 @@
-//! The stored run cases (cases/README.md): the second program writes each output and each fair copy, and their lines of rounds are counted to the letter.
+//! The stored run cases (cases/README.md): the second program writes each output, each fair copy and each list, and their lines of rounds are counted to the letter.
 
 use second::copy::copy;
 use second::desk::{desk, read::read};
+use second::listing::list;
 use second::model::known::Known;
 use second::model::letter;
 use std::path::{Path, PathBuf};
@@ -27,15 +28,21 @@ fn every_stored_output_is_written() {
     }
 }
 
-#[test]
-fn every_stored_copy_is_written() {
-    let mut copies = 0;
+/// How many outputs are stored under this name, each of which the program writes.
+fn written(program: fn(&[u8]) -> Vec<u8>, extension: &str) -> usize {
+    let mut stored = 0;
     for (path, input, _) in cases() {
-        let Ok(expected) = std::fs::read_to_string(path.with_extension("copy")) else { continue };
-        assert_eq!(String::from_utf8(copy(&input)).expect("text"), expected, "{}", path.display());
-        copies += 1;
+        let Ok(expected) = std::fs::read_to_string(path.with_extension(extension)) else { continue };
+        assert_eq!(String::from_utf8(program(&input)).expect("text"), expected, "{}", path.display());
+        stored += 1;
     }
-    assert!(copies > 40, "{copies} copies");
+    stored
+}
+
+#[test]
+fn every_stored_copy_and_list_is_written() {
+    let (copies, lists) = (written(copy, "copy"), written(list, "list"));
+    assert!(copies > 40 && lists > 10, "{copies} copies, {lists} lists");
 }
 
 #[test]

@@ -1,4 +1,4 @@
-//! The comparison tried on the second program itself: all eleven parts, and each number hit often enough.
+//! The comparison tried on the second program itself: all fourteen parts, and each number hit often enough.
 
 use second::compare::{compare, desk_met, sample::sample, Options, DESK_NUMBERS};
 use second::desk::desk;
@@ -6,16 +6,18 @@ use second::desk::desk;
 #[test]
 fn the_second_program_agrees_with_itself_and_with_the_model() {
     let program = env!("CARGO_BIN_EXE_second");
-    let [desk, copyist, library] = ["desk", "copy", "answer"].map(|verb| Some(format!("{program} {verb}")));
-    let (passed, failed) = compare(&Options { cases: 2_000, seed: 2, jobs: 2, desk, copyist, library });
+    let programs = ["desk", "copy", "list", "answer"].map(|verb| Some(format!("{program} {verb}")));
+    let [desk, copyist, lister, library] = programs;
+    let (passed, failed) =
+        compare(&Options { cases: 2_000, seed: 2, jobs: 2, desk, copyist, lister, library });
     assert_eq!(failed, 0);
-    assert!(passed > 21_900);
+    assert!(passed > 27_900);
 }
 
 /// How many of so few cases fail with these programs: what is met too seldom counts too.
-fn failed(cases: u64, seed: u64, [desk, copyist, library]: [Option<&str>; 3]) -> u64 {
-    let [desk, copyist, library] = [desk, copyist, library].map(|command| command.map(String::from));
-    compare(&Options { cases, seed, jobs: 1, desk, copyist, library }).1
+fn failed(cases: u64, seed: u64, programs: [Option<&str>; 4]) -> u64 {
+    let [desk, copyist, lister, library] = programs.map(|command| command.map(String::from));
+    compare(&Options { cases, seed, jobs: 1, desk, copyist, lister, library }).1
 }
 
 /// The differing inputs are kept for whoever wants to look at them; here nobody does.
@@ -30,8 +32,9 @@ fn remove_kept(seed: u64) {
 #[test]
 fn another_program_fails() {
     let program = env!("CARGO_BIN_EXE_second");
-    let [desk, copyist] = ["desk", "copy"].map(|verb| format!("{program} {verb}"));
-    let failed = |desk, copyist| failed(60, 424_242, [desk, copyist, None]);
+    let [desk, copyist, lister] = ["desk", "copy", "list"].map(|verb| format!("{program} {verb}"));
+    let lists = |desk, copyist, lister| failed(60, 424_242, [desk, copyist, lister, None]);
+    let failed = |desk, copyist| lists(desk, copyist, None);
     // `cat` writes its input back, which is never what the desk writes.
     assert!(failed(Some("cat"), None) > 50);
     // Nor is it what the copyist writes, but of a fair copy; what the desk writes is so of faulty files alone.
@@ -40,6 +43,10 @@ fn another_program_fails() {
     assert!(failed(Some(&desk), Some(&desk)) > right + 20);
     // A desk that answers otherwise fails at the copies too.
     assert!(failed(Some("cat"), Some(&copyist)) > failed(Some("cat"), None) + 20);
+    // A copyist leaves out the list that a lister writes.
+    let right = lists(Some(&desk), Some(&copyist), Some(&lister));
+    assert!(lists(Some(&desk), Some(&copyist), Some(&copyist)) > right + 10);
+    assert!(lists(Some(&desk), Some(&lister), Some(&lister)) > right + 20);
     remove_kept(424_242);
 }
 
@@ -50,22 +57,25 @@ fn a_bad_exit_status_fails() {
     std::fs::create_dir_all(&folder).expect("a folder of our own");
     let program = env!("CARGO_BIN_EXE_second");
     let [right, wrong] = [0, 3].map(|status| {
-        ["desk", "copy", "answer"].map(|verb| {
+        ["desk", "copy", "list", "answer"].map(|verb| {
             let script = folder.join(format!("{verb}-{status}"));
             std::fs::write(&script, format!("{program} {verb}\nexit {status}\n")).expect("a file of our own");
             format!("sh {}", script.display())
         })
     });
     let failed = |programs| failed(40, 616_161, programs);
-    let sound = failed([None; 3]);
+    let sound = failed([None; 4]);
     // Of so few cases each number of the desk, and all else of it, is met too seldom.
     let desk = 40 + (2 * DESK_NUMBERS.len() + desk_met().len()) as u64;
-    assert_eq!(failed([Some(&wrong[0]), None, None]), sound + desk);
-    let copies = [Some(&right[0][..]), Some(&right[1]), None];
-    assert_eq!(failed([copies[0], Some(&wrong[1]), None]), failed(copies) + 40);
-    // Eight parts have a driver.
-    let library = failed([None, None, Some(&right[2])]);
-    assert_eq!(failed([None, None, Some(&wrong[2])]), library + 8);
+    assert_eq!(failed([Some(&wrong[0]), None, None, None]), sound + desk);
+    let right: Vec<Option<&str>> = right.iter().map(|command| Some(&command[..])).collect();
+    let copies = failed([right[0], right[1], None, None]);
+    assert_eq!(failed([right[0], Some(&wrong[1]), None, None]), copies + 40);
+    let lists = failed([right[0], right[1], right[2], None]);
+    assert_eq!(failed([right[0], right[1], Some(&wrong[2]), None]), lists + 40);
+    // Ten parts have a driver.
+    let library = failed([None, None, None, right[3]]);
+    assert_eq!(failed([None, None, None, Some(&wrong[3])]), library + 10);
     std::fs::remove_dir_all(&folder).expect("our own folder");
     remove_kept(616_161);
 }

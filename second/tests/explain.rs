@@ -116,6 +116,29 @@ fn a_long_path_is_cut() {
     says(&text, &["… and 20 steps more"]);
 }
 
+/// The list of a collection of one name and two states, in which a test of the name leads from 0 to 1.
+const LIST: [&str; 3] = ["1000000000000000", "1000000000010100", "1000000001000100"];
+
+#[test]
+fn lists_in_words() {
+    let with = |list: &[&str]| explained(&format!("010100010200 060000 09000001 {}", list.join(" ")));
+    says(&with(&LIST), &["  a list of 3 entries (lines 4 to 6): it is the sheet"]);
+    let next = |line: u16, mark: &str, round: u16| {
+        let what = format!("next is {mark}, which first stands in round {round}.");
+        format!("  8F{line:04X}0F\n\nLine {line}, number 15: the list is not the sheet: {what}")
+    };
+    says(&with(&LIST[1..]), &[&next(4, "(q0, q0, A0)", 0), "The line reads: \"1000000000010100\""]);
+    let short = with(&LIST[..2]);
+    says(&short, &[&next(6, "(q0, q1, A0)", 1)]);
+    assert!(!short.contains("The line reads"));
+    says(
+        &with(&[LIST[0], LIST[1], LIST[2], LIST[2]]),
+        &["Line 7, number 15: the list is not the sheet, which has no further mark."],
+    );
+    let clash = explained(&format!("010100010200 060000 030000 {}", LIST[2]));
+    says(&clash, &["  a list of 1 entries (lines 4 to 4): it is not looked at"]);
+}
+
 #[test]
 fn faults_in_words() {
     says(&explained("010202020400 07000202"), &["8F000206", "Line 2, number 6: not declared: individual 2"]);
@@ -137,6 +160,14 @@ fn faults_in_words() {
     says(&explained("010202020404"), &["number 4: the start state 4 is not below the 4 states"]);
     says(&explained("010202020400 0C0001 0C0001"), &["Line 3, number 11: a second frame 0C"]);
     says(&explained("0c0001"), &["Line 1, number 9: character 2 is byte 63"]);
+    let behind = "Line 3, number 11: another frame after a frame 10; the list ends the file";
+    says(&explained("010101010200 1000000000000000 0B0000"), &[behind]);
+    let entry = "number 10: an entry of the list has 7 bytes after its kind; here there are 1";
+    says(&explained("010202020400 1000"), &[entry]);
+    says(
+        &explained("010101010200 1000000000020042"),
+        &["state 2 (2 are declared), basic concept 66: signed role 2"],
+    );
     let full = "010000010100".to_string() + &" 0A00".repeat(33);
     says(&explained(&full), &["number 5: one frame too many: there are already 32 finals"]);
     let Err(empty) = Explanation::of(b"", MOST_STEPS) else { panic!("an empty input is faulty") };

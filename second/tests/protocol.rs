@@ -1,15 +1,16 @@
-//! PROTOCOL.md's seven examples, read and answered as it is written there.
+//! PROTOCOL.md's nine examples, read and answered as it is written there.
 
 use second::area::{AREA, STORED};
 use second::compare::protocol::{answer, hash, read_request, reply, request};
 use second::library::ask;
 
-/// The lines of the document's code blocks, for a pair, a row, marks, one individual, the marks of rounds, an area moved and two
-/// collections: the request, broken over several, and the reply.
-fn examples() -> [(String, String); 7] {
+/// The lines of the document's code blocks, for a pair, a row, marks, one individual, the marks of rounds, an area moved, two
+/// collections, the list of a sheet and where one departs: the request, broken over several, and the reply.
+fn examples() -> [(String, String); 9] {
     let document = include_str!("../PROTOCOL.md");
     let blocks: Vec<&str> = document.split("```").collect();
-    [1, 5, 9, 13, 17, 21, 25].map(|at| (blocks[at].replace('\n', ""), blocks[at + 2].replace('\n', "")))
+    [1, 5, 9, 13, 17, 21, 25, 29, 33]
+        .map(|at| (blocks[at].replace('\n', ""), blocks[at + 2].replace('\n', "")))
 }
 
 #[test]
@@ -162,7 +163,7 @@ fn a_row_that_does_not_fit_leaves_all_as_it_was() {
 
 #[test]
 fn what_is_no_request() {
-    let [(line, _), (row, _), (marks, _), (one, _), (rounds, _), (moved, _), (twice, _)] = examples();
+    let [line, row, marks, one, rounds, moved, twice, listed, departs] = examples().map(|(line, _)| line);
     assert!(read_request("").is_none());
     assert!(read_request("R").is_none());
     let cut = &marks[..marks.len() - 1];
@@ -215,6 +216,17 @@ fn what_is_no_request() {
     for other in [twice[..69].to_string(), format!("{twice}0"), format!("P{line}"), twice.to_lowercase()] {
         assert_eq!(reply(&other), "!", "{other}");
     }
+    // No byte to fill a row with; fewer numbers of a list than are told, or more; more than a driver holds; one for the other.
+    for other in [
+        listed[..listed.len() - 2].to_string(),
+        format!("{departs}0"),
+        departs[..departs.len() - 8].to_string(),
+        departs.replacen("00000004", "00080401", 1),
+        listed.replacen('U', "V", 1),
+        departs.replacen('V', "U", 1),
+    ] {
+        assert_eq!(reply(&other), "!", "{other}");
+    }
 }
 
 #[test]
@@ -239,6 +251,88 @@ fn two_collections_are_the_same_whatever_their_order_and_their_repeats() {
     assert_eq!(reply(&broken), "05");
     let second = broken.replacen("00020000000100010000000200000001", "00020000000100010001000200000001", 1);
     assert_eq!(reply(&second), "05");
+}
+
+/// The list of the base collection, four numbers for each entry.
+fn base_list() -> Vec<[u32; 4]> {
+    let round_0 = (0..4).flat_map(|state| [0, 1, 64, 65, 66, 67].map(|concept| [0, state, state, concept]));
+    round_0.chain([[1, 1, 2, 1], [1, 1, 2, 65], [2, 0, 3, 0], [2, 0, 3, 64]]).collect()
+}
+
+/// What the list of a sheet is asked with, and other digits in one place.
+fn listed(from: &str, to: &str) -> String {
+    let (line, _) = examples()[7].clone();
+    assert_eq!(line.matches(from).count(), 1, "{from}");
+    line.replacen(from, to, 1)
+}
+
+#[test]
+fn a_list_stands_in_front_of_a_row_that_could_take_the_longest() {
+    let front = base_list().concat();
+    let behind = format!("{:016X}", hash(&[0x55; 64]));
+    let told = |room: usize| format!("000000001C{}{behind}", row_of_counts(&front, 0xAAAA_AAAA, room));
+    assert_eq!(examples()[7].1, told(524_288));
+    assert_eq!(reply(&listed("00080000AA", "00080400AA")), told(525_312));
+    assert_eq!(reply(&listed("00080000AA", "00080401AA")), "!");
+    let kept = |number: &str, room: usize| {
+        format!("{number}FFFFFFFF{}{behind}", row_of_counts(&[], 0xAAAA_AAAA, room))
+    };
+    // One number too few, as many as this list has, and none; 33 states come before that.
+    assert_eq!(reply(&listed("00080000AA", "0007FFFFAA")), kept("05", 524_287));
+    assert_eq!(reply(&listed("00080000AA", "00000070AA")), kept("05", 112));
+    assert_eq!(reply(&listed("00080000AA", "00000000AA")), kept("05", 0));
+    let many_states = listed("U0002000200020004", "U0002000200020021");
+    assert_eq!(reply(&many_states.replace("00080000AA", "00000000AA")), kept("04", 0));
+    // A final state that is not declared, and a contradiction; a row that is too short comes before either.
+    for (from, to, number) in
+        [("0001000300080000", "0001000400080000", "06"), ("004100010000", "00410001000200010041", "02")]
+    {
+        assert_eq!(reply(&listed(from, to)), kept(number, 524_288));
+        assert_eq!(reply(&listed(from, to).replace("00080000AA", "00000070AA")), kept("05", 112));
+    }
+}
+
+#[test]
+fn a_list_departs_or_is_refused() {
+    // The same collection, and any list.
+    let asked = |from: &str, to: &str, list: &[u32]| {
+        let collection = listed(from, to).replacen('U', "V", 1);
+        let list: String = list.iter().map(|number| format!("{number:08X}")).collect();
+        reply(&collection.replace("00080000AA", &format!("{:08X}{list}", list.len() / 8)))
+    };
+    let base = |list: &[[u32; 4]]| asked("1267", "1267", list.as_flattened());
+    let right = base_list();
+    let changed = |at: usize, entry: [u32; 4]| {
+        let mut list = right.clone();
+        list[at] = entry;
+        base(&list)
+    };
+    assert_eq!(base(&right), "00FFFFFFFF");
+    assert_eq!(base(&right[..27]), "0F0000001B");
+    assert_eq!(base(&right[1..]), "0F00000000");
+    assert_eq!(base(&[]), "0F00000000");
+    assert_eq!(base(&[&right[..], &right[27..]].concat()), "0F0000001C");
+    assert_eq!(changed(24, [2, 1, 2, 1]), "0F00000018");
+    assert_eq!(changed(24, [u32::MAX, 1, 2, 1]), "0F00000018");
+    // A broken entry, and more than there may be; it comes before what is not declared.
+    assert_eq!(asked("1267", "1267", &right.concat()[..111]), "05FFFFFFFF");
+    assert_eq!(asked("1267", "1267", &[9; 5]), "05FFFFFFFF");
+    assert_eq!(asked("1267", "1267", &vec![0; 4 * 131_072]), "0F00000001");
+    assert_eq!(asked("1267", "1267", &vec![0; 4 * 131_073]), "05FFFFFFFF");
+    // Not declared; in two bytes the last would be.
+    for entry in
+        [[0, 4, 0, 0], [0, 0, 4, 0], [0, 0, 0, 2], [0, 0, 0, 68], [0, 0x1_0000, 0, 0], [0, 0, 0, 0x1_0000]]
+    {
+        assert_eq!(changed(27, entry), "06FFFFFFFF", "{entry:?}");
+    }
+    // In a contradiction no list departs, and yet each is tested.
+    let clash = |list: &[u32]| asked("004100010000", "00410001000200010041", list);
+    assert_eq!(clash(&[]), "02FFFFFFFF");
+    assert_eq!(clash(&right.concat()), "02FFFFFFFF");
+    assert_eq!(clash(&[0, 0, 0, 2]), "06FFFFFFFF");
+    assert_eq!(clash(&[0, 0, 0]), "05FFFFFFFF");
+    // 33 states come before a broken entry.
+    assert_eq!(asked("U0002000200020004", "U0002000200020021", &[0]), "04FFFFFFFF");
 }
 
 #[test]

@@ -4,9 +4,10 @@ use crate::answer::answers;
 use crate::bits::{Places, States};
 use crate::clash::{individuals, Excluded};
 use crate::leave::leaving;
+use crate::list::Held;
 use crate::order::Orders;
 use crate::read::{begin, go_on, read, Fault, File, Question, ANY, NARROW};
-use crate::sheet::{along, close};
+use crate::sheet::{along, close, marks as marks_of};
 use crate::walk::Map;
 
 const NO: u8 = 0;
@@ -17,8 +18,9 @@ const SPENT: u8 = 3;
 /// Room for the lines of so many rounds is made at once.
 const ROUNDS: usize = 64;
 
-/// The answer is the same for all asks, or is to be looked up in the walk.
+/// The list is not the sheet, or the answer is the same for all asks, or is to be looked up in the walk.
 enum Outcome<S: States> {
+    Departs(Fault),
     Same(u8, u32),
     Walked(Box<Walked<S>>),
 }
@@ -40,10 +42,14 @@ pub fn desk(mut input: Vec<u8>) -> Vec<u8> {
 }
 
 fn refused(Fault { line, number }: Fault) -> Vec<u8> {
-    let [high, low] = line.to_be_bytes();
+    let [first, second, high, low] = line.to_be_bytes();
     let mut output = Vec::new();
-    // A fault has no count, so its line is as long for every file.
-    put_line::<u16, 4, 0>(&mut output, [0x8F, high, low, number], []);
+    // A fault has no count; its own line's number has two bytes where they can hold it.
+    if first == 0 && second == 0 {
+        put_line::<u16, 4, 0>(&mut output, [0x8F, high, low, number], []);
+    } else {
+        put_line::<u16, 6, 0>(&mut output, [0x8F, first, second, high, low, number], []);
+    }
     output
 }
 
@@ -54,11 +60,12 @@ fn worked<S: States>(input: Vec<u8>, end: usize, file: &mut File) -> Vec<u8> {
         return refused(fault);
     }
     drop(input);
-    if file.asks.is_empty() {
+    if file.asks.is_empty() && file.list.is_empty() {
         return Vec::new();
     }
     let mut output = Vec::with_capacity(LONGEST * (file.asks.len() + ROUNDS));
     match outcome::<S>(file, &question, &mut output) {
+        Outcome::Departs(fault) => return refused(fault),
         Outcome::Same(number, count) => {
             for &ask in &file.asks {
                 answer::<S>(&mut output, ask, number, count);
@@ -85,10 +92,24 @@ fn outcome<S: States>(file: &File, question: &Question<S>, output: &mut Vec<u8>)
     let Some(mut map) = Map::of(file, &orders, &excluded, &along) else {
         return Outcome::Same(CONTRADICTION, 0);
     };
-    let told = |round: u32, added: u32| put_line::<S, 1, 2>(output, [0x8A], [round, added]);
-    let sheet = close(file, question, &orders, &along, told);
-    if sheet.spent {
-        return Outcome::Same(SPENT, sheet.rounds);
+    let allowance = file.allowance();
+    // A list is held against the whole sheet, whatever the allowance; without one no more rounds are worked than it allows.
+    let mut held = (!file.list.is_empty()).then(|| Held::of(file, &orders));
+    let most = if held.is_some() { u32::MAX } else { allowance };
+    let told = |round: u32, changed: u128, added: &[_; 128]| {
+        if round <= allowance && !file.asks.is_empty() {
+            put_line::<S, 1, 2>(output, [0x8A], [round, marks_of(&orders, changed, added)]);
+        }
+        if let Some(held) = &mut held {
+            held.round(round, changed, added);
+        }
+    };
+    let sheet = close(file, question, &orders, &along, most, told);
+    if let Some(place) = held.and_then(|held| held.departure()) {
+        return Outcome::Departs(Fault { line: file.listed_from + place as u32, number: 15 });
+    }
+    if sheet.spent || sheet.rounds > allowance {
+        return Outcome::Same(SPENT, allowance);
     }
     map.put_staying(file, &orders, &sheet);
     let asks_of_one = file.asks.iter().any(|ask| ask.1 == ANY);
@@ -135,7 +156,8 @@ pub fn marks(input: Vec<u8>) -> Option<u32> {
     let (file, question) = read(input).ok()?;
     let orders = Orders::of(&file);
     individuals(&file, &orders, &Excluded::of(&file, &orders))?;
-    let sheet = close(&file, &question, &orders, &along(&file, &question, &orders), |_, _| ());
+    let along = along(&file, &question, &orders);
+    let sheet = close(&file, &question, &orders, &along, file.allowance(), |_, _, _| ());
     let concepts = Places(crate::order::all_concepts(&file));
     Some(concepts.map(|concept| sheet.of_concept(&orders, concept).count()).sum())
 }

@@ -9,6 +9,8 @@ pub mod draft;
 pub mod expression;
 pub mod leave;
 pub mod levels;
+pub mod list;
+pub mod lists;
 pub mod make;
 pub mod order;
 pub mod parts;

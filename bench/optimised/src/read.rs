@@ -2,10 +2,15 @@
 
 use crate::bits::{Relation, States};
 use crate::expression;
+use crate::list::entry;
 
-/// No line beyond the 7,715th is reached, and a line is decided by its first 65 characters, or by its first 131 where it
-/// begins with 0D; no more than two of these are reached.
-pub const MOST_READ: usize = 7_715 * 65 + 2 * 66;
+/// No line beyond the 7,715th is reached but those of a list, and a line is decided by its first 65 characters, or by its first
+/// 131 where it begins with 0D; no more than two of these are reached.
+pub const MOST_READ: usize = 7_715 * 65 + MOST_LISTED * (ENTRY + 1) + 2 * 66;
+
+/// The most entries of a list, and the characters of one.
+const MOST_LISTED: usize = 131_072;
+const ENTRY: usize = 16;
 
 /// A file of more states than this is worked in thirty-two bits, and no file has more than those.
 pub const NARROW: u8 = u16::MOST as u8;
@@ -13,7 +18,7 @@ const MOST_STATES: u8 = u32::MOST as u8;
 
 #[derive(Clone, Copy, Debug, PartialEq, Eq)]
 pub struct Fault {
-    pub line: u16,
+    pub line: u32,
     pub number: u8,
 }
 
@@ -52,6 +57,9 @@ pub struct File {
     /// Two individuals, or one and `ANY`.
     pub asks: Vec<(u8, u8)>,
     allowance: Option<u32>,
+    /// The entries of the list, each as one number; the line of the first.
+    pub list: Vec<u64>,
+    pub listed_from: u32,
     /// Whether there is any exclusion of roles.
     pub excludes_roles: bool,
 }
@@ -74,6 +82,8 @@ impl File {
             facts: Vec::new(),
             asks: Vec::new(),
             allowance: None,
+            list: Vec::new(),
+            listed_from: 0,
             excludes_roles: false,
         }
     }
@@ -247,6 +257,7 @@ fn broken_line(from_here: &[u8]) -> u8 {
         // Any number of marks.
         [b'0', b'D'] => line.len() as u8,
         [b'0', low @ b'A'..=b'E'] => LENGTHS[usize::from(low - b'A' + 10)],
+        [b'1', b'0'] => ENTRY as u8,
         _ => 0,
     };
     let by_more = matches!(line[..2], [b'0', b'6' | b'7' | b'C']) && line.len() == usize::from(wanted) + MORE;
@@ -273,7 +284,7 @@ fn other_lines<S: States>(
     end: usize,
     file: &mut File,
     question: &mut Question<S>,
-    line: &mut u16,
+    line: &mut u32,
 ) -> Result<(), u8> {
     let mut rules = 0;
     let mut exclusions = 0;
@@ -290,6 +301,9 @@ fn other_lines<S: States>(
         let characters = word(input, at);
         let bytes = bytes(characters);
         let (kind, x, y, z) = (bytes as u8, (bytes >> 16) as u8, (bytes >> 32) as u8, (bytes >> 48) as u8);
+        if kind == 16 {
+            return list(&input[at..end + BEHIND], file, line);
+        }
         if kind == 13 {
             let marks = marks(&input[at..end]).ok_or_else(|| broken_line(&input[at..end]))?;
             if expressed || steps + finals > 0 {
@@ -389,6 +403,33 @@ fn other_lines<S: States>(
                 });
             }
         }
+    }
+    Ok(())
+}
+
+/// The lines of the list, which ends the file; these bytes begin with the first.
+#[inline(never)]
+fn list(input: &[u8], file: &mut File, line: &mut u32) -> Result<(), u8> {
+    let end = input.len() - BEHIND;
+    file.listed_from = *line;
+    let mut at = 0;
+    while at < end {
+        let (left, right) = (word(input, at), word(input, at + 8));
+        let (front, back) = (bytes(left), bytes(right));
+        if (no_digit(left) | no_digit(right)) != 0 || front as u8 != 0x10 || input[at + ENTRY] != b'\n' {
+            return Err(broken_line(&input[at..end]));
+        }
+        if file.list.len() == MOST_LISTED {
+            return Err(5);
+        }
+        let (from, to, concept) = ((back >> 16) as u8, (back >> 32) as u8, (back >> 48) as u8);
+        if from >= file.states || to >= file.states || !file.has_concept(concept) {
+            return Err(6);
+        }
+        let round = [(front >> 16) as u8, (front >> 32) as u8, (front >> 48) as u8, back as u8];
+        file.list.push(entry(u32::from_be_bytes(round), from, to, concept));
+        at += ENTRY + 1;
+        *line += 1;
     }
     Ok(())
 }

@@ -42,16 +42,23 @@ struct Closing<'a, S: States> {
     touched: u128,
 }
 
-/// Each round worked is told, with the marks that it added.
+/// How many marks a round added for these concepts, each for all that are equal to it.
+#[inline(always)]
+pub fn marks<S: States>(orders: &Orders, changed: u128, added: &[Relation<S>; 128]) -> u32 {
+    let marks = |concept: usize| added[concept & 127].count() * u32::from(orders.kin[concept & 127]);
+    Places(changed).map(marks).sum()
+}
+
+/// Each round worked is told, with what it added for which concepts, the lowest of their kind.
 #[inline(never)]
 pub fn close<S: States>(
     file: &File,
     question: &Question<S>,
     orders: &Orders,
     along: &[Relation<S>; 64],
-    mut told: impl FnMut(u32, u32),
+    allowance: u32,
+    mut told: impl FnMut(u32, u128, &[Relation<S>; 128]),
 ) -> Sheet<S> {
-    let allowance = file.allowance();
     let mut closing = Closing::round_zero(file, question, orders, along);
     let mut added = [Relation::EMPTY; 128];
     let mut rounds = 0;
@@ -64,9 +71,7 @@ pub fn close<S: States>(
             break true;
         }
         rounds += 1;
-        // What was added for a concept was added for all that are equal to it.
-        let marks = |concept: usize| added[concept & 127].count() * u32::from(orders.kin[concept & 127]);
-        told(rounds, Places(changed).map(marks).sum());
+        told(rounds, changed, &added);
         closing.round(changed, &added);
     };
     Sheet { loops: closing.loops, rounds, spent }

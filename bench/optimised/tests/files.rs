@@ -2,6 +2,7 @@
 
 use optimised::copies;
 use optimised::desk::desk;
+use optimised::lists;
 use optimised::make::make;
 use optimised::plot::plot;
 use optimised::spread;
@@ -163,6 +164,23 @@ fn the_files_for_the_copyist_are_sound_and_in_their_orders() {
         assert!(kind != "expression" || lines[1].len() == 130);
     }
     assert!(copies::make("more").is_none());
+}
+
+#[test]
+fn the_files_with_lists_are_accepted_depart_at_once_or_are_contradictions() {
+    for kind in lists::KINDS {
+        let file = lists::make(kind).expect("a kind");
+        let text = String::from_utf8(file.clone()).expect("text");
+        assert_eq!(text.lines().filter(|line| line.starts_with("10")).count(), 131_072, "{kind}");
+        let expected = match kind {
+            "full" => "8A000000010001F000\n8B00000100000001\n",
+            // Line 1, a fact, 127 rules, 992 tests, a final and an ask stand before it.
+            "departs" => "8F04640F\n",
+            _ => "8B00000200000000\n",
+        };
+        assert_eq!(String::from_utf8(desk(file)).expect("text"), expected, "{kind}");
+    }
+    assert!(lists::make("more").is_none());
 }
 
 #[test]

@@ -14,14 +14,15 @@ use Rattle.frames.specs.declared.Frame.{Frame}
 use Rattle.reading.specs.declared.Refusal.{Refusal}
 use Rattle.reading.specs.Tables.{asks, entries, table, declared_by, rounds_allowed}
 use Rattle.reading.specs.File.{file_of, tables_of, asked}
-use Rattle.reading.proofs.Turns.{fitting}
-use Rattle.reading.proofs.Accepted.{tables-ok, numbers-ok}
+use Rattle.reading.proofs.Accepted.{tables-ok}
 use Rattle.reading.proofs.Questions.{question-once}
+use Rattle.intake.specs.Verdicts.{collection_read}
+use Rattle.intake.proofs.VerdictLaws.{well-formed}
 use Rattle.shell.specs.Writes.{IsSound, IsFaulty}
 use Rattle.shell.proofs.WritesLaws.{fault-written, said-written}
 use Rattle.file.specs.Text.{count_width}
 use Rattle.file.specs.Rounds.{round_lines, RoundsTold, no-ask, contradiction, rounds}
-use Rattle.file.specs.Writes.{Answers, Answered, collection_read, FileRounds, frames_width, RepliesTo, Writes, IsAsking}
+use Rattle.file.specs.Writes.{Answers, Answered, FileRounds, frames_width, RepliesTo, Writes, IsAsking}
 use Rattle.fair_copy.specs.Copy.{IsCopyOf, frames_text, Copies, WritesCopy}
 use Rattle.fair_copy.specs.Asking.{asks_of}
 use Rattle.fair_copy.specs.Laws.{SameCollection}
@@ -33,11 +34,11 @@ use Rattle.fair_copy.proofs.Same.{same-turned, copy-same}
 use Rattle.fair_copy.proofs.Stands.{AreWhole}
 
 module _ {fs : List Frame} {q : Listed} (w : AreWhole fs q) where
-  its-shapes : ShapesOk (tables_of fs q)
+  pub its-shapes : ShapesOk (tables_of fs q)
   its-shapes = (tables-ok w.are.taken q w.are.asks 0).tables
 
-  well-formed : WellFormed (collection_read fs q)
-  well-formed = record { counts = fitting fs w.are.taken w.are.begun; numbers = (numbers-ok w.are.taken q w.are.asks 0).declared }
+  pub its-form : WellFormed (collection_read fs q)
+  its-form = well-formed fs w.are.taken w.are.begun q w.are.asks
 
 -- two files that are the same collection, and ask the same in the same order
 module _ (fs : List Frame) (q : Listed) (w : AreWhole fs q) (gs : List Frame) (r : Listed) (v : AreWhole gs r)
@@ -68,14 +69,14 @@ module _ (fs : List Frame) (q : Listed) (w : AreWhole fs q) (gs : List Frame) (r
   other-read = ap (λ (c : Counts). collection c (tables_of gs r)) s.declared
 
   other-formed : WellFormed (collection (declared_by fs) (tables_of gs r))
-  other-formed = rw other-read (well-formed v)
+  other-formed = rw other-read (its-form v)
 
   told-same : (allowance many : ℕ) (counts : List ℕ) → RoundsTold (collection_read fs q) allowance many counts
       → RoundsTold (collection (declared_by fs) (tables_of gs r)) allowance many counts
   told-same allowance many counts (no-ask e) = no-ask e
-  told-same allowance many counts (contradiction h) = contradiction (contradiction-grows sets.more (well-formed w) other-formed h)
+  told-same allowance many counts (contradiction h) = contradiction (contradiction-grows sets.more (its-form w) other-formed h)
   told-same allowance many counts (rounds some sane need each) =
-      rounds some (λ h. sane (contradiction-grows sets.fewer other-formed (well-formed w) h))
+      rounds some (λ h. sane (contradiction-grows sets.fewer other-formed (its-form w) h))
       (needed-same (declared_by fs) (tables_of fs q) (tables_of gs r) sets.more sets.fewer _ need)
       (counts-same (declared_by fs) (tables_of fs q) (tables_of gs r) sets.more sets.fewer _ counts each)
 
@@ -107,7 +108,7 @@ module _ (fs : List Frame) (q : Listed) (w : AreWhole fs q) (copy : List Frame) 
   abbrev gs : List Frame
   gs = behind fs q w copy k
 
-  behind-same : SameCollection fs q gs (typed_by gs)
+  pub behind-same : SameCollection fs q gs (typed_by gs)
   behind-same =
       let s = copy-same fs q w copy k in
       record {
@@ -116,7 +117,7 @@ module _ (fs : List Frame) (q : Listed) (w : AreWhole fs q) (copy : List Frame) 
         records = subst (λ (t : Tables). SameTables (tables_of fs q) t) (sym (behind-tables fs q w copy k)) s.records;
       }
 
-  behind-replies : (text : List ℕ) → RepliesTo frames_width gs text ↔ RepliesTo frames_width fs text
+  pub behind-replies : (text : List ℕ) → RepliesTo frames_width gs text ↔ RepliesTo frames_width fs text
   behind-replies text = (
     replies-same gs (typed_by gs) (behind-whole fs q w copy k) fs q w (same-turned fs q gs (typed_by gs) behind-same)
         (behind-asks fs q w copy k) (behind-many fs q w copy k) text,

@@ -1,5 +1,5 @@
 -- The copy with the asks of the file behind it: it is whole, and but for the asks it is the copy.
-use Rattle.std.specs.Prelude.{◌≡◌, ◌≢◌, refl, ◌⊎◌, Bool, true, false, ℕ, ◌+◌, ◌≤◌, Option, None, Some, cond, unwrap_or}
+use Rattle.std.specs.Prelude.{◌≡◌, ◌≢◌, refl, ◌⊎◌, ⊤, Bool, true, false, ℕ, ◌+◌, ◌≤◌, Option, None, Some, cond, unwrap_or}
 use Rattle.std.proofs.Common.{sym, ap, ap₂, ◌∙◌, inl, inr, subst, append-nil, arith}
 use Rattle.std.proofs.lemmas.List.Concat.{flat_map-cons}
 use Rattle.std.proofs.lemmas.Grind.{flat_map-append}
@@ -8,32 +8,38 @@ use mathlib.Core.List.{List, [], ◌∷◌, ◌++◌}
 use Rattle.laws.specs.Member.{◌∈◌}
 use Rattle.kinds.specs.declared.Counts.{Counts}
 use Rattle.expression.specs.Listed.{Listed}
-use Rattle.streams.specs.Lines.{lines}
 use Rattle.frames.specs.Text.{text}
 use Rattle.frames.specs.Written.{FitsLine, frame_bytes}
 use Rattle.frames.specs.declared.Frame.{Frame}
 use Rattle.frames.specs.declared.Frame.TheVariants.{Declared, Ask, AskFrom, Allowance}
-use Rattle.reading.specs.Tables.{Kind, concept_rules, concept_exclusions, role_rules, role_exclusions, concept_facts, role_facts, steps, finals, asks, record_in, most, entries, table, declared_by, allowance_given, expression_given}
+use Rattle.reading.specs.Tables.{Kind, concept_rules, concept_exclusions, role_rules, role_exclusions, concept_facts, role_facts, steps, finals, asks, listed, record_in, most, entries, table, list_in, declared_by, allowance_given, expression_given}
 use Rattle.reading.specs.File.{tables_of}
-use Rattle.reading.specs.Reading.{sound, Reading, Taken}
+use Rattle.reading.specs.Reading.{Taken}
 use Rattle.reading.proofs.Bounds.{few}
 use Rattle.reading.proofs.TableLaws.{added, entries-cons, entries-append, table-append}
+use Rattle.intake.specs.Verdicts.{accepted, no-list}
+use Rattle.shell.specs.Writes.{IsSound}
 use Rattle.fair_copy.specs.Asking.{is_ask, asks_of}
 use Rattle.fair_copy.proofs.Members.{filter-out}
 use Rattle.fair_copy.proofs.Taken.{IsDeclared, all-declared, given-allowance}
 use Rattle.fair_copy.specs.Copy.{IsCopied, IsCopyOf, frames_text}
-use Rattle.fair_copy.proofs.Stands.{AreWhole, IsShelved}
+use Rattle.fair_copy.proofs.Stands.{AreWhole}
 use Rattle.fair_copy.proofs.Copied.{stands-copied, headed, orderly, typed_by, copy-fits}
 use Rattle.fair_copy.proofs.Fits.{AllFit}
-use Rattle.fair_copy.proofs.Orderly.{IsFine, IsOrderly, no-expression, orderly-taken, text-read}
+use Rattle.fair_copy.proofs.Orderly.{IsFine, IsOrderly, no-expression, none-listed, orderly-taken, text-read}
 
--- an ask is fine where it is declared; it gives no allowance, and adds no record to a table of the collection
+-- the tables to which no ask adds a record
+abbrev HasNoAsk : Kind → Type 0
+HasNoAsk asks = ⊥
+HasNoAsk kind = ⊤
+
+-- an ask is fine where it is declared; it gives no allowance, and adds a record to no other table
 ask-fine : (c : Counts) (f : Frame) → is_ask f ≡ true → IsDeclared c f → IsFine c f
 ask-fine c (Ask a b) e h = h
 ask-fine c (AskFrom a) e h = h
 ask-fine c f e h = absurd cc
 
-ask-adds : (kind : Kind) → IsShelved kind → (f : Frame) → is_ask f ≡ true → record_in kind f ≡ None
+ask-adds : (kind : Kind) → HasNoAsk kind → (f : Frame) → is_ask f ≡ true → record_in kind f ≡ None
 ask-adds asks k f e = absurd k
 ask-adds kind k (Ask a b) e = refl
 ask-adds kind k (AskFrom a) e = refl
@@ -100,15 +106,15 @@ module _ (ms : List Frame) (are : (f : Frame) → f ∈ ms → is_ask f ≡ true
   allowed-before (Allowance n ∷ fs) = refl
   allowed-before (f ∷ fs) = allowed-before fs
 
-  module _ (kind : Kind) (shelved : IsShelved kind) where
+  module _ (kind : Kind) (no_ask : HasNoAsk kind) where
     table-before : (fs : List Frame) → table kind (fs ++ ms) ≡ table kind fs
     table-before fs =
-        table-append kind fs ms ∙ ap (λ (t : List ℕ). table kind fs ++ t) (table-none kind ms (λ f m. ask-adds kind shelved f (are f m)))
+        table-append kind fs ms ∙ ap (λ (t : List ℕ). table kind fs ++ t) (table-none kind ms (λ f m. ask-adds kind no_ask f (are f m)))
         ∙ append-nil (table kind fs)
 
     entries-before : (fs : List Frame) → entries kind (fs ++ ms) ≡ entries kind fs
     entries-before fs =
-        let none = entries-none kind ms (λ f m. ask-adds kind shelved f (are f m)) in
+        let none = entries-none kind ms (λ f m. ask-adds kind no_ask f (are f m)) in
         omega (arith, entries-append kind fs ms)
 
   -- an allowance among them all stands before the asks
@@ -135,19 +141,20 @@ module _ (ms : List Frame) (are : (f : Frame) → f ∈ ms → is_ask f ≡ true
         side (inl i) = o.fine f i
         side (inr i) = ask-fine c f (are f i) (declared f i)
 
-    shelved-few : (kind : Kind) → IsShelved kind → entries kind (fs ++ ms) ≤ most kind
-    shelved-few kind k = rw (entries-before kind k fs) (o.few kind)
+    others-few : (kind : Kind) → HasNoAsk kind → entries kind (fs ++ ms) ≤ most kind
+    others-few kind k = rw (entries-before kind k fs) (o.few kind)
 
     behind-few : (kind : Kind) → entries kind (fs ++ ms) ≤ most kind
     behind-few asks = room
-    behind-few concept_rules = shelved-few concept_rules tt
-    behind-few concept_exclusions = shelved-few concept_exclusions tt
-    behind-few role_rules = shelved-few role_rules tt
-    behind-few role_exclusions = shelved-few role_exclusions tt
-    behind-few concept_facts = shelved-few concept_facts tt
-    behind-few role_facts = shelved-few role_facts tt
-    behind-few steps = shelved-few steps tt
-    behind-few finals = shelved-few finals tt
+    behind-few concept_rules = others-few concept_rules tt
+    behind-few concept_exclusions = others-few concept_exclusions tt
+    behind-few role_rules = others-few role_rules tt
+    behind-few role_exclusions = others-few role_exclusions tt
+    behind-few concept_facts = others-few concept_facts tt
+    behind-few role_facts = others-few role_facts tt
+    behind-few steps = others-few steps tt
+    behind-few finals = others-few finals tt
+    behind-few listed = others-few listed tt
 
     behind-orderly : IsOrderly c (fs ++ ms)
     behind-orderly = record {
@@ -228,6 +235,15 @@ module _ (fs : List Frame) (q : Listed) (w : AreWhole fs q) (copy : List Frame) 
       (behind-orderly (asks_of fs) asking (declared_by fs) (headed fs q w copy k).rest (orderly fs q w copy k)
       (λ f m. all-declared fs w.are.taken f (filter-out is_ask fs m).0) rest-many).fine
 
+  -- there is no list among them
+  pub behind-unlisted : list_in behind ≡ []
+  unfolding list_in
+  behind-unlisted =
+      ap list_in behind-is
+      ∙ none-listed (declared_by fs) ((headed fs q w copy k).rest ++ asks_of fs)
+      (behind-orderly (asks_of fs) asking (declared_by fs) (headed fs q w copy k).rest (orderly fs q w copy k)
+      (λ f m. all-declared fs w.are.taken f (filter-out is_ask fs m).0) rest-many).fine
+
   pub behind-whole : AreWhole behind (typed_by behind)
   behind-whole = record {
     are = record { taken = behind-taken; begun = behind-begun; asks = record { typed = λ e. refl; expressed = rw behind-typed tt } };
@@ -237,12 +253,12 @@ module _ (fs : List Frame) (q : Listed) (w : AreWhole fs q) (copy : List Frame) 
   -- with the tables of the copy
   pub behind-tables : tables_of behind (typed_by behind) ≡ tables_of copy (typed_by copy)
   behind-tables =
-      let same = λ (kind : Kind) (shelved : IsShelved kind). table-before (asks_of fs) asking kind shelved copy in
+      let same = λ (kind : Kind) (no_ask : HasNoAsk kind). table-before (asks_of fs) asking kind no_ask copy in
       rw (same concept_rules tt, same concept_exclusions tt, same role_rules tt, same role_exclusions tt)
       (rw (same concept_facts tt, same role_facts tt, same steps tt, same finals tt) refl)
 
-  pub behind-read : Reading [] (lines (frames_text copy ++ frames_text (asks_of fs))) (sound behind)
+  pub behind-read : IsSound (frames_text copy ++ frames_text (asks_of fs)) behind
   unfolding frames_text
   behind-read =
-      subst (λ (x : List ℕ). Reading [] (lines x) (sound behind)) (flat_map-append (λ f. text (frame_bytes f)) copy (asks_of fs))
-      (text-read behind behind-taken behind-begun behind-fits)
+      subst (λ (x : List ℕ). IsSound x behind) (flat_map-append (λ f. text (frame_bytes f)) copy (asks_of fs))
+      (accepted behind (text-read behind behind-taken behind-begun behind-fits) (no-list behind-unlisted))

@@ -10,26 +10,26 @@ use Rattle.laws.specs.Distinct.{distinct-few}
 use Rattle.kinds.specs.declared.Counts.{Counts}
 use Rattle.meaning.specs.Collection.{role, test, Step, step, StepDeclared}
 use Rattle.sorted.specs.Rows.{rows}
-use Rattle.sorted.proofs.Once.{not-below}
 use Rattle.sorted.proofs.Chunks.{length-chunks}
-use Rattle.streams.specs.Lines.{lines}
 use Rattle.expression.specs.Listed.{Listed}
 use Rattle.frames.specs.declared.Frame.{Frame}
-use Rattle.frames.specs.declared.Frame.TheVariants.{Declared, Allowance, Expression}
-use Rattle.reading.specs.Tables.{Kind, concept_rules, concept_exclusions, role_rules, role_exclusions, concept_facts, role_facts, steps, finals, asks, width, most, entries, table, declared_by, allowance_given, expression_given}
+use Rattle.frames.specs.declared.Frame.TheVariants.{Declared, Allowance, Expression, ListedMark}
+use Rattle.reading.specs.Tables.{Kind, concept_rules, concept_exclusions, role_rules, role_exclusions, concept_facts, role_facts, steps, finals, asks, listed, width, most, entries, table, list_in, declared_by, allowance_given, expression_given}
 use Rattle.reading.specs.File.{IsQuestionOf}
-use Rattle.reading.specs.Reading.{sound, Reading, Taken}
+use Rattle.reading.specs.Reading.{Taken}
 use Rattle.reading.proofs.Turns.{fitting}
 use Rattle.reading.proofs.Bounds.{few}
 use Rattle.reading.proofs.Accepted.{declared}
+use Rattle.intake.specs.Verdicts.{accepted, no-list}
+use Rattle.shell.specs.Writes.{IsSound}
 use Rattle.fair_copy.specs.Copy.{IsCopied, step_frame, StandsIn, typed, by_step, by_final, frame_order, IsCopyOf, frames_text}
-use Rattle.fair_copy.proofs.Members.{rises-rest, rises-first, rises-across, rises-distinct}
+use Rattle.laws.specs.Rises.{not-below, rises-rest, rises-first, rises-across, rises-distinct}
 use Rattle.fair_copy.proofs.Order.{total}
 use Rattle.fair_copy.proofs.Records.{records_of, records-out, length-records, distinct-records, rows-table}
 use Rattle.fair_copy.proofs.Taken.{IsDeclared, all-declared, line-1-there, allowance-there, given-allowance}
 use Rattle.fair_copy.proofs.Stands.{AreWhole, table_of, stands-row, fitting-tables}
 use Rattle.fair_copy.proofs.Fits.{AllFit, stands-fits}
-use Rattle.fair_copy.proofs.Orderly.{IsFine, IsOrderly, no-expression, orderly-taken, text-read}
+use Rattle.fair_copy.proofs.Orderly.{IsFine, IsOrderly, no-expression, none-listed, orderly-taken, text-read}
 
 -- the question that some frames type
 abbrev pub typed_by : List Frame → Listed
@@ -43,6 +43,7 @@ before-line-1 c f e = absurd cc
 fine-of : (c : Counts) (f : Frame) → IsDeclared c f → IsCopied f → ((d : Counts) → f ≡ Declared d → ⊥) → IsFine c f
 fine-of c (Declared d) h k n = n d refl
 fine-of c (Expression row) h k n = k
+fine-of c (ListedMark m s t B) h k n = k
 fine-of c f h k n = h
 
 pub stands-copied : {fs : List Frame} {q : Listed} {f : Frame} → StandsIn fs q f → IsCopied f
@@ -94,6 +95,7 @@ module _ (fs : List Frame) (q : Listed) (w : AreWhole fs q) where
   table-few concept_facts = typed-few concept_facts
   table-few role_facts = typed-few role_facts
   table-few asks = typed-few asks
+  table-few listed = typed-few listed
 
   -- frames that rise, of which each stands in the copy, add no more records than there may be
   rising-few : (l : List Frame) → IsStrictlySortedBy frame_order l → ((f : Frame) → f ∈ l → StandsIn fs q f) → (kind : Kind)
@@ -185,9 +187,14 @@ module _ (fs : List Frame) (q : Listed) (w : AreWhole fs q) where
     pub copy-asks : IsQuestionOf copy (typed_by copy)
     copy-asks = record { typed = λ e. refl; expressed = rw copy-typed tt }
 
+    -- no list stands in it,
+    pub copy-unlisted : list_in copy ≡ []
+    unfolding list_in
+    copy-unlisted = ap list_in headed.is ∙ none-listed (declared_by fs) headed.rest orderly.fine
+
     pub copy-whole : AreWhole copy (typed_by copy)
     copy-whole = record { are = record { taken = copy-taken; begun = copy-begun; asks = copy-asks }; lined = copy-fits }
 
     -- and its text is read as it
-    pub copy-read : Reading [] (lines (frames_text copy)) (sound copy)
-    copy-read = text-read copy copy-taken copy-begun copy-fits
+    pub copy-read : IsSound (frames_text copy) copy
+    copy-read = accepted copy (text-read copy copy-taken copy-begun copy-fits) (no-list copy-unlisted)

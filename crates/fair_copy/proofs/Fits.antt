@@ -9,7 +9,6 @@ use Rattle.kinds.specs.declared.Counts.{Counts}
 use Rattle.kinds.specs.declared.State.{State}
 use Rattle.kinds.specs.Kinds.{CountsFit, StateDeclared}
 use Rattle.meaning.specs.Collection.{role, test, Step, step, StepDeclared}
-use Rattle.streams.specs.Lines.{lines}
 use Rattle.expression.specs.Listed.{Listed}
 use Rattle.frames.specs.Written.{Field, byte, FitsLine, frame_bytes}
 use Rattle.frames.specs.declared.Frame.{Frame}
@@ -19,6 +18,8 @@ use Rattle.reading.specs.File.{IsQuestionOf}
 use Rattle.reading.specs.Reading.{Finds, taken, Verdict, sound, frames_of, Reading, empty, whole, stopped, onward, none}
 use Rattle.reading.proofs.Turns.{fitting}
 use Rattle.reading.proofs.Accepted.{declared, reading-taken}
+use Rattle.shell.specs.Writes.{IsSound}
+use Rattle.file.proofs.Sound.{sound-read}
 use Rattle.fair_copy.specs.Copy.{step_frame, StandsIn, typed, by_step, by_final}
 use Rattle.frames.proofs.WrittenBack.{read-fits}
 use Rattle.fair_copy.proofs.Stands.{AreWhole}
@@ -50,12 +51,14 @@ not-none (whole f fs) e n = cc
 not-none (stopped before l ls r d) e n = cc
 not-none (onward before l ls f v d rest) e n = not-none rest e n
 
--- THEOREM: the frames of an input that is read whole are whole
-pub are-whole : (input : List ℕ) (fs : List Frame) (q : Listed) → Reading [] (lines input) (sound fs) → IsQuestionOf fs q → AreWhole fs q
-are-whole input fs q h is = record {
-  are = record { taken = reading-taken h none; begun = not-none h refl; asks = is };
-  lined = reading-fits h (λ f m. absurd (Memᴰ.not-nil m));
-}
+-- THEOREM: the frames of a sound input are whole
+pub are-whole : (input : List ℕ) (fs : List Frame) (q : Listed) → IsSound input fs → IsQuestionOf fs q → AreWhole fs q
+are-whole input fs q h is =
+    let r = sound-read h in
+    record {
+      are = record { taken = reading-taken r none; begun = not-none r refl; asks = is };
+      lined = reading-fits r (λ f m. absurd (Memᴰ.not-nil m));
+    }
 
 -- a number goes into its field
 abbrev InField : Field → Type 0

@@ -1,18 +1,20 @@
 -- Laws of the fair copy of an input.
-use Rattle.std.specs.Prelude.{◌≡◌, ◌↔◌, ◌≤◌, ℕ, List, length}
+use Rattle.std.specs.Prelude.{◌≡◌, ◌↔◌, ◌+◌, ◌≤◌, ℕ, List, length}
 use Rattle.std.proofs.Common.{sym, ap, ◌∙◌, subst, arith}
 use Rattle.laws.specs.Member.{◌∈◌}
 use Rattle.expression.specs.Listed.{Listed}
-use Rattle.frames.specs.Text.{text}
 use Rattle.frames.specs.declared.Frame.{Frame}
+use Rattle.streams.specs.Lines.{lines}
 use Rattle.reading.specs.File.{file_of, IsQuestionOf}
+use Rattle.reading.specs.Reading.{sound}
+use Rattle.reading.specs.Refusal.{refusal_number}
 use Rattle.reading.proofs.Bounds.{taken-within}
-use Rattle.reading.proofs.Once.{reading-once}
+use Rattle.intake.proofs.VerdictLaws.{verdict-once}
 use Rattle.reading.proofs.Questions.{question-once}
-use Rattle.shell.specs.Faults.{fault_line}
 use Rattle.shell.specs.Writes.{fault, said, IsSound}
 use Rattle.shell.proofs.WritesLaws.{said-written, writes-once}
 use Rattle.file.specs.Writes.{IsAsking}
+use Rattle.file.proofs.Widths.{fault-few}
 use Rattle.fair_copy.specs.Copy.{IsCopyOf, frames_text, Copies, WritesCopy}
 use Rattle.fair_copy.specs.Laws.{most_copy, SameCollection, ReadsAsCopy}
 use Rattle.fair_copy.proofs.Order.{copy-once}
@@ -104,7 +106,7 @@ module _ (input out other text : List ℕ) (wrote : WritesCopy input out) (wrote
   alike-to e =
       let a = reads-as-copy input out wrote fs q h in
       let b = reads-as-copy other text wrote' gs r k in
-      let i = reading-once (subst (λ (x : List ℕ). IsSound x a.copy) e a.sound) b.sound in
+      let i = verdict-once (lines text) (sound a.copy) (sound b.copy) (subst (λ (x : List ℕ). IsSound x a.copy) e a.sound) b.sound in
       let c : a.copy ≡ b.copy = cc in
       let d = question-once (file_of b.copy) a.question b.question (rw c at a.asks) b.asks in
       same-then fs q b.copy b.question gs r (rw (c, d) at a.same) (same-turned gs r b.copy b.question b.same)
@@ -114,8 +116,7 @@ module _ (input out other text : List ℕ) (wrote : WritesCopy input out) (wrote
 
 -- THEOREM: no copy is longer than the longest, nor is the line of a fault
 pub input-fits : {input out : List ℕ} → WritesCopy input out → length out ≤ most_copy
-unfolding fault_line text
-input-fits (fault before r h) = omega arith
+input-fits (fault before r h) = omega (arith, fault-few (length before + 1) (refusal_number r))
 input-fits {input} (said fs out h c) =
     let w = are-whole input fs c.question h c.is in
     let in-copy = λ (f : Frame) (m : f ∈ c.copy). stands-copied ((c.fair.same f).0 m) in

@@ -6,7 +6,7 @@ use Rattle.expression.specs.Listed.{Listed}
 use Rattle.frames.specs.Written.{numbers_of}
 use Rattle.frames.specs.declared.Frame.{Frame}
 use Rattle.fair_copy.specs.Copy.{frame_order, IsCopyOf}
-use Rattle.sorted.proofs.Once.{strict-once}
+use Rattle.laws.specs.Rises.{strict-once}
 
 pub total : IsTotalOrder frame_order
 total =

@@ -1,5 +1,5 @@
--- Frames in any order behind line 1, each declared and none an expression, are taken one after the other where tables have room for them
--- and one allowance is given at most; and then their lines are read as them.
+-- Frames in any order behind line 1, each declared and none an expression or an entry of a list, are taken one after the other where
+-- tables have room for them and one allowance is given at most; and then their lines are read as them.
 use Rattle.std.specs.Prelude.{◌≡◌, ◌≢◌, refl, ℕ, ◌+◌, ◌≤◌, None, IsSome, Ok, map}
 use Rattle.std.proofs.Common.{sym, ap, ◌∙◌, subst, append_assoc, append-nil, arith}
 use mathlib.Core.List.Memᴰ
@@ -11,9 +11,9 @@ use Rattle.kinds.specs.Kinds.{CountsFit}
 use Rattle.streams.specs.Lines.{lines}
 use Rattle.frames.specs.Written.{line_of}
 use Rattle.frames.specs.declared.Frame.{Frame}
-use Rattle.frames.specs.declared.Frame.TheVariants.{Declared, RoleStep, TestStep, Final, Allowance, Expression}
-use Rattle.reading.specs.Tables.{Kind, asks, record_in, most, entries, declared_by, allowance_given, expression_given}
-use Rattle.reading.specs.Judged.{HasRoom, NumbersOk, AskOk, Judged}
+use Rattle.frames.specs.declared.Frame.TheVariants.{Declared, RoleStep, TestStep, Final, Allowance, Expression, ListedMark}
+use Rattle.reading.specs.Tables.{Kind, asks, listed, record_in, most, entries, list_in, declared_by, allowance_given, expression_given}
+use Rattle.reading.specs.Judged.{IsOpen, HasRoom, NumbersOk, AskOk, Judged}
 use Rattle.reading.specs.Reading.{Finds, taken, Verdict, sound, Reading, whole, onward, Taken, none, more}
 use Rattle.reading.proofs.TableLaws.{added, entries-append, entries-cons}
 use Rattle.reading.proofs.Passed.{Passed}
@@ -22,10 +22,11 @@ use Rattle.frames.proofs.ReadBack.{line-is_read}
 use Rattle.frames.proofs.Ends.{line-ends}
 use Rattle.fair_copy.proofs.Fits.{AllFit}
 
--- a frame of a later line, declared, and no expression
+-- a frame of a later line, declared, and no expression and no entry of a list
 abbrev pub IsFine : Counts → Frame → Type 0
 IsFine c (Declared d) = ⊥
 IsFine c (Expression row) = ⊥
+IsFine c (ListedMark n s t B) = ⊥
 IsFine c f = NumbersOk c f × AskOk c f
 
 pub record IsOrderly (c : Counts) (fs : List Frame) : Type 0 where
@@ -44,20 +45,33 @@ no-expression c [] h = refl
 no-expression c (Expression row ∷ fs) h = absurd (h (Expression row) (Memᴰ.head refl))
 no-expression c (f ∷ fs) h = no-expression c fs (λ g m. h g (Memᴰ.tail m))
 
+pub none-listed : (c : Counts) (fs : List Frame) → ((f : Frame) → f ∈ fs → IsFine c f) → list_in fs ≡ []
+unfolding list_in
+none-listed c [] h = refl
+none-listed c (ListedMark n s t B ∷ fs) h = absurd (h (ListedMark n s t B) (Memᴰ.head refl))
+none-listed c (f ∷ fs) h = none-listed c fs (λ g m. h g (Memᴰ.tail m))
+
+none-listed-yet : (c : Counts) (before : List Frame) → ((f : Frame) → f ∈ before → IsFine c f) → list_in (Declared c ∷ before) ≡ []
+unfolding list_in
+none-listed-yet c before h = none-listed c before h
+
 -- line 1 adds no record
 declared-adds : (kind : Kind) (c : Counts) → added kind (Declared c) ≡ 0
 declared-adds asks c = refl
+declared-adds listed c = refl
 declared-adds kind c = refl
 
 no-record : (kind : Kind) (c : Counts) → IsSome (record_in kind (Declared c)) → ⊥
 no-record asks c h = cc
+no-record listed c h = cc
 no-record kind c h = cc
 
 module _ (c : Counts) where
-  passed_by : (before : List Frame) (f : Frame) → before ≢ [] → declared_by before ≡ c → IsFine c f
+  passed_by : (before : List Frame) (f : Frame) → IsOpen before → declared_by before ≡ c → IsFine c f
       → ((n : ℕ) → f ≡ Allowance n → allowance_given before ≡ None) → expression_given before ≡ None → HasRoom before f → Passed before f
   passed_by before (Declared d) n e h a x room = absurd h
   passed_by before (Expression row) n e h a x room = absurd h
+  passed_by before (ListedMark m s t B) n e h a x room = absurd h
   passed_by before (Allowance k) n e h a x room = record {
     in_place = (n, a k refl);
     counts = tt;
@@ -113,12 +127,15 @@ module _ (c : Counts) where
     -- one frame more is taken
     next-passed : (before rest : List Frame) (f : Frame) → fs ≡ before ++ f ∷ rest → Passed (Declared c ∷ before) f
     next-passed before rest f e =
-        passed_by (Declared c ∷ before) f (λ d. cc) refl (fine f (Memᴰ.append_right before (Memᴰ.head refl)))
+        passed_by (Declared c ∷ before) f is-open refl (fine f (Memᴰ.append_right before (Memᴰ.head refl)))
         (λ n d. o.allowed before rest n (subst (λ g. fs ≡ before ++ g ∷ rest) d e))
         (no-expression c before (λ g m. fine g (Memᴰ.append_left (f ∷ rest) m))) room
       where
         fine : (g : Frame) → g ∈ (before ++ f ∷ rest) → IsFine c g
         fine g m = o.fine g (rw e m)
+
+        is-open : IsOpen (Declared c ∷ before)
+        is-open = record { begun = λ d. cc; no_list = none-listed-yet c before (λ g m. fine g (Memᴰ.append_left (f ∷ rest) m)) }
 
         room : HasRoom (Declared c ∷ before) f
         room kind some =
@@ -170,7 +187,8 @@ read-on (more before f t j) h ls v r =
     subst (λ ms. Reading [] ms v) (sym (lines-more before f ls))
     (read-on t first (line_of f ∷ ls) v (onward before (line_of f) ls f v one r))
 
-lines-text : (fs : List Frame) → lines (frames_text fs) ≡ map line_of fs
+-- the lines of a text are those of its frames
+pub lines-text : (fs : List Frame) → lines (frames_text fs) ≡ map line_of fs
 unfolding frames_text lines
 lines-text [] = refl
 lines-text (f ∷ fs) = line-ends f (frames_text fs) ∙ ap (λ ls. line_of f ∷ ls) (lines-text fs)

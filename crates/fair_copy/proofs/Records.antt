@@ -11,8 +11,8 @@ use Rattle.sorted.specs.Rows.{rows, flat, AreWide}
 use Rattle.sorted.proofs.Chunks.{rows-flat}
 use Rattle.frames.specs.Written.{AreNumbered}
 use Rattle.frames.specs.declared.Frame.{Frame}
-use Rattle.frames.specs.declared.Frame.TheVariants.{ConceptRule, ConceptExclusion, RoleRule, RoleExclusion, ConceptFact, RoleFact, RoleStep, TestStep, Final, Ask, AskFrom}
-use Rattle.reading.specs.Tables.{Kind, concept_rules, concept_exclusions, role_rules, role_exclusions, concept_facts, role_facts, steps, finals, asks, record_in, width, entries, table}
+use Rattle.frames.specs.declared.Frame.TheVariants.{ConceptRule, ConceptExclusion, RoleRule, RoleExclusion, ConceptFact, RoleFact, RoleStep, TestStep, Final, Ask, AskFrom, ListedMark}
+use Rattle.reading.specs.Tables.{Kind, concept_rules, concept_exclusions, role_rules, role_exclusions, concept_facts, role_facts, steps, finals, asks, listed, record_in, width, entries, table}
 use Rattle.reading.proofs.TableLaws.{added, entries-cons, record-width}
 
 -- the frame of a record in each table, by the record's numbers
@@ -35,6 +35,7 @@ module _ (n : ℕ → ℕ) where
   frame_by steps = step_by (n 0)
   frame_by finals = Final (state (n 0))
   frame_by asks = ask_by (n 0)
+  frame_by listed = ListedMark (n 0) (state (n 1)) (state (n 2)) (concept_of (n 3))
 
 -- the frame that a row of a table says
 abbrev pub frame_in : Kind → List ℕ → Frame
@@ -52,6 +53,7 @@ frame-back steps (TestStep s A t) h = refl
 frame-back finals (Final s) h = refl
 frame-back asks (Ask a b) h = refl
 frame-back asks (AskFrom a) h = refl
+frame-back listed (ListedMark n s t B) h = rw h refl
 frame-back kind f h = tt
 
 module _ (kind : Kind) where
@@ -152,6 +154,7 @@ wide role_facts = omega arith
 wide steps = omega arith
 wide finals = omega arith
 wide asks = omega arith
+wide listed = omega arith
 
 -- THEOREM: the rows of a table are the records that the frames add to it
 pub rows-table : (kind : Kind) (fs : List Frame) → rows (width kind) (table kind fs) ≡ records_of kind fs

@@ -6,27 +6,31 @@ use Rattle.reading.specs.declared.File.{File}
 use Rattle.reading.specs.File.{file_of, IsQuestion}
 use Rattle.reading.specs.Reading.{Taken}
 use Rattle.sorted.specs.Rows.{IsTidied}
-use Rattle.reading.specs.Tables.{Kind, concept_rules, concept_exclusions, role_rules, role_exclusions, concept_facts, role_facts, steps, finals, asks, width}
+use Rattle.reading.specs.Tables.{Kind, concept_rules, concept_exclusions, role_rules, role_exclusions, concept_facts, role_facts, steps, finals, asks, listed, width}
 use Rattle.reading.specs.Tidy.{SpellsOut, TidiesTables}
+use Rattle.fair_copy.specs.Ready.{IsMadeReady}
 use Rattle.shell.specs.Reports.{Tells}
-use Rattle.fair_copy.specs.Copy.{frames_text, Copies}
+use Rattle.fair_copy.specs.Copy.{IsCopyOf, frames_text, Copies}
 use Rattle.fair_copy.specs.Framed.{typed_out}
 use Rattle.fair_copy.proofs.TypedOut.{held, HoldsCopy, typed-out-is-copy}
 use Rattle.fair_copy.proofs.Stands.{IsShelved, table_of}
 
-module _ (file spelled tidied : File) (s : SpellsOut file spelled) (w : TidiesTables spelled tidied) (begun : 0 < file.lines) where
+module _ (file tidied : File) (ready : IsMadeReady file tidied) (begun : 0 < file.lines) where
+  abbrev s : SpellsOut file ready.spelled
+  s = ready.spells
+
   module _ (fs : List Frame) (t : Taken fs) (e : file ≡ file_of fs) where
-    some : fs ≢ []
+    pub some : fs ≢ []
     some n = let z : file.lines ≡ 0 = ap (λ (f : File). f.lines) e ∙ ap (λ (l : List Frame). length l) n in omega (arith, z)
 
-    question_is : IsQuestion (file_of fs) s.question
+    pub question_is : IsQuestion (file_of fs) s.question
     question_is = subst (λ (f : File). IsQuestion f s.question) e s.is
 
     abbrev spelled_of : File → File
     spelled_of f = record f { steps = s.question.steps; finals = s.question.finals; expression = None }
 
     tidies : TidiesTables (spelled_of (file_of fs)) tidied
-    tidies = subst (λ (f : File). TidiesTables (spelled_of f) tidied) e (subst (λ (f : File). TidiesTables f tidied) s.spelled w)
+    tidies = subst (λ (f : File). TidiesTables (spelled_of f) tidied) e (subst (λ (f : File). TidiesTables f tidied) s.spelled ready.tidies)
 
     holds : HoldsCopy fs s.question tidied
     holds = record { counts = tidies.counts; allowance = tidies.allowance; tables = tables }
@@ -41,15 +45,13 @@ module _ (file spelled tidied : File) (s : SpellsOut file spelled) (w : TidiesTa
         tables steps k = tidies.steps
         tables finals k = tidies.finals
         tables asks k = absurd k
+        tables listed k = absurd k
+
+    pub fair : IsCopyOf fs s.question (typed_out tidied)
+    fair = typed-out-is-copy fs s.question (record { taken = t; begun = some; asks = question_is }) tidied holds
 
     copied : Copies fs (frames_text (typed_out tidied))
-    copied = record {
-      question = s.question;
-      is = question_is;
-      copy = typed_out tidied;
-      fair = typed-out-is-copy fs s.question (record { taken = t; begun = some; asks = question_is }) tidied holds;
-      written = refl;
-    }
+    copied = record { question = s.question; is = question_is; copy = typed_out tidied; fair = fair; written = refl }
 
   -- THEOREM: what is typed out is told of the file
   told : {P : List ℕ → Type 0} → P (frames_text (typed_out tidied)) → Tells Copies file P

@@ -10,7 +10,7 @@ use Rattle.std.proofs.Common.{sym, ap, ap₂, ◌∙◌, arith, lt-ltb}
 use Rattle.kinds.specs.Kinds.{number-concept}
 use Rattle.frames.specs.Written.{kind_in, kind_byte, Field, fields, numbers_of}
 use Rattle.frames.specs.declared.Frame.{Frame}
-use Rattle.reading.specs.Tables.{Kind, concept_rules, concept_exclusions, role_rules, role_exclusions, concept_facts, role_facts, steps, finals, asks, width}
+use Rattle.reading.specs.Tables.{Kind, concept_rules, concept_exclusions, role_rules, role_exclusions, concept_facts, role_facts, steps, finals, asks, listed, width}
 use Rattle.fair_copy.specs.Copy.{frame_order}
 use Rattle.fair_copy.proofs.Records.{frame_in}
 use Rattle.fair_copy.proofs.Stands.{IsShelved}
@@ -136,6 +136,7 @@ leading steps [] = []
 leading steps (k ∷ r) = (8 + k) ∷ r
 leading finals r = 0x0A ∷ r
 leading asks r = 0x0B ∷ r
+leading listed r = 0x10 ∷ r
 
 step-numbers : (k s l t : ℕ) → k ≤ 1 → numbers_of (frame_in steps (k ∷ s ∷ l ∷ t ∷ [])) ≡ (8 + k) ∷ s ∷ l ∷ t ∷ []
 step-numbers zero s l t h = refl
@@ -157,6 +158,7 @@ row-numbers steps k r w =
     n ∙ ap (leading steps) (sym e)
 row-numbers finals k r w = ap (λ l. 0x0A ∷ l) (sym (one r w.long))
 row-numbers asks k r w = absurd k
+row-numbers listed k r w = absurd k
 
 same-shift : (k l : ℕ) → k ≤ 1 → l ≤ 1 → nat_cmp (8 + k) (8 + l) ≡ nat_cmp k l
 same-shift zero zero h i = refl
@@ -183,6 +185,7 @@ leading-order role_facts k r s v w = refl
 leading-order steps k r s v w = step-order r s v w
 leading-order finals k r s v w = refl
 leading-order asks k r s v w = absurd k
+leading-order listed k r s v w = absurd k
 
 module _ (kind : Kind) (kept : IsShelved kind) where
   row-order : (r s : List ℕ) → IsRow kind r → IsRow kind s → slice_cmp nat_cmp r s ≡ Less

@@ -19,7 +19,7 @@ module _ (c : Counts) where
   marks-kept t u more = mark-grows (lite-grows more) (λ s t B m. record { from = m.from; to = m.to; of = m.of })
 
   module _ (t u : Tables) (more : Larger (collection c t) (collection c u)) (fewer : Larger (collection c u) (collection c t)) where
-    marks : (n : ℕ) (s v : State) (B : Concept) → Mark (lite (collection c t)) n s v B ↔ Mark (lite (collection c u)) n s v B
+    pub marks : (n : ℕ) (s v : State) (B : Concept) → Mark (lite (collection c t)) n s v B ↔ Mark (lite (collection c u)) n s v B
     marks n s v B = (marks-kept t u more n s v B, marks-kept u t fewer n s v B)
 
     pub needed-same : (n : ℕ) → Needed (lite (collection c t)) n → Needed (lite (collection c u)) n

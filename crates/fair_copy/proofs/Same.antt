@@ -7,7 +7,7 @@ use Rattle.sorted.proofs.TidyLaws.{members-turned, members-then}
 use Rattle.expression.specs.Listed.{Listed}
 use Rattle.frames.specs.declared.Frame.{Frame}
 use Rattle.frames.specs.declared.Frame.TheVariants.{Allowance}
-use Rattle.reading.specs.Tables.{Kind, concept_rules, concept_exclusions, role_rules, role_exclusions, concept_facts, role_facts, steps, finals, asks, width, table, declared_by, allowance_given}
+use Rattle.reading.specs.Tables.{Kind, concept_rules, concept_exclusions, role_rules, role_exclusions, concept_facts, role_facts, steps, finals, asks, listed, width, table, declared_by, allowance_given}
 use Rattle.reading.specs.File.{tables_of}
 use Rattle.fair_copy.specs.Copy.{StandsIn, typed, IsCopyOf}
 use Rattle.fair_copy.specs.Laws.{SameCollection}
@@ -32,6 +32,7 @@ module _ (fs : List Frame) (q : Listed) (gs : List Frame) (r : Listed) where
   by-kind s steps k = s.steps
   by-kind s finals k = s.finals
   by-kind s asks k = absurd k
+  by-kind s listed k = absurd k
 
   by-table : SameInAll → SameTables (tables_of fs q) (tables_of gs r)
   by-table s = record {
@@ -89,6 +90,7 @@ module _ (fs : List Frame) (q : Listed) (w : AreWhole fs q) (copy : List Frame) 
   shelved-records steps h = copy-records steps tt
   shelved-records finals h = copy-records finals tt
   shelved-records asks h = absurd h
+  shelved-records listed h = absurd h
 
   allowed-alike : allowance_given fs ≡ allowance_given copy
   allowed-alike =

@@ -13,8 +13,8 @@ use Rattle.expression.specs.Listed.{Listed, steps_of, finals_of, step_numbers}
 use Rattle.expression.specs.Fits.{FitsTables}
 use Rattle.frames.specs.Written.{FitsLine}
 use Rattle.frames.specs.declared.Frame.{Frame}
-use Rattle.frames.specs.declared.Frame.TheVariants.{Declared, ConceptRule, ConceptExclusion, RoleRule, RoleExclusion, ConceptFact, RoleFact, RoleStep, TestStep, Final, Ask, AskFrom, Allowance, Expression}
-use Rattle.reading.specs.Tables.{Kind, concept_rules, concept_exclusions, role_rules, role_exclusions, concept_facts, role_facts, steps, finals, asks, record_in, width, table, expression_given}
+use Rattle.frames.specs.declared.Frame.TheVariants.{Declared, ConceptRule, ConceptExclusion, RoleRule, RoleExclusion, ConceptFact, RoleFact, RoleStep, TestStep, Final, Ask, AskFrom, Allowance, Expression, ListedMark}
+use Rattle.reading.specs.Tables.{Kind, concept_rules, concept_exclusions, role_rules, role_exclusions, concept_facts, role_facts, steps, finals, asks, listed, record_in, width, table, expression_given}
 use Rattle.reading.specs.File.{IsQuestionOf}
 use Rattle.reading.specs.Reading.{Taken}
 use Rattle.reading.proofs.Accepted.{fits}
@@ -34,9 +34,10 @@ pub record AreWhole (fs : List Frame) (q : Listed) : Type 0 where
   pub are : AreTaken fs q
   pub lined : (f : Frame) → f ∈ fs → FitsLine f
 
--- the tables of a collection, by kind: all but the asks
+-- the tables of a collection, by kind: all but the asks and the list
 abbrev pub IsShelved : Kind → Type 0
 IsShelved asks = ⊥
+IsShelved listed = ⊥
 IsShelved kind = ⊤
 
 abbrev pub table_of : List Frame → Listed → Kind → List ℕ
@@ -65,13 +66,16 @@ sort_of (Final s) h = adds finals _ tt refl
 sort_of (Ask a b) h = absurd h
 sort_of (AskFrom a) h = absurd h
 sort_of (Expression row) h = absurd h
+sort_of (ListedMark n s t B) h = absurd h
 
 -- a frame that adds such a record is copied
 adds-copied : (kind : Kind) (f : Frame) → IsShelved kind → IsSome (record_in kind f) → IsCopied f
 adds-copied asks f k h = absurd k
+adds-copied listed f k h = absurd k
 adds-copied kind (Ask a b) k h = absurd cc
 adds-copied kind (AskFrom a) k h = absurd cc
 adds-copied kind (Expression row) k h = absurd cc
+adds-copied kind (ListedMark n s t B) k h = absurd cc
 adds-copied kind f k h = tt
 
 -- no step and no final state is typed beside an expression
@@ -109,6 +113,7 @@ module _ (fs : List Frame) (q : Listed) (w : AreTaken fs q) where
     typed-row concept_facts e = rw (rows-table concept_facts fs) (records-in concept_facts fs m e)
     typed-row role_facts e = rw (rows-table role_facts fs) (records-in role_facts fs m e)
     typed-row asks e = rw (rows-table asks fs) (records-in asks fs m e)
+    typed-row listed e = rw (rows-table listed fs) (records-in listed fs m e)
 
   pub fitting-tables : FitsTables q
   fitting-tables = fits w.taken q w.asks 0
@@ -151,6 +156,7 @@ module _ (fs : List Frame) (q : Listed) (w : AreTaken fs q) where
       frame-record (step u (test A) v) = refl
   row-stands finals k r m = let x = final-of-row q r m in (Final x.0, by_final x.0 x.1, ap Some (sym x.2))
   row-stands asks k r m = absurd k
+  row-stands listed k r m = absurd k
   row-stands concept_rules k r m = from-table concept_rules tt r m
   row-stands concept_exclusions k r m = from-table concept_exclusions tt r m
   row-stands role_rules k r m = from-table role_rules tt r m

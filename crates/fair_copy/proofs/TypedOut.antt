@@ -14,9 +14,9 @@ use Rattle.tables.specs.Records.{read_concept_pair, read_role_pair, read_concept
 use Rattle.expression.specs.Listed.{Listed}
 use Rattle.frames.specs.Written.{AreNumbered}
 use Rattle.frames.specs.declared.Frame.{Frame}
-use Rattle.frames.specs.declared.Frame.TheVariants.{Declared, ConceptRule, ConceptExclusion, RoleRule, RoleExclusion, ConceptFact, RoleFact, Final, Allowance}
+use Rattle.frames.specs.declared.Frame.TheVariants.{Declared, ConceptRule, ConceptExclusion, RoleRule, RoleExclusion, ConceptFact, RoleFact, Final, Allowance, ListedMark}
 use Rattle.reading.specs.declared.File.{File}
-use Rattle.reading.specs.Tables.{Kind, concept_rules, concept_exclusions, role_rules, role_exclusions, concept_facts, role_facts, steps, finals, asks, record_in, width, declared_by, allowance_given}
+use Rattle.reading.specs.Tables.{Kind, concept_rules, concept_exclusions, role_rules, role_exclusions, concept_facts, role_facts, steps, finals, asks, listed, record_in, width, declared_by, allowance_given}
 use Rattle.reading.proofs.Turns.{fitting}
 use Rattle.sorted.specs.Rows.{rows, AreWide, IsTidied}
 use Rattle.sorted.proofs.Chunks.{row_at, chunk-out, field-is, rows-wide}
@@ -28,7 +28,7 @@ use Rattle.fair_copy.proofs.Stands.{AreTaken, IsShelved, table_of, Sort, declare
 use Rattle.fair_copy.proofs.RowFrames.{by-rows}
 use Rattle.fair_copy.proofs.Rising.{at, lead, Leads, leads-none, leads-one, leads-join, IsBlock, IsRow, rows-rise}
 
--- the table of each kind that a file holds
+-- the table of each kind that a file holds; of a list it holds none
 abbrev pub held : File → Kind → List ℕ
 held file concept_rules = file.concept_rules
 held file concept_exclusions = file.concept_exclusions
@@ -39,6 +39,7 @@ held file role_facts = file.role_facts
 held file steps = file.steps
 held file finals = file.finals
 held file asks = file.asks
+held file listed = []
 
 -- a file that holds what some frames declare and allow, and their tables with their question, tidied
 pub record HoldsCopy (fs : List Frame) (q : Listed) (file : File) : Type 0 where
@@ -135,6 +136,7 @@ low role_facts = 0x07
 low steps = 0x08
 low finals = 0x0A
 low asks = 0x0B
+low listed = 0x10
 
 abbrev high : Kind → ℕ
 high concept_rules = 0x03
@@ -146,6 +148,7 @@ high role_facts = 0x08
 high steps = 0x0A
 high finals = 0x0B
 high asks = 0x0C
+high listed = 0x11
 
 abbrev IsOf : Kind → Frame → Type 0
 IsOf kind f = (low kind ≤ lead f) × (lead f < high kind)
@@ -164,6 +167,7 @@ row-lead role_facts k r = (omega arith, omega arith)
 row-lead steps k r = step-lead (at r) (at r 0)
 row-lead finals k r = (omega arith, omega arith)
 row-lead asks k r = absurd k
+row-lead listed k r = absurd k
 
 rows-block : (kind : Kind) → IsShelved kind → (rs : List (List ℕ)) → IsBlock (low kind) (high kind) (map (frame_in kind) rs)
 rows-block kind k [] = tt
@@ -179,6 +183,7 @@ low-high role_facts = omega arith
 low-high steps = omega arith
 low-high finals = omega arith
 low-high asks = omega arith
+low-high listed = omega arith
 
 all-rows : (kind : Kind) (rs : List (List ℕ)) → AreWide (width kind) rs → ((r : List ℕ) → r ∈ rs → kind ≡ steps → at r 0 ≤ 1)
     → AllByRecursion (IsRow kind) rs
@@ -248,6 +253,9 @@ module _ (fs : List Frame) (q : Listed) (w : AreTaken fs q) (file : File) (h : H
   numbered-typed (ConceptExclusion C D) d =
       let n = d.0 in
       (concept-number (declared_by fs) fit.names C n.0, concept-number (declared_by fs) fit.names D n.1)
+  numbered-typed (ListedMark m s t B) d =
+      let n = d.0 in
+      concept-number (declared_by fs) fit.names B n.2
   numbered-typed f d = tt
 
   -- a concept is that of its number
@@ -310,6 +318,7 @@ module _ (fs : List Frame) (q : Listed) (w : AreTaken fs q) (file : File) (h : H
     in-blocks steps k m = from_role_facts (Memᴰ.append_left (after_steps file) m)
     in-blocks finals k m = from_steps (Memᴰ.append_left (after_finals file) m)
     in-blocks asks k m = absurd k
+    in-blocks listed k m = absurd k
 
   stands-in : {f : Frame} → StandsIn fs q f → Sort f → f ∈ (Declared file.counts ∷ blocks file)
   stands-in s (declares c) = first s refl

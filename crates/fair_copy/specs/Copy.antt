@@ -12,16 +12,18 @@ use Rattle.expression.specs.Listed.{Listed, steps_of, finals_of}
 use Rattle.frames.specs.Text.{text}
 use Rattle.frames.specs.Written.{numbers_of, frame_bytes}
 use Rattle.frames.specs.declared.Frame.{Frame}
-use Rattle.frames.specs.declared.Frame.TheVariants.{RoleStep, TestStep, Final, Ask, AskFrom, Expression}
+use Rattle.frames.specs.declared.Frame.TheVariants.{RoleStep, TestStep, Final, Ask, AskFrom, Expression, ListedMark}
 use Rattle.reading.specs.File.{IsQuestionOf}
 use Rattle.shell.specs.Writes.{WritesOf}
 
--- Every frame of a file is copied unchanged, with two exceptions: the copy has no asks, and in place
--- of an expression it has the steps and the final states of the question that the expression asks.
+-- Every frame of a file is copied unchanged, with two exceptions: the copy has no asks and no list,
+-- and in place of an expression it has the steps and the final states of the question that the
+-- expression asks.
 abbrev pub IsCopied : Frame → Type 0
 IsCopied (Ask a b) = ⊥
 IsCopied (AskFrom a) = ⊥
 IsCopied (Expression row) = ⊥
+IsCopied (ListedMark n s t B) = ⊥
 IsCopied other = ⊤
 
 -- the frame of a step

@@ -22,9 +22,9 @@ OneCopy = (fs : List Frame) (q : Listed) (copy other : List Frame)
 abbrev pub CopyOnce : Type 0
 CopyOnce = (input text out : List ℕ) → WritesCopy input text → WritesCopy input out → text ≡ out
 
--- the first 1,010,665 bytes of an input, or more of them, have the copy of the whole
+-- the first 3,238,889 bytes of an input, or more of them, have the copy of the whole
 abbrev pub StartCopied : Type 0
-StartCopied = (input : List ℕ) (n : ℕ) → 1010665 ≤ n → (text : List ℕ)
+StartCopied = (input : List ℕ) (n : ℕ) → 3238889 ≤ n → (text : List ℕ)
     → WritesCopy (take n input) text ↔ WritesCopy input text
 
 -- the characters of a line of so many bytes, with its end

@@ -18,6 +18,7 @@ ghost use Rattle.fair_copy.specs.Laws.{SameCollection, ReadsAsCopy};
 ghost use Rattle.fair_copy.specs.Kept.{IsFairCopy};
 
 use report::FairCopy;
+pub use report::{put_copy, put_frame};
 pub use shell::ServeError;
 use streams::memory::{Bytes, Nowhere};
 use streams::{Sink, Source};

@@ -3,6 +3,7 @@ ghost use Rattle.std.specs.Prelude.{◌∷◌, [], OnOk, IfErr, map};
 ghost use Rattle.meaning.specs.Lent.{records};
 ghost use Rattle.fair_copy.specs.Copy.{frames_text, Copies};
 ghost use Rattle.fair_copy.specs.Framed.{allowance_frames, part_frames, typed_out};
+ghost use Rattle.fair_copy.specs.Ready.{IsMadeReady};
 
 use crate::framed::{
     ConceptExclusions, ConceptFacts, ConceptRules, Finals, Framed, RoleExclusions, RoleFacts,
@@ -18,7 +19,7 @@ use tables::Table;
 
 // The line of a frame.
 #[tactic(auto, using(crate::proofs::Putting::text_one))]
-fn put_frame<T: Taker>(to: &mut T, frame: &Frame) -> io::Result<()>
+pub fn put_frame<T: Taker>(to: &mut T, frame: &Frame) -> io::Result<()>
     ensures ok { OnOk result (T.takes to.old (frames_text (frame.now ∷ [])) to.new) }
     ensures err { IfErr result (λ e. T.fails to.old (frames_text (frame.now ∷ [])) e to.new) }
 {
@@ -115,15 +116,25 @@ fn put_file<T: Taker>(to: &mut T, file: &File) -> io::Result<()>
     Ok(())
 }
 
-// The copyist's report. The tables are put in order where they stand.
+// The fair copy of what is held. An expression is spelled out, and the tables are put in order where they stand.
+pub fn put_copy<T: Taker>(to: &mut T, file: &mut File) -> io::Result<()>
+    ensures ready { IsMadeReady file.old file.new }
+    ensures ok { OnOk result (T.takes to.old (frames_text (typed_out file.new)) to.new) }
+    ensures err { IfErr result (λ e.
+        T.fails to.old (frames_text (typed_out file.new)) e to.new) }
+{
+    file.spell_out();
+    file.tidy();
+    put_file(to, file)
+}
+
+// The copyist's report.
 pub(crate) struct FairCopy;
 
 impl Report for FairCopy {
     ghost says = { Copies };
 
     fn put<T: Taker>(&self, file: &mut File, to: &mut T) -> io::Result<()> {
-        file.spell_out();
-        file.tidy();
-        put_file(to, file)
+        put_copy(to, file)
     }
 }

@@ -7,6 +7,7 @@ use Rattle.meaning.specs.Layout.{area_length, zeros}
 use Rattle.meaning.specs.Lent.{Sound}
 use Rattle.meaning.specs.Outcome.{Outcome, bad-count, bad-table, bad-number, bad-ask, contradiction, spent, says-yes, says-no}
 use Rattle.meaning.proofs.OutcomeExists.{outcome-exists}
+use Rattle.sheet.specs.declared.round_marks.RoundMarks.{RoundMarks}
 use Rattle.tables.specs.declared.collection.Collection.{Collection}
 use Rattle.tables.specs.Lists.{lists}
 use Rattle.expression.specs.Listed.{Listed}
@@ -14,7 +15,8 @@ use Rattle.reading.specs.declared.File.{File}
 use Rattle.reading.specs.File.{lent_tables, allowance_in, held_ask, held_call, IsQuestion}
 use Rattle.reading.specs.Reads.{IsRead}
 use Rattle.index.specs.Preparation.{Preparation, preparation, Fits}
-use Rattle.index.specs.Marks.{MarksTold}
+use Rattle.theory.specs.Listing.{counts_of}
+use Rattle.index.specs.Marks.{MarksTold, CountsTold}
 use Rattle.index.specs.Works.{Passes}
 use Rattle.index.specs.Asked as index
 use Rattle.index.specs.Row as row
@@ -22,6 +24,7 @@ use Rattle.file.specs.Rounds as told
 use Rattle.file.specs.Rounds.{round_lines}
 use Rattle.file.specs.Writes.{Answered}
 use Rattle.file.specs.Replying.{ask_count, IsAnswer, HeldRounds, RoundsAll, AnswersEach, AnswersAll}
+use Rattle.index.proofs.ToldOnce.{told-counts}
 use Rattle.file.proofs.Asks.{call_sound}
 
 -- what a file's own preparation is of
@@ -67,9 +70,9 @@ module _ (file : File) (read : IsRead file) (q : Listed) (is : IsQuestion file q
     numbers = rw (a, b) sound.numbers;
   }
 
-  -- THEOREM: the counts that are told of the preparation are those that are told of the file
-  pub counts-told : (counts : List ℕ) → MarksTold (own file q) counts → HeldRounds file q counts
-  counts-told counts marks = by (outcome-exists (held_call file q 0))
+  -- THEOREM: how many marks are told of the preparation, round for round but for round 0, is told of the file
+  pub counts-told : (made : List RoundMarks) → MarksTold (own file q) made → HeldRounds file q (counts_of made)
+  counts-told made marks = by (told-counts (own file q) made marks) (outcome-exists (held_call file q 0))
     where
       fits : Fits (own file q)
       fits = record {
@@ -78,14 +81,15 @@ module _ (file : File) (read : IsRead file) (q : Listed) (is : IsQuestion file q
         numbers = sound.numbers;
       }
 
-      by : {r : Answer} {x y : List ℕ} → Outcome (held_call file q 0) r x y → HeldRounds file q counts
-      by (bad-count h) = absurd (h sound.counts)
-      by (bad-table k h) = absurd (h sound.tables)
-      by (bad-number k t h) = absurd (h sound.numbers)
-      by (bad-ask k t n h) = absurd (h sound.ask)
-      by (contradiction w h) = subst (HeldRounds file q) (sym (marks.none (λ s. s.sane h))) (told.contradiction h)
-      by (spent {n = n} w sane need h lays) = told.rounds some sane need (marks.rounds (record { fits = fits; sane = sane }) n need)
-      by (says-yes {n = n} w sane need h lays reached) =
-          told.rounds some sane need (marks.rounds (record { fits = fits; sane = sane }) n need)
-      by (says-no {n = n} w sane need h lays missed) =
-          told.rounds some sane need (marks.rounds (record { fits = fits; sane = sane }) n need)
+      by : {counts : List ℕ} {r : Answer} {x y : List ℕ} → CountsTold (own file q) counts → Outcome (held_call file q 0) r x y
+          → HeldRounds file q counts
+      by t (bad-count h) = absurd (h sound.counts)
+      by t (bad-table k h) = absurd (h sound.tables)
+      by t (bad-number k u h) = absurd (h sound.numbers)
+      by t (bad-ask k u n h) = absurd (h sound.ask)
+      by t (contradiction w h) = subst (HeldRounds file q) (sym (t.none (λ s. s.sane h))) (told.contradiction h)
+      by t (spent {n = n} w sane need h lays) = told.rounds some sane need (t.rounds (record { fits = fits; sane = sane }) n need)
+      by t (says-yes {n = n} w sane need h lays reached) =
+          told.rounds some sane need (t.rounds (record { fits = fits; sane = sane }) n need)
+      by t (says-no {n = n} w sane need h lays missed) =
+          told.rounds some sane need (t.rounds (record { fits = fits; sane = sane }) n need)

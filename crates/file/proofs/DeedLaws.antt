@@ -1,6 +1,7 @@
 -- Two inputs whose lines differ only in the deed numbers of their facts write the same text.
-use Rattle.std.specs.Prelude.{ℕ, zero, suc, ◌+◌, ◌≡◌, refl, ◌↔◌, List, [], ◌++◌, length}
-use Rattle.std.proofs.Common.{ap, ◌∙◌, subst}
+use Rattle.std.specs.Prelude.{ℕ, zero, suc, ◌+◌, ◌≡◌, refl, ◌↔◌, Option, List, [], ◌++◌, length, take}
+use Rattle.std.specs.List.{cons_option}
+use Rattle.std.proofs.Common.{sym, ap, ap₂, ◌∙◌, subst, length-take, arith}
 use Rattle.meaning.specs.Lent.{Call}
 use Rattle.meaning.specs.Deeds.{lent_with}
 use Rattle.meaning.proofs.DeedLaws.{one-collection, deeds-decide-nothing}
@@ -8,8 +9,9 @@ use Rattle.expression.specs.Listed.{Listed}
 use Rattle.frames.specs.declared.Frame.{Frame}
 use Rattle.streams.specs.Lines.{lines}
 use Rattle.reading.specs.declared.Refusal.{Refusal}
+use Rattle.reading.specs.declared.Refusal.TheVariants.{NotTheSheet}
 use Rattle.reading.specs.Refusal.{refusal_number}
-use Rattle.reading.specs.Tables.{asks, entries}
+use Rattle.reading.specs.Tables.{asks, entries, Entry, entry_in, list_in}
 use Rattle.reading.specs.File.{tables_of, asked}
 use Rattle.reading.specs.Reading.{Verdict, faulty, sound, Reading}
 use Rattle.reading.specs.Deeds.{SameButDeed, same, concept, role, SameLine, same-line, same-facts, InStep, ended, next}
@@ -19,8 +21,11 @@ use Rattle.reading.proofs.DeedLaws.{question-same, tables-alike, reads-without-d
 use Rattle.shell.specs.Faults.{fault_line}
 use Rattle.shell.specs.Writes.{fault, said}
 use Rattle.file.specs.Text.{count_width}
+use Rattle.file.proofs.Sound.{sound-read, sound-accepted}
 use Rattle.file.specs.Rounds.{round_lines}
-use Rattle.file.specs.Writes.{Answers, Answered, collection_read, frames_width, FileRounds, RepliesTo, Writes}
+use Rattle.meaning.specs.Collection.{Collection}
+use Rattle.intake.specs.Verdicts.{collection_read, IsListing, Accepted, no-list, contradiction, listing, Departs, before_list, Verdicts, by-line, by-list, accepted}
+use Rattle.file.specs.Writes.{Answers, Answered, frames_width, FileRounds, RepliesTo, Writes}
 
 -- it works both ways
 frame_turned : {f g : Frame} → SameButDeed f g → SameButDeed g f
@@ -78,15 +83,52 @@ replies-same {fs} s r =
       whole = r.whole ∙ ap (λ (n : ℕ). round_lines n 0 r.counts ++ r.out) e;
     }
 
+-- their lists are the same
+entry-same : {f g : Frame} → SameButDeed f g → entry_in f ≡ entry_in g
+entry-same (same f) = refl
+entry-same (concept A a n m) = refl
+entry-same (role r a b n m) = refl
+
+list-same : {fs gs : List Frame} → Alike fs gs → list_in fs ≡ list_in gs
+unfolding list_in
+list-same ended = refl
+list-same (next {xs = fs} d s) = ap₂ (λ (o : Option Entry) (l : List Entry). cons_option o l) (entry-same d) (list-same s)
+
+module _ {fs gs : List Frame} (s : Alike fs gs) where
+  accepted-same : Accepted fs → Accepted gs
+  accepted-same (no-list e) = no-list (sym (list-same s) ∙ e)
+  accepted-same (contradiction q is c) = contradiction q (question-same s q is) (rw (read-same s q) at c)
+  accepted-same (listing q is l) =
+      listing q (question-same s q is)
+      (subst (IsListing (collection_read gs q)) (list-same s) (subst (λ (c : Collection). IsListing c (list_in fs)) (read-same s q) l))
+
+  departs-same : (k : ℕ) → Departs fs k → Departs gs k
+  departs-same k d =
+      let q = d.question in
+      record {
+        given = λ e. d.given (list-same s ∙ e);
+        question = q;
+        is = question-same s q d.is;
+        sane = rw (read-same s q) at d.sane;
+        listing = d.listing;
+        lists = subst (λ (c : Collection). IsListing c d.listing) (read-same s q) d.lists;
+        at = rw (list-same s) at d.at;
+      }
+
+  start-long : (k : ℕ) → length (take (before_list gs + k) gs) ≡ length (take (before_list fs + k) fs)
+  start-long k =
+      let n = ap (λ (l : List Entry). length l) (list-same s) in
+      omega (arith, n, alike-length s, length-take (before_list gs + k) gs, length-take (before_list fs + k) fs)
+
 -- the text of the one is that of the other
 module _ (input other : List ℕ) (s : InStep SameLine (lines input) (lines other)) where
-  fault-same : {v w : Verdict} → SameVerdict v w → Reading [] (lines other) w → (before : List Frame) (r : Refusal) → v ≡ faulty before r
+  line-fault : {v w : Verdict} → SameVerdict v w → Reading [] (lines other) w → (before : List Frame) (r : Refusal) → v ≡ faulty before r
       → Writes other (fault_line (length before + 1) (refusal_number r))
-  fault-same (both-faulty {fs = fs} {gs = gs} p d) h before r e =
+  line-fault (both-faulty {fs = fs} {gs = gs} p d) h before r e =
       let i : fs ≡ before = cc in
       let j : p ≡ r = cc in
-      subst (λ (l : List ℕ). Writes other l) (rw (← i, ← j, alike-length d) refl) (fault gs p h)
-  fault-same (both-sound d) h before r e = absurd cc
+      subst (λ (l : List ℕ). Writes other l) (rw (← i, ← j, alike-length d) refl) (fault gs p (by-line gs p h))
+  line-fault (both-sound d) h before r e = absurd cc
 
   sound-same : {v w : Verdict} → SameVerdict v w → Reading [] (lines other) w → (fs : List Frame) → v ≡ sound fs
       → (gs : List Frame) × Alike fs gs × Reading [] (lines other) (sound gs)
@@ -95,14 +137,26 @@ module _ (input other : List ℕ) (s : InStep SameLine (lines input) (lines othe
       (gs, rw i at d, h)
   sound-same (both-faulty p d) h ks e = absurd cc
 
-  writes-same : {x : List ℕ} → Writes input x → Writes other x
-  writes-same (fault before r h) =
-      let w = reads-without-deeds (lines input) (lines other) s (faulty before r) h in
-      fault-same w.1 w.2 before r refl
-  writes-same (said fs x h r) =
+  fault-same : {v : Verdict} → Verdicts (lines input) v → (before : List Frame) (r : Refusal) → v ≡ faulty before r
+      → Writes other (fault_line (length before + 1) (refusal_number r))
+  fault-same (by-line fs p h) before r e =
+      let w = reads-without-deeds (lines input) (lines other) s (faulty fs p) h in
+      line-fault w.1 w.2 before r e
+  fault-same (by-list fs k h d) before r e =
       let w = reads-without-deeds (lines input) (lines other) s (sound fs) h in
       let v = sound-same w.1 w.2 fs refl in
-      said v.0 x v.2 (replies-same v.1 r)
+      let i : take (before_list fs + k) fs ≡ before = cc in
+      let j : NotTheSheet ≡ r = cc in
+      subst (λ (l : List ℕ). Writes other l) (rw (← i, ← j, start-long v.1 k) refl)
+      (fault _ NotTheSheet (by-list v.0 k v.2 (departs-same v.1 k d)))
+  fault-same (accepted fs h a) before r e = absurd cc
+
+  writes-same : {x : List ℕ} → Writes input x → Writes other x
+  writes-same (fault before r h) = fault-same h before r refl
+  writes-same (said fs x h r) =
+      let w = reads-without-deeds (lines input) (lines other) s (sound fs) (sound-read h) in
+      let v = sound-same w.1 w.2 fs refl in
+      said v.0 x (accepted v.0 v.2 (accepted-same v.1 (sound-accepted h))) (replies-same v.1 r)
 
 -- THEOREM: what is written does not depend on deed numbers
 pub writes-without-deeds : (input other : List ℕ) → InStep SameLine (lines input) (lines other) → (text : List ℕ)

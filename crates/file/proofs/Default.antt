@@ -8,7 +8,7 @@ use Rattle.meaning.specs.Demands.{most_rounds}
 use Rattle.theory.proofs.SheetLaws.{rounds-unique}
 use Rattle.frames.specs.declared.Frame.{Frame}
 use Rattle.reading.specs.Tables.{declared_by, allowance_given, rounds_allowed}
-use Rattle.file.specs.Writes.{collection_read}
+use Rattle.intake.specs.Verdicts.{collection_read}
 use Rattle.file.specs.Told.{number_on}
 use Rattle.file.specs.Laws.{TellsRounds}
 use Rattle.file.specs.Demands.{IsAsModelSays}

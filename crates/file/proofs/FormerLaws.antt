@@ -9,11 +9,12 @@ use Rattle.reading.specs.Refusal.{refusal_number}
 use Rattle.reading.specs.Tables.{asks, entries, declared_by}
 use Rattle.reading.specs.Reading.{Verdict, faulty, sound, Reading}
 use Rattle.reading.specs.Former.{FormerReading, FormerLimits, IsFormerFault}
-use Rattle.reading.proofs.Once.{reading-once}
 use Rattle.reading.proofs.FormerLaws.{former-once, former-sound, former-else, former-found}
 use Rattle.reading.specs.File.{asked}
 use Rattle.shell.specs.Faults.{fault_line}
-use Rattle.shell.specs.Writes.{fault, said}
+use Rattle.intake.specs.Verdicts.{Verdicts, by-line, by-list, accepted, no-list}
+use Rattle.intake.proofs.VerdictLaws.{verdict-once}
+use Rattle.shell.specs.Writes.{IsSound, fault, said}
 use Rattle.shell.proofs.WritesLaws.{by-once}
 use Rattle.file.specs.Rounds.{round_lines}
 use Rattle.file.specs.Writes.{Answered, frames_width, RepliesTo, Writes}
@@ -45,10 +46,14 @@ module _ (input : List ℕ) (fs : List Frame) (s : WasSound input fs) where
   narrow : frames_width fs ≡ 2
   narrow = width-few (declared_by fs) still.1.states
 
+  -- it has no list
+  still-sound : IsSound input fs
+  still-sound = accepted fs still.0 (no-list still.1.no_list)
+
   as-it-did : {text : List ℕ} → Writes input text → FormerWrites input text
-  as-it-did (fault before r h) = let e = reading-once h still.0 in absurd cc
+  as-it-did (fault before r h) = let e = verdict-once (lines input) (faulty before r) (sound fs) h still-sound in absurd cc
   as-it-did (said gs x h r) =
-      let e = reading-once h still.0 in
+      let e = verdict-once (lines input) (sound gs) (sound fs) h still-sound in
       let d : gs ≡ fs = cc in
       said fs x s (as-wide narrow (rw d at r))
 
@@ -57,7 +62,7 @@ module _ (input : List ℕ) (fs : List Frame) (s : WasSound input fs) where
   as-it-does (said gs x h r) =
       let e = former-once h s in
       let d : gs ≡ fs = cc in
-      said fs x still.0 (as-wide (sym narrow) (rw d at r))
+      said fs x still-sound (as-wide (sym narrow) (rw d at r))
 
   -- THEOREM: an input that was read whole writes what it wrote
   pub writes-as-it-did : (text : List ℕ) → Writes input text ↔ FormerWrites input text
@@ -78,16 +83,21 @@ wrote-as-it-does {input} (fault before r h) = by (former-else h)
   where
     by : Reading [] (lines input) (faulty before r) ⊎ IsFormerFault (faulty before r)
         → Writes input (fault_line (length before + 1) (refusal_number r)) ⊎ TellsFormerFault (fault_line (length before + 1) (refusal_number r))
-    by (inl same) = inl (fault before r same)
+    by (inl same) = inl (fault before r (by-line before r same))
     by (inr x) = inr (its-line before r x)
 
 -- THEOREM: and an input that writes anything wrote some text
 pub former-writes-some : {input text : List ℕ} → Writes input text → (out : List ℕ) × FormerWrites input out
 former-writes-some {input} {text} w = by (was w)
   where
+    found : {v : Verdict} → Verdicts (lines input) v → (v : Verdict) × FormerReading [] (lines input) v
+    found (by-line before r h) = former-found h
+    found (by-list fs k h d) = former-found h
+    found (accepted fs h a) = former-found h
+
     was : {x : List ℕ} → Writes input x → (v : Verdict) × FormerReading [] (lines input) v
-    was (fault before r h) = former-found h
-    was (said fs x h r) = former-found h
+    was (fault before r h) = found h
+    was (said fs x h r) = found h
 
     by : (v : Verdict) × FormerReading [] (lines input) v → (out : List ℕ) × FormerWrites input out
     by (faulty before r, h) = (_, fault before r h)

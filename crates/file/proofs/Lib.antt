@@ -7,8 +7,11 @@ pub mod Lined
 pub mod Told
 pub mod Demanded
 pub mod Default
+pub mod LeftOut
+pub mod ByList
 -- Laws that the functions' proofs cite.
 pub mod Widths
+pub mod Sound
 pub mod Asks
 pub mod Rounds
 pub mod Listening

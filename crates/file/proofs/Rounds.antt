@@ -1,6 +1,6 @@
 -- The lines of rounds: how long they are; and the counts that are told are one row, of no more rounds than there may be.
-use Rattle.std.specs.Prelude.{ℕ, suc, ◌+◌, ◌*◌, ◌<◌, ◌≤◌, ◌≡◌, ◌⊎◌, refl, List, [], ◌∷◌, ◌++◌, length, min}
-use Rattle.std.proofs.Common.{sym, ap, ◌∙◌, subst, append_assoc, append-nil, length-append, ⊎_elim, arith}
+use Rattle.std.specs.Prelude.{ℕ, suc, ◌*◌, ◌<◌, ◌≤◌, ◌≡◌, ◌⊎◌, refl, List, [], ◌∷◌, ◌++◌, length, map, min}
+use Rattle.std.proofs.Common.{ap, subst, length-append, ⊎_elim, arith}
 use Rattle.std.proofs.Math.Nat.{min-le_left}
 use Rattle.laws.specs.Rounds.{least-once}
 use Rattle.kinds.specs.declared.Counts.{Counts}
@@ -8,15 +8,18 @@ use Rattle.meaning.specs.Collection.{Collection, WellFormed}
 use Rattle.meaning.specs.Model.{Contradiction}
 use Rattle.theory.specs.Sheet.{Needed, Unchanged}
 use Rattle.meaning.specs.Lite.{lite}
+use Rattle.theory.specs.Listing.{counts_of}
 use Rattle.theory.specs.Marks.{RoundCounts}
 use Rattle.theory.proofs.MarksLaws.{round-counts-once}
 use Rattle.meaning.specs.Demands.{most_rounds}
 use Rattle.meaning.proofs.Demands.{most-rounds}
 use Rattle.meaning.proofs.LiteMarks.{lite-most}
+use Rattle.sheet.specs.declared.round_marks.RoundMarks.{RoundMarks}
 use Rattle.file.specs.Text.{round_line}
-use Rattle.file.specs.Rounds.{round_lines, RoundsTold, no-ask, contradiction, rounds}
+use Rattle.file.specs.Rounds.{told_line, round_lines, RoundsTold, no-ask, contradiction, rounds}
 use Rattle.file.specs.Told.{round_length}
 use Rattle.file.proofs.Widths.{IsWidth, round-length}
+use Rattle.file.proofs.Listening.{texts}
 
 module _ (width : ℕ) where
   pub rounds-length : {c : Counts} → IsWidth c width → (before : ℕ) (counts : List ℕ)
@@ -31,23 +34,18 @@ module _ (width : ℕ) where
         rounds-length w (suc before) counts,
       )
 
-  -- the lines of some rounds, and then those of more
-  pub rounds-append : (before : ℕ) (x y : List ℕ)
-      → round_lines width before (x ++ y) ≡ round_lines width before x ++ round_lines width (before + length x) y
+  -- what tells of some rounds, one after another, is the lines of all but round 0
+  texts-on : (before : ℕ) (made : List RoundMarks) → texts (λ n marks. told_line width n (length marks)) (suc before) made
+      ≡ round_lines width before (map length made)
   unfolding round_lines
-  rounds-append before [] y = ap (λ n. round_lines width n y) (omega arith)
-  rounds-append before (m ∷ x) y =
-      let later : suc before + length x ≡ before + suc (length x) = omega arith in
-      ap (λ (l : List ℕ). round_line width (suc before) m ++ l)
-      (rounds-append (suc before) x y ∙ ap (λ n. round_lines width (suc before) x ++ round_lines width n y) later)
-      ∙ sym (append_assoc (round_line width (suc before) m) (round_lines width (suc before) x) _)
+  texts-on before [] = refl
+  texts-on before (marks ∷ made) = ap (λ (l : List ℕ). round_line width (suc before) (length marks) ++ l) (texts-on (suc before) made)
 
-  pub rounds-last : (counts : List ℕ) (m : ℕ)
-      → round_lines width 0 (counts ++ m ∷ []) ≡ round_lines width 0 counts ++ round_line width (suc (length counts)) m
+  pub texts-told : (made : List RoundMarks) → texts (λ n marks. told_line width n (length marks)) 0 made
+      ≡ round_lines width 0 (counts_of made)
   unfolding round_lines
-  rounds-last counts m =
-      rounds-append 0 counts (m ∷ []) ∙ ap (λ (l : List ℕ). round_lines width 0 counts ++ l)
-      (append-nil (round_line width (suc (0 + length counts)) m) ∙ ap (λ n. round_line width (suc n) m) (omega arith))
+  texts-told [] = refl
+  texts-told (marks ∷ made) = texts-on 0 made
 
 module _ {𝓒 : Collection} {allowance asks : ℕ} where
   -- THEOREM: one row of counts is told

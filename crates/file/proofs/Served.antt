@@ -9,8 +9,10 @@ use Rattle.reading.specs.File.{file_of, asked}
 use Rattle.shell.specs.Reports.{OneOf, Tells}
 use Rattle.shell.specs.Writes.{IsSound}
 use Rattle.file.specs.Rounds.{RoundsTold}
-use Rattle.file.specs.Writes.{Answered, collection_read, frames_width, SameButDeeds, RepliesTo, Writes}
+use Rattle.intake.specs.Verdicts.{collection_read}
+use Rattle.file.specs.Writes.{Answered, frames_width, SameButDeeds, RepliesTo, Writes}
 use Rattle.file.specs.Former.{WasSound}
+use Rattle.file.specs.LeftOut.{LeavesOutList}
 use Rattle.file.specs.Serves.{Serves, FormerServes, AppendsUnspent}
 use Rattle.file.specs.Replying.{AnswersAll}
 use Rattle.file.proofs.Asks.{ask_entries}
@@ -18,6 +20,7 @@ use Rattle.file.proofs.WritesLaws.{writes-once}
 use Rattle.file.proofs.DeedLaws.{writes-without-deeds}
 use Rattle.file.proofs.FormerLaws.{writes-as-it-did}
 use Rattle.file.proofs.Default.{never-spent}
+use Rattle.file.proofs.LeftOut.{list-changes-nothing}
 
 -- THEOREM: what is put for a file that was read is a text of the frames that it holds
 pub replies-tell : (file : File) {P : List ℕ → Type 0} → AnswersAll file P → Tells (RepliesTo frames_width) file P
@@ -48,6 +51,10 @@ module _ {input : List ℕ} {P : List ℕ → Type 0} (o : Serves input P) where
   -- one that differs in deed numbers alone writes it too,
   pub served-deeds : (other : List ℕ) → SameButDeeds input other → Serves other P
   served-deeds other s = record { text = o.text; is = (writes-without-deeds input other s o.text).0 o.is; so = o.so }
+
+  -- where it is sound, so does one without its list,
+  pub served-unlisted : (other : List ℕ) → LeavesOutList input other → (fs : List Frame) → IsSound input fs → Serves other P
+  served-unlisted other l fs s = record { text = o.text; is = (list-changes-nothing input other l fs s o.text).0 o.is; so = o.so }
 
   -- and one that was read whole wrote it
   pub served-former : (fs : List Frame) → WasSound input fs → FormerServes input P

@@ -30,20 +30,21 @@ use Rattle.reading.proofs.Questions.{question-once}
 use Rattle.reading.proofs.Accepted.{whole-accepted}
 use Rattle.reading.proofs.Listed.{refusals-listed}
 use Rattle.frames.specs.Text.{character, characters, text}
-use Rattle.shell.specs.Faults.{fault_line}
+use Rattle.shell.specs.Faults.{line_width, fault_line}
 use Rattle.shell.specs.Writes.{IsSound, IsFaulty}
 use Rattle.shell.proofs.WritesLaws.{faults-near, fault-written, said-written}
 use Rattle.file.specs.Text.{count_width, round_line, answer_line, IsInBytes}
 use Rattle.file.specs.Rounds.{round_lines}
-use Rattle.file.specs.Writes.{Answers, Answered, IsAsking, collection_read, frames_width, FileRounds, RepliesTo, Writes}
+use Rattle.intake.specs.Verdicts.{collection_read}
+use Rattle.file.specs.Writes.{Answers, Answered, IsAsking, frames_width, FileRounds, RepliesTo, Writes}
 use Rattle.frames.specs.Frames.{number_in}
-use Rattle.file.specs.Told.{line_in, rounds_in, line_at, round_length, answers_length, number_on, count_on}
+use Rattle.file.specs.Told.{line_in, rounds_in, line_at, round_length, answers_length, number_on, refusal_on, count_on}
 use Rattle.file.specs.Told.{Names, TellsOutcome, IsRoundLine, IsFaultLine}
 use Rattle.file.specs.Laws.{AnswersEachAsk, TellsRounds}
 use Rattle.tables.specs.Asks.{read_ask}
 use Rattle.file.proofs.Asks.{small}
-use Rattle.file.proofs.Widths.{IsWidth, is-width, narrow, rounds-fit, high-long, bytes-at, number-back}
-use Rattle.file.proofs.Widths.{round-length, answer-length, fault-length}
+use Rattle.file.proofs.Sound.{sound-read}
+use Rattle.file.proofs.Widths.{IsWidth, two, four, is-width, narrow, rounds-fit, high-long, bytes-at, number-back, round-length, answer-length}
 use Rattle.file.proofs.Turns.{answered-length}
 use Rattle.file.proofs.Lined.{AreLines, both_lines, line_before, line_after, rounds_lined, round-is, answers_lined, answer-at}
 use Rattle.file.proofs.Rounds.{rounds-length, told-once, none-told, rounds-told, few-told}
@@ -135,24 +136,43 @@ module _ (width : ℕ) (r : Answer) where
 
 -- and of a line of a fault
 module _ (line : ℕ) (r : Refusal) where
-  fault-number : number_on (fault_line line (refusal_number r)) ≡ refusal_number r
-  unfolding fault_line
-  fault-number =
-      let l = refusals-listed r in
-      let k : byte_of (fault_line line (refusal_number r)) 0 ≡ 0x8F = byte-at _ 0 (omega arith) (omega arith) in
-      rw k (byte-at _ 3 (omega arith) (omega (arith, l.1)))
+  -- its bytes, where the number of the faulty line has so many
+  abbrev fault_bytes : ℕ → List ℕ
+  fault_bytes width = 0x8F ∷ bytes_high_first width line ++ refusal_number r ∷ []
 
-  fault-is : line < 2 ^ 16 → IsFaultLine line r (fault_line line (refusal_number r))
+  -- its last byte is the number that refuses the line
+  refusal-is : {width : ℕ} → IsWidth (declared_by []) width → refusal_on (text (fault_bytes width)) ≡ refusal_number r
+  unfolding text
+  refusal-is (two s) = byte-at (fault_bytes 2) 3 (omega arith) (omega (arith, (refusals-listed r).1))
+  refusal-is four = byte-at (fault_bytes 4) 5 (omega arith) (omega (arith, (refusals-listed r).1))
+
+  long-is : {width : ℕ} → IsWidth (declared_by []) width → length (text (fault_bytes width)) ≡ 2 * (2 + width) + 1
+  unfolding text
+  long-is (two s) = refl
+  long-is four = refl
+
+  -- the number of a line goes into as many bytes as it has
+  number-wide : line < 2 ^ 32 → IsWidth (declared_by []) (line_width line) × (line < 2 ^ (8 * line_width line))
+  number-wide h = by (nat_lt line (2 ^ 16)) refl
+    where
+      by : (b : Bool) → nat_lt line (2 ^ 16) ≡ b
+          → IsWidth (declared_by []) (if b then 2 else 4) × (line < 2 ^ (8 * (if b then 2 else 4)))
+      by true e = (narrow, grind (arith, nat_tests))
+      by false e = (four, omega arith)
+
+  fault-is : line < 2 ^ 32 → IsFaultLine line r (fault_line line (refusal_number r))
   unfolding fault_line
-  fault-is h = record {
-    long = fault-length line (refusal_number r);
-    kind = byte-at _ 0 (omega arith) (omega arith);
-    place = number-at (0x8F ∷ []) (refusal_number r ∷ []) narrow line h;
-    refused = fault-number;
-    listed =
-        let l = refusals-listed r in
-        (omega (arith, fault-number, l.0), omega (arith, fault-number, l.1), λ e. l.2 (sym fault-number ∙ e));
-  }
+  fault-is h =
+      let (wide, fits) = number-wide h in
+      let told = refusal-is wide in
+      let l = refusals-listed r in
+      record {
+        long = long-is wide;
+        kind = byte-at (fault_bytes (line_width line)) 0 (omega arith) (omega arith);
+        place = number-at (0x8F ∷ []) (refusal_number r ∷ []) wide line fits;
+        refused = told;
+        listed = (omega (arith, told, l.0), omega (arith, told, l.1), λ e. l.2 (sym told ∙ e));
+      }
 
 -- and of a line of a round
 module _ {c : Counts} {width : ℕ} (w : IsWidth c width) (round marks : ℕ) where
@@ -238,7 +258,7 @@ module _ {input text : List ℕ} (w : Writes input text) where
     module _ (some : 0 < entries asks fs) (sane : Contradiction (collection_read fs q) → ⊥) (n : ℕ)
         (need : Needed (lite (collection_read fs q)) n) where
       well : WellFormed (collection_read fs q)
-      well = sound-well-formed (asked fs q 0) (whole-accepted input fs s.sound q s.question 0 some)
+      well = sound-well-formed (asked fs q 0) (whole-accepted input fs (sound-read s.sound) q s.question 0 some)
 
       added : RoundCounts (lite (collection_read fs q)) (min n (rounds_allowed fs)) answered.counts
       added = rounds-told answered.told some sane n need
@@ -307,7 +327,7 @@ module _ {input text : List ℕ} (w : Writes input text) (fs : List Frame) (s : 
         question = q;
         is = a.question;
         enough = omega (arith, (lined w fs q a).many);
-        each = λ k h. tells-outcome (line-answers w fs q a k h) (whole-accepted input fs s q a.question k h);
+        each = λ k h. tells-outcome (line-answers w fs q a k h) (whole-accepted input fs (sound-read s) q a.question k h);
       }
 
   pub listed : (k : ℕ) → k < entries asks fs → number_on (line_at (entries asks fs) text k) ≤ 3

@@ -1,5 +1,5 @@
 -- How wide a count is: two bytes or four, which hold every count of a file, and from which it is read back; and how long lines are.
-use Rattle.std.specs.Prelude.{ℕ, zero, suc, ◌+◌, ◌-◌, ◌*◌, ◌^◌, ◌<◌, ◌≤◌, ◌≡◌, refl, Bool, true, false, nat_le, if◌then◌else◌, List, [], ◌++◌, length, slice_index}
+use Rattle.std.specs.Prelude.{ℕ, zero, suc, ◌+◌, ◌-◌, ◌*◌, ◌^◌, ◌<◌, ◌≤◌, ◌≡◌, refl, Bool, true, false, nat_le, nat_lt, if◌then◌else◌, List, [], ◌∷◌, ◌++◌, length, slice_index}
 use Rattle.std.specs.Int.{bytes_high_first}
 use Rattle.std.proofs.Common.{◌∙◌, mul-le-mul, arith}
 use Rattle.std.proofs.Math.ListN.{get_or-append}
@@ -17,7 +17,7 @@ use Rattle.frames.specs.Text.{text}
 use Rattle.shell.specs.Faults.{fault_line}
 use Rattle.file.specs.Text.{few_states, count_width, round_line, answer_line}
 use Rattle.reading.specs.Tables.{declared_by}
-use Rattle.file.specs.Told.{round_length, fault_length, answer_length}
+use Rattle.file.specs.Told.{round_length, answer_length}
 use Rattle.file.specs.declared.text.TheConstants.{ROUND_LINE, ANSWER_LINE}
 
 -- the width of a file's counts is one of the two, by the states that it declares
@@ -64,9 +64,14 @@ bytes-at front rest width n i h =
     get_or-append-add front (bytes_high_first width n ++ rest) i 0
     ∙ get_or-append (bytes_high_first width n) rest 0 i (omega (arith, high-long width n))
 
-pub fault-length : (line number : ℕ) → length (fault_line line number) ≡ fault_length
+-- the line of a fault is no longer than one with a number in four bytes
+pub fault-few : (line number : ℕ) → length (fault_line line number) ≤ 13
 unfolding fault_line text
-fault-length line number = refl
+fault-few line number = by (nat_lt line (2 ^ 16))
+  where
+    by : (b : Bool) → length (text (0x8F ∷ bytes_high_first (if b then 2 else 4) line ++ number ∷ [])) ≤ 13
+    by true = omega arith
+    by false = omega arith
 
 module _ {c : Counts} where
   -- and make it

@@ -1,5 +1,5 @@
 -- An input writes one text, which is no longer than its room.
-use Rattle.std.specs.Prelude.{ℕ, zero, suc, ◌<◌, ◌≤◌, ◌≡◌, List, ◌++◌, length}
+use Rattle.std.specs.Prelude.{ℕ, zero, suc, ◌+◌, ◌<◌, ◌≤◌, ◌≡◌, List, ◌++◌, length}
 use Rattle.std.proofs.Math.Path.{ap₂}
 use Rattle.std.proofs.Common.{mul-le-mul, sym, ap, ◌∙◌, subst, length-append, arith}
 use Rattle.meaning.specs.Collection.{WellFormed}
@@ -12,18 +12,19 @@ use Rattle.reading.specs.Tables.{asks, entries, declared_by}
 use Rattle.reading.specs.File.{file_of, asked}
 use Rattle.reading.specs.Reading.{Verdict, faulty, sound, Reading}
 use Rattle.reading.specs.Reading as read
+use Rattle.reading.specs.Refusal.{refusal_number}
 use Rattle.reading.proofs.Questions.{question-once}
 use Rattle.reading.proofs.Bounds.{few}
 use Rattle.reading.proofs.Accepted.{reading-taken, whole-accepted}
 use Rattle.file.specs.declared.TheConstants.{MOST_TEXT}
-use Rattle.frames.specs.Text.{text}
-use Rattle.shell.specs.Faults.{fault_line}
 use Rattle.shell.specs.Writes.{fault, said}
 use Rattle.shell.proofs.WritesLaws as any
 use Rattle.file.specs.Text.{answer_line}
 use Rattle.file.specs.Rounds.{round_lines}
-use Rattle.file.specs.Writes.{Answers, Answered, collection_read, frames_width, FileRounds, RepliesTo, Writes}
-use Rattle.file.proofs.Widths.{is-width, round-room}
+use Rattle.intake.specs.Verdicts.{collection_read}
+use Rattle.file.specs.Writes.{Answers, Answered, frames_width, FileRounds, RepliesTo, Writes}
+use Rattle.file.proofs.Sound.{sound-read}
+use Rattle.file.proofs.Widths.{fault-few, is-width, round-room}
 use Rattle.file.proofs.Turns.{answered-length, answers-room}
 use Rattle.file.proofs.Rounds.{rounds-length, told-once, few-most}
 
@@ -53,12 +54,11 @@ writes-once {input} {x} {y} = any.writes-once (RepliesTo frames_width) (λ fs ta
 
 -- THEOREM: no text is longer than its room
 pub writes-length : {input out : List ℕ} → Writes input out → length out ≤ MOST_TEXT
-unfolding fault_line text
-writes-length (fault before n k) = omega arith
+writes-length (fault before r k) = omega (arith, fault-few (length before + 1) (refusal_number r))
 writes-length {input} (said fs x k s) =
     let q = s.question in
     let fine : 0 < entries asks fs → WellFormed (collection_read fs q) =
-    λ some. sound-well-formed (asked fs q 0) (whole-accepted input fs k q s.is 0 some) in
+    λ some. sound-well-formed (asked fs q 0) (whole-accepted input fs (sound-read k) q s.is 0 some) in
     let wide = is-width (declared_by fs) in
     let rounds = few-most s.told fine in
     omega (
@@ -69,5 +69,5 @@ writes-length {input} (said fs x k s) =
       mul-le-mul (round-room wide) rounds,
       answered-length wide (asked fs q) (entries asks fs) s.out s.answered,
       answers-room wide (λ k. (asked fs q k).ask) (entries asks fs),
-      few asks fs (reading-taken k read.none),
+      few asks fs (reading-taken (sound-read k) read.none),
     )

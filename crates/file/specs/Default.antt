@@ -9,7 +9,8 @@ use Rattle.frames.specs.declared.Frame.{Frame}
 use Rattle.reading.specs.Tables.{asks, entries, allowance_given}
 use Rattle.reading.specs.File.{asked}
 use Rattle.shell.specs.Writes.{IsSound}
-use Rattle.file.specs.Writes.{IsAsking, collection_read, Writes}
+use Rattle.intake.specs.Verdicts.{collection_read}
+use Rattle.file.specs.Writes.{IsAsking, Writes}
 use Rattle.file.specs.Told.{line_at, IsUnspent}
 use Rattle.file.specs.Laws.{TellsRounds}
 use Rattle.file.specs.Demands.{IsAsModelSays}

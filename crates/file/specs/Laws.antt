@@ -15,7 +15,8 @@ use Rattle.reading.specs.File.{IsQuestionOf, asked}
 use Rattle.shell.specs.Laws as any
 use Rattle.shell.specs.Writes.{IsSound, IsFaulty}
 use Rattle.file.specs.declared.TheConstants.{MOST_TEXT}
-use Rattle.file.specs.Writes.{IsAsking, collection_read, frames_width, SameButDeeds, RepliesTo, Writes}
+use Rattle.intake.specs.Verdicts.{collection_read}
+use Rattle.file.specs.Writes.{IsAsking, frames_width, SameButDeeds, RepliesTo, Writes}
 use Rattle.file.specs.Serves.{Serves}
 use Rattle.streams.specs.Lines.{lines}
 use Rattle.file.specs.Told.{line_in, rounds_in, line_at, TellsOutcome, IsRoundLine, IsFaultLine}
@@ -28,9 +29,9 @@ WritesOnce = (input text out : List ℕ) → Writes input text → Writes input 
 abbrev pub TextFits : Type 0
 TextFits = (input text : List ℕ) → Writes input text → length text ≤ MOST_TEXT
 
--- the first 1,010,665 bytes of an input, or more of them, write what the whole writes
+-- the first 3,238,889 bytes of an input, or more of them, write what the whole writes
 abbrev pub StartWrites : Type 0
-StartWrites = (input : List ℕ) (n : ℕ) → 1010665 ≤ n → (text : List ℕ)
+StartWrites = (input : List ℕ) (n : ℕ) → 3238889 ≤ n → (text : List ℕ)
     → Writes (take n input) text ↔ Writes input text
 
 -- two inputs that differ only in deed numbers write the same

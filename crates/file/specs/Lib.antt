@@ -8,3 +8,5 @@ pub mod Told
 pub mod Demands
 pub mod Laws
 pub mod Default
+pub mod LeftOut
+pub mod ByList

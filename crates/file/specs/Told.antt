@@ -8,11 +8,12 @@ use Rattle.kinds.specs.declared.Ask.TheVariants.{Pair, From}
 use Rattle.meaning.specs.Lent.{Call}
 use Rattle.meaning.specs.Outcome.{Outcome}
 use Rattle.streams.specs.Lines.{lines}
-use Rattle.frames.specs.Digits.{byte_of}
-use Rattle.frames.specs.Frames.{number_in, two_bytes}
+use Rattle.frames.specs.Digits.{bytes, byte_of}
+use Rattle.frames.specs.Frames.{number_in}
 use Rattle.reading.specs.declared.Refusal.{Refusal}
 use Rattle.reading.specs.Refusal.{refusal_number}
 use Rattle.reading.specs.Laws.{IsListed}
+use Rattle.shell.specs.Faults.{line_width}
 use Rattle.file.specs.Text.{count_width}
 
 -- line k of a text, counted from 0, with its end
@@ -28,12 +29,12 @@ abbrev pub line_at : ℕ → List ℕ → ℕ → List ℕ
 line_at asks text k = line_in text (rounds_in asks text + k)
 
 -- the characters of a line of a round, its end among them, where a count has so many bytes; of a
--- fault; of an answer; and of the first n answers
+-- fault, by the number of the faulty line; of an answer; and of the first n answers
 abbrev pub round_length : ℕ → ℕ
 round_length width = 2 * (1 + 2 * width) + 1
 
-abbrev pub fault_length : ℕ
-fault_length = 9
+abbrev pub fault_length : ℕ → ℕ
+fault_length line = 2 * (2 + line_width line) + 1
 
 abbrev pub answer_length : ℕ → Ask → ℕ
 answer_length width (Pair a b) = 2 * (4 + width) + 1
@@ -43,17 +44,20 @@ unfoldable pub answers_length : ℕ → (ℕ → Ask) → ℕ → ℕ
 answers_length width ask zero = 0
 answers_length width ask (suc n) = answers_length width ask n + answer_length width (ask n)
 
--- where the number stands on a line, an answer's or a fault's: at byte 3, and where one end is named
--- at byte 2
+-- where the number stands on a line of an answer: at byte 3, and where one end is named at byte 2
 abbrev pub number_place : List ℕ → ℕ
 number_place line = if nat_eq (byte_of line 0) 0x8E then 2 else 3
 
--- the number, and behind it the count on a line of an answer, high byte first
+-- the number, and behind it the count, high byte first
 abbrev pub number_on : List ℕ → ℕ
 number_on line = byte_of line (number_place line)
 
 abbrev pub count_on : ℕ → List ℕ → ℕ
 count_on width line = number_in width (byte_of line) (number_place line + 1)
+
+-- the number that refuses a line, on the line of its fault: the last byte
+abbrev pub refusal_on : List ℕ → ℕ
+refusal_on line = byte_of line (bytes line - 1)
 
 -- of so many answers none has number 3
 abbrev pub IsUnspent : ℕ → List ℕ → Type 0
@@ -86,11 +90,11 @@ pub record IsRoundLine (width number count : ℕ) (line : List ℕ) : Type 0 whe
   pub round : number_in width (byte_of line) 1 ≡ number
   pub marks : number_in width (byte_of line) (1 + width) ≡ count
 
--- a line of a fault: 8F, the number of the faulty line in two bytes, and the number that refuses it,
--- one of 4 to 14, but never 7
+-- a line of a fault: 8F, the number of the faulty line in two bytes or four, and the number that
+-- refuses it, one of 4 to 15, but never 7
 pub record IsFaultLine (number : ℕ) (refusal : Refusal) (line : List ℕ) : Type 0 where
-  pub long : length line ≡ fault_length
+  pub long : length line ≡ fault_length number
   pub kind : byte_of line 0 ≡ 0x8F
-  pub place : two_bytes (byte_of line) 1 ≡ number
-  pub refused : number_on line ≡ refusal_number refusal
-  pub listed : IsListed (number_on line)
+  pub place : number_in (line_width number) (byte_of line) 1 ≡ number
+  pub refused : refusal_on line ≡ refusal_number refusal
+  pub listed : IsListed (refusal_on line)

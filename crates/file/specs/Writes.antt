@@ -2,15 +2,15 @@
 -- or a line for each round and an answer for each ask.
 use Rattle.std.specs.Prelude.{ℕ, zero, suc, ◌≡◌, List, [], ◌++◌}
 use Rattle.kinds.specs.declared.Answer.{Answer}
-use Rattle.meaning.specs.Collection.{Collection}
-use Rattle.meaning.specs.Lent.{Call, collection}
+use Rattle.meaning.specs.Lent.{Call}
 use Rattle.meaning.specs.Outcome.{Outcome}
 use Rattle.expression.specs.Listed.{Listed}
 use Rattle.frames.specs.declared.Frame.{Frame}
 use Rattle.streams.specs.Lines.{lines}
 use Rattle.reading.specs.Tables.{asks, entries, declared_by, rounds_allowed}
-use Rattle.reading.specs.File.{IsQuestionOf, tables_of, asked}
+use Rattle.reading.specs.File.{IsQuestionOf, asked}
 use Rattle.reading.specs.Deeds.{SameLine, InStep}
+use Rattle.intake.specs.Verdicts.{collection_read}
 use Rattle.shell.specs.Writes.{IsSound, WritesOf}
 use Rattle.file.specs.Text.{count_width, answer_line}
 use Rattle.file.specs.Rounds.{round_lines, RoundsTold}
@@ -31,10 +31,6 @@ Answered width call (suc k) out =
 pub record IsAsking (input : List ℕ) (fs : List Frame) (q : Listed) : Type 0 where
   pub sound : IsSound input fs
   pub question : IsQuestionOf fs q
-
--- the collection that some frames type, with their question
-abbrev pub collection_read : List Frame → Listed → Collection
-collection_read fs q = collection (declared_by fs) (tables_of fs q)
 
 -- the rounds that are told of them
 abbrev pub FileRounds : List Frame → Listed → List ℕ → Type 0

@@ -10,8 +10,9 @@ ghost use Rattle.shell.specs.Writes.{IsSound, IsFaulty};
 ghost use Rattle.file.specs.Writes.{IsAsking, frames_width, FileRounds, SameButDeeds, Writes};
 ghost use Rattle.file.specs.Serves.{Serves, AppendsUnspent, FormerServes};
 ghost use Rattle.file.specs.Former.{FormerWrites, WasSound};
+ghost use Rattle.file.specs.LeftOut.{LeavesOutList};
 ghost use Rattle.streams.specs.Lines.{lines};
-ghost use Rattle.file.specs.Told.{round_length, answers_length, line_at, number_on, IsUnspent};
+ghost use Rattle.file.specs.Told.{round_length, answers_length, line_at, number_on, refusal_on, IsUnspent};
 ghost use Rattle.tables.specs.Asks.{read_ask};
 ghost use Rattle.expression.specs.Listed.{Listed};
 ghost use Rattle.frames.specs.declared.Frame.{Frame};
@@ -47,7 +48,7 @@ pub fn answer(input: &[u8], text: &mut [u8; MOST_TEXT]) -> usize
     ensures rest { drop result text.new ≡ drop result text.old }
 
     // The input writes no other text. A line has its number: of an answer 0, 1, 2 or 3, but 3 only where the file gives an
-    // allowance; of a fault one of 4 to 14, but never 7.
+    // allowance; of a fault one of 4 to 15, but never 7.
     ensures only { (out : List ℕ) → Writes input.now out → out ≡ take result text.new }
     ensures long { (fs : List Frame) (q : Listed) → IsAsking input.now fs q
         → (counts : List ℕ) → FileRounds fs q counts
@@ -63,11 +64,15 @@ pub fn answer(input: &[u8], text: &mut [u8; MOST_TEXT]) -> usize
     ensures unspent { (fs : List Frame) → IsSound input.now fs → allowance_given fs ≡ None
         → IsUnspent (entries asks fs) (take result text.new) }
     ensures fault { (before : List Frame) (r : Refusal) → IsFaulty input.now before r
-        → IsListed (number_on (take result text.new)) }
+        → IsListed (refusal_on (take result text.new)) }
 
     // An input that differs only in deed numbers writes the same.
     ensures deeds { (other : List ℕ) → SameButDeeds input.now other
         → Writes other (take result text.new) }
+
+    // A sound input without its list writes the same.
+    ensures list_left_out { (other : List ℕ) → LeavesOutList input.now other
+        → (fs : List Frame) → IsSound input.now fs → Writes other (take result text.new) }
 
     // An input that was read whole while there were at most 16 states writes what it wrote.
     ensures former { (fs : List Frame) → WasSound input.now fs
@@ -96,6 +101,11 @@ pub fn serve<S: Source + Drop, K: Sink>(source: S, sink: &mut K) -> Result<(), S
     // An input that differs only in deed numbers writes the same.
     ensures deeds { OnOk result (IfSome (S.remaining source) (λ input.
         (other : List ℕ) → SameButDeeds input other
+        → Serves other (Appends (K.contents sink.old) (K.contents sink.new)))) }
+
+    // A sound input without its list writes the same.
+    ensures list_left_out { OnOk result (IfSome (S.remaining source) (λ input.
+        (other : List ℕ) → LeavesOutList input other → (fs : List Frame) → IsSound input fs
         → Serves other (Appends (K.contents sink.old) (K.contents sink.new)))) }
 
     // An input that was read whole while there were at most 16 states writes what it wrote.

@@ -1,16 +1,18 @@
 // What is written of a file that was read whole: the lines of its rounds, as they are worked, and of its asks, answered
 // from one preparation.
-ghost use Rattle.std.specs.Prelude.{◌≡◌, ◌<◌, OnOk, IfErr};
+ghost use Rattle.std.specs.Prelude.{◌≡◌, ◌<◌, OnOk, IfErr, length};
 ghost use Rattle.reading.specs.Reads.{IsRead};
-ghost use Rattle.file.specs.Text.{bytes_of, round_line, answer_line, IsInBytes};
+ghost use Rattle.file.specs.Text.{bytes_of, answer_line, IsInBytes};
+ghost use Rattle.file.specs.Rounds.{told_line};
 ghost use Rattle.file.specs.Replying.{ask_count, held_width, IsLentOf, RoundsAll, AnswersEach, AnswersAll};
 ghost use Rattle.file.specs.Writes.{frames_width, RepliesTo};
 
 use crate::text;
 use crate::text::Width;
 use index::{Checked, Lent, Routes};
-use kinds::{Answer, Ask, MarkCount, RoundListener, Rounds};
+use kinds::{Answer, Ask, Rounds};
 use reading::{ASKS, File};
+use sheet::{RoundListener, RoundMarks};
 use shell::Report;
 use std::io;
 use streams::Taker;
@@ -37,21 +39,28 @@ impl<T: Taker> RoundListener for RoundLines<'_, T> {
 
     ghost hears = { λ old round marks new. (new.to.ghost_name ≡ old.to.ghost_name)
         × (new.width ≡ old.width)
-        × T.takes old.to.now (round_line (bytes_of old.width) round marks) new.to.now };
+        × T.takes old.to.now (told_line (bytes_of old.width) round (length marks)) new.to.now };
 
     ghost fails = { λ old round marks e new. (new.to.ghost_name ≡ old.to.ghost_name)
         × (new.width ≡ old.width)
-        × T.fails old.to.now (round_line (bytes_of old.width) round marks) e new.to.now };
+        × T.fails old.to.now (told_line (bytes_of old.width) round (length marks)) e new.to.now };
 
-    fn round_made(&mut self, round: Rounds, marks: MarkCount) -> io::Result<()> {
-        let line = text::round(self.width, round, marks);
-        self.to.put(line.as_slice())
+    fn round_made(&mut self, round: Rounds, marks: &RoundMarks) -> io::Result<()> {
+        if round == 0 {
+            // Its marks are states × concepts, and have no line.
+            Ok(())
+        } else {
+            let line = text::round(self.width, round, marks.count());
+            self.to.put(line.as_slice())
+        }
     }
 }
 
 // The rounds of a file that asks something told, and the answers to its asks, in their order. What was read passed the
 // library's tests line by line, so that they need not be made again, and nobody asks for the sheet, so that no area is lent.
-// The tables that walks go by are gone before the first answer is put.
+// The tables that walks go by are gone before the first answer is put. It is a call of its own, never put into its caller, so that
+// these tables are not there yet while a list is held against its sheet, which has tables like them.
+#[inline(never)]
 fn tell_rounds<T: Taker>(
     file: &File,
     lent: Lent,

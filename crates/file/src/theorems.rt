@@ -4,6 +4,8 @@ ghost use Rattle.file.specs.Laws.{WritesWithoutDeeds};
 ghost use Rattle.file.specs.Laws.{AsksAnswered, RoundsAreTold, NoRoundTold, FaultTold};
 ghost use Rattle.file.specs.Demands.{LinesSayAsModel, LinesSayOfExpression, LinesGrow, LinesReturn, RoundsSuffice};
 ghost use Rattle.file.specs.Former.{WritesAsItDid, WroteAsItDoes, FormerWritesOnce, FormerWritesSome};
+ghost use Rattle.file.specs.LeftOut.{ListChangesNothing, ListRefused};
+ghost use Rattle.file.specs.ByList.{LinesSayByList, RoundsToldByList};
 ghost use Rattle.file.specs.Default.{DefaultSuffices, NeverSpent, DefaultSaysAsModel, DefaultTellsAll};
 
 // One text, within its room; a start of the input decides it, and no deed number does.
@@ -39,6 +41,19 @@ pub fn default()
     ensures never_spent { NeverSpent }
     ensures model { DefaultSaysAsModel }
     ensures rounds { DefaultTellsAll }
+{}
+
+// Of a list at the end of an input: an accepted one changes nothing that is written, and one that is not that of the sheet is
+// told by number 15.
+pub fn list()
+    ensures changes_nothing { ListChangesNothing }
+    ensures refused { ListRefused }
+{}
+
+// Who has an accepted list has the answers, and what is told of the rounds.
+pub fn by_list()
+    ensures answers { LinesSayByList }
+    ensures rounds { RoundsToldByList }
 {}
 
 // Of what an input wrote while there were at most 16 states: a file that was read without fault writes what it wrote.

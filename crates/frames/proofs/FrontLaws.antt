@@ -70,11 +70,11 @@ own_length Allowance = inl refl
 own_length Expression = tt
 own_length kind = refl
 
-pub few_bytes : (kind : Kind) → (0 < frame_length kind) × (frame_length kind ≤ 6)
+pub few_bytes : (kind : Kind) → (0 < frame_length kind) × (frame_length kind ≤ 8)
 few_bytes kind = grind arith
 
--- a line of at most 12 characters, with its end behind it
-pub begins_line : (kind : Kind) (held : List ℕ) (n : ℕ) → n < length held → 0 < n → n ≤ 12 → n % 2 ≡ 0 → slice_index held n ≡ 0x0A
+-- a line of at most 16 characters, with its end behind it
+pub begins_line : (kind : Kind) (held : List ℕ) (n : ℕ) → n < length held → 0 < n → n ≤ 16 → n % 2 ≡ 0 → slice_index held n ≡ 0x0A
     → HasLength kind (n / 2) → BeginsLine kind held (take n held)
 begins_line kind held n within some near even end long =
     let e : length (take n held) ≡ n = omega (arith, length-take n held) in

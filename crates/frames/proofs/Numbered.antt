@@ -5,7 +5,7 @@ use Rattle.kinds.specs.Kinds.{concept_name, role_name, individual, state, signed
 use Rattle.frames.specs.Kinds.{kind_of}
 use Rattle.frames.specs.Written.{Field, byte, kind_in, kind_byte, fields, numbers_of, AreNumbered, FitsLine}
 use Rattle.frames.specs.declared.Frame.{Frame}
-use Rattle.frames.specs.declared.Frame.TheVariants.{Declared, ConceptRule, ConceptExclusion, RoleRule, RoleExclusion, ConceptFact, RoleFact, RoleStep, TestStep, Final, Ask, AskFrom, Allowance, Expression}
+use Rattle.frames.specs.declared.Frame.TheVariants.{Declared, ConceptRule, ConceptExclusion, RoleRule, RoleExclusion, ConceptFact, RoleFact, RoleStep, TestStep, Final, Ask, AskFrom, Allowance, Expression, ListedMark}
 use Rattle.frames.specs.declared.kind.Kind.{Kind}
 use Rattle.frames.specs.declared.kind.Kind.TheVariants as kind
 use Rattle.frames.proofs.Named.{kind-named}
@@ -33,6 +33,7 @@ module _ (row : List ℕ) where
   numbered kind.AskFrom = AskFrom (individual (n 0))
   numbered kind.Allowance = Allowance (n 0)
   numbered kind.Expression = Expression row
+  numbered kind.ListedMark = ListedMark (n 0) (state (n 1)) (state (n 2)) (concept_of (n 3))
 
 row-numbers : (row : List ℕ) → numbers (map byte row) ≡ row
 row-numbers [] = refl
@@ -42,6 +43,7 @@ row-numbers (x ∷ row) = ap (λ (l : List ℕ). x ∷ l) (row-numbers row)
 is_numbered : (f : Frame) → AreNumbered f → f ≡ numbered (numbers (fields f)) (kind_in f)
 is_numbered (ConceptRule C D) are = rw (are.0, are.1) refl
 is_numbered (ConceptExclusion C D) are = rw (are.0, are.1) refl
+is_numbered (ListedMark n s t B) are = rw are refl
 is_numbered (Expression row) are = ap Expression (sym (row-numbers row))
 is_numbered other are = refl
 

@@ -8,7 +8,7 @@ use Rattle.frames.specs.Frames.{number_in, two_bytes, marks_of, frame_by, FrameO
 use Rattle.frames.specs.Kinds.{kind_of, HasLength}
 use Rattle.frames.specs.Written.{Field, byte, kind_in, frame_bytes, line_of, FitsLine}
 use Rattle.frames.specs.declared.Frame.{Frame}
-use Rattle.frames.specs.declared.Frame.TheVariants.{Declared, ConceptRule, ConceptExclusion, RoleRule, RoleExclusion, ConceptFact, RoleFact, RoleStep, TestStep, Final, Ask, AskFrom, Allowance, Expression}
+use Rattle.frames.specs.declared.Frame.TheVariants.{Declared, ConceptRule, ConceptExclusion, RoleRule, RoleExclusion, ConceptFact, RoleFact, RoleStep, TestStep, Final, Ask, AskFrom, Allowance, Expression, ListedMark}
 use Rattle.frames.specs.declared.kind.Kind.{Kind}
 use Rattle.frames.proofs.FieldBytes.{frame-small, expression-bytes, row-fits, marks-row}
 use Rattle.frames.proofs.Lengths.{number_two, number_four, may_be_short}
@@ -96,6 +96,16 @@ same (Final s) fits = rw (low s.0 (fits.numbers 0 none (omega arith))) refl
 same (Ask a b) fits = let n = fits.numbers in rw (low a.0 (n 0 none (omega arith)), low b.0 (n 1 none (omega arith))) refl
 same (AskFrom a) fits = rw (low a.0 (fits.numbers 0 none (omega arith))) refl
 same (Allowance n) fits = ap Allowance (sym (four (at (Allowance n)) n (fits.numbers 0 none (omega arith)) refl refl refl refl))
+same (ListedMark n s t B) fits =
+    let m = fits.numbers in
+    let round = four (at (ListedMark n s t B)) n (m 0 none (omega arith)) refl refl refl refl in
+    rw (
+      low s.0 (m 1 none (omega arith)),
+      low t.0 (m 2 none (omega arith)),
+      low (number_of B) (m 3 none (omega arith)),
+      round,
+      fits.concepts,
+    ) refl
 same (Expression row) fits = same_marks row (frame_bytes (Expression row)) (expression-bytes row (row-fits row fits.numbers))
 
 -- the frame of a line whose bytes are known

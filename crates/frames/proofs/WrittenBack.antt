@@ -5,18 +5,23 @@ use Rattle.std.proofs.Common.{refl, sym, ap, ◌∙◌, arith, get_or, inl, inr}
 use Rattle.std.proofs.lemmas.List.Elements.{All-from_recursion, recursion_from_All}
 use Rattle.std.proofs.lemmas.List.FromFn.{get_or-map-range_with_len}
 use Rattle.laws.specs.First.{first-passed}
+use Rattle.kinds.specs.declared.Concept.{Concept}
+use Rattle.kinds.specs.declared.State.{State}
 use Rattle.kinds.specs.Kinds.{number_of, concept_of, number-concept}
 use Rattle.frames.specs.Digits.{bytes, byte_of, LineOk}
 use Rattle.frames.specs.Frames.{number_in, two_bytes, marks_of, frame_by, FrameOf}
 use Rattle.frames.specs.Kinds.{kind_of, HasLength}
 use Rattle.frames.specs.Text.{most_bytes}
-use Rattle.frames.specs.Written.{byte, kind_byte, fields, frame_bytes, line_of, IsNumbered, AreNumbered, FitsLine}
+use Rattle.frames.specs.Written.{byte, kind_byte, kind_in, fields, frame_bytes, line_of, IsNumbered, AreNumbered, FitsLine}
 use Rattle.frames.specs.declared.Frame.{Frame}
+use Rattle.frames.specs.declared.Frame.TheVariants as frame
 use Rattle.frames.specs.declared.kind.Kind.{Kind}
-use Rattle.frames.specs.declared.kind.Kind.TheVariants.{Declared, ConceptRule, ConceptExclusion, RoleRule, RoleExclusion, ConceptFact, RoleFact, RoleStep, TestStep, Final, Ask, AskFrom, Allowance, Expression}
+use Rattle.frames.specs.declared.kind.Kind.TheVariants.{Declared, ConceptRule, ConceptExclusion, RoleRule, RoleExclusion, ConceptFact, RoleFact, RoleStep, TestStep, Final, Ask, AskFrom, Allowance, Expression, ListedMark}
+use Rattle.frames.proofs.Ends.{length-line}
 use Rattle.frames.proofs.FieldBytes.{Holds, IsByte, row-bytes, fits-row, marks-bytes, marks-small}
 use Rattle.frames.proofs.Lengths.{number_two, number_four, marks_long, no_longer}
 use Rattle.frames.proofs.Named.{byte-named}
+use Rattle.frames.proofs.ReadBack.{own_long}
 use Rattle.frames.proofs.Spelled.{length-spelled, byte-small, spelled-bytes}
 
 -- what a line says that is read as a frame
@@ -43,10 +48,13 @@ module _ (at : ℕ → ℕ) (small : (k : ℕ) → IsByte (at k)) where
   two_small : (k : ℕ) → two_bytes at k < 2 ^ 16
   two_small k = omega (arith, number_two at k, small k, small (k + 1))
 
+  four_small : number_in 4 at 1 < 2 ^ 32
+  four_small = omega (arith, number_four at 1, two_small 1, two_small 3)
+
   -- an allowance of two bytes or of four
   rounds_small : (n : ℕ) → HasLength Allowance n → number_in (n - 1) at 1 < 2 ^ 32
   rounds_small n (inl e) = rw e (omega (arith, two_small 1))
-  rounds_small n (inr e) = rw e (omega (arith, number_four at 1, two_small 1, two_small 3))
+  rounds_small n (inr e) = rw e four_small
 
   concept_small : (k : ℕ) → number_of (concept_of (at k)) < 2 ^ 8
   concept_small k = rw (number-concept (at k)) (small k)
@@ -65,6 +73,7 @@ module _ (at : ℕ → ℕ) (small : (k : ℕ) → IsByte (at k)) where
   numbers n Ask long = (small 1, (small 2, tt))
   numbers n AskFrom long = (small 1, tt)
   numbers n Allowance long = (rounds_small n long, tt)
+  numbers n ListedMark long = (four_small, (small 5, (small 6, (concept_small 7, tt))))
   numbers n Expression long =
       let row = marks_of at (n - 1) in
       recursion_from_All Holds (map byte row) (fits-row row (marks-small at small (n - 1)))
@@ -75,6 +84,7 @@ module _ (at : ℕ → ℕ) (small : (k : ℕ) → IsByte (at k)) where
   concepts : (n : ℕ) (kind : Kind) → AreNumbered (frame_by at n kind)
   concepts n ConceptRule = (concept 1, concept 2)
   concepts n ConceptExclusion = (concept 1, concept 2)
+  concepts n ListedMark = concept 7
   concepts n other = tt
 
   short : (n : ℕ) (kind : Kind) → n ≤ most_bytes → length (frame_bytes (frame_by at n kind)) ≤ most_bytes
@@ -135,6 +145,8 @@ module _ (at : ℕ → ℕ) (small : (k : ℕ) → IsByte (at k)) where
   bytes-of_frame n AskFrom named long some whole = rw (long, ← named, own 1) refl
   bytes-of_frame n Allowance named long some whole =
       let b = rounds_bytes in rw (sym whole, ← named, b.0, b.1, b.2, b.3) refl
+  bytes-of_frame n ListedMark named long some whole =
+      let b = rounds_bytes in rw (long, ← named, b.0, b.1, b.2, b.3, own 5, own 6, concept_own 7) refl
   bytes-of_frame n Expression named long some whole =
       let row = marks_of at (n - 1) in
       rw (row-bytes row (marks-small at small (n - 1)), marks-bytes at (n - 1), named) (all_from (n - 1) n (omega arith))
@@ -162,3 +174,17 @@ line-is_written l f r e =
     rw w.is (bytes-of_frame (byte_of l) (byte-small l w.ok) (bytes l) w.kind named w.long (some_bytes l w.ok) (rw w.is at long)) in
     spelled-bytes l w.ok (frame_bytes f) long
     (λ k h. ap (λ bs. get_or bs k 0) are ∙ get_or-map-range_with_len (byte_of l) 0 (bytes l) k k 0 h (omega arith))
+
+kind-frame_by : (byte : ℕ → ℕ) (n : ℕ) (kind : Kind) → kind_in (frame_by byte n kind) ≡ kind
+kind-frame_by byte n Declared = refl
+kind-frame_by byte n other = refl
+
+-- a listed mark has one length
+pub listed-is_written : (l : List ℕ) (n : ℕ) (s t : State) (B : Concept) → FrameOf l (Ok (frame.ListedMark n s t B))
+    → l ≡ line_of (frame.ListedMark n s t B)
+listed-is_written l n s t B r =
+    let f = frame.ListedMark n s t B in
+    let w = is_read_as l f r in
+    let kind : ListedMark ≡ w.kind = ap kind_in w.is ∙ kind-frame_by (byte_of l) (bytes l) w.kind in
+    let long : bytes l ≡ 8 = rw (sym kind) at w.long in
+    line-is_written l f r (omega (arith, w.ok.even, length-line f, own_long f, long))

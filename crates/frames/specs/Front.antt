@@ -12,7 +12,7 @@ use Rattle.frames.specs.declared.kind.Kind.{Kind}
 pub record BeginsLine (kind : Kind) (held line : List ℕ) : Type 0 where
   pub is : line ≡ take (length line) held
   pub within : length line < length held
-  pub near : length line ≤ 12
+  pub near : length line ≤ 16
   pub end : slice_index held (length line) ≡ 0x0A
   pub measured : IsMeasured line
   pub long : HasLength kind (bytes line)

@@ -1,7 +1,10 @@
 -- The laws of a line's frame, and of a frame's line.
 use Rattle.std.specs.Prelude.{◌≡◌, ◌≤◌, ◌+◌, ◌*◌, ◌∷◌, ◌++◌, ℕ, List, Result, Some, Ok, length}
 use Rattle.streams.specs.Lines.{lines}
+use Rattle.kinds.specs.declared.Concept.{Concept}
+use Rattle.kinds.specs.declared.State.{State}
 use Rattle.frames.specs.declared.Frame.{Frame}
+use Rattle.frames.specs.declared.Frame.TheVariants.{ListedMark}
 use Rattle.frames.specs.declared.Misread.{Misread}
 use Rattle.frames.specs.declared.kind.Kind.{Kind}
 use Rattle.frames.specs.Frames.{FrameOf}
@@ -31,6 +34,11 @@ ReadFits = (line : List ℕ) (frame : Frame) → FrameOf line (Ok frame) → Fit
 abbrev pub LineIsWritten : Type 0
 LineIsWritten = (line : List ℕ) (frame : Frame) → FrameOf line (Ok frame)
     → length line ≡ length (line_of frame) → line ≡ line_of frame
+
+-- that of a listed mark is never shorter
+abbrev pub ListedIsWritten : Type 0
+ListedIsWritten = (line : List ℕ) (n : ℕ) (s t : State) (B : Concept)
+    → let frame = ListedMark n s t B in FrameOf line (Ok frame) → line ≡ line_of frame
 
 -- frames that fit a line and have the same numbers are the same
 abbrev pub NumbersTell : Type 0

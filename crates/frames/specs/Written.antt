@@ -8,7 +8,7 @@ use Rattle.frames.specs.Text.{characters, most_bytes}
 use Rattle.frames.specs.declared.kind.Kind.{Kind}
 use Rattle.frames.specs.declared.kind.Kind.TheVariants as kind
 use Rattle.frames.specs.declared.Frame.{Frame}
-use Rattle.frames.specs.declared.Frame.TheVariants.{Declared, ConceptRule, ConceptExclusion, RoleRule, RoleExclusion, ConceptFact, RoleFact, RoleStep, TestStep, Final, Ask, AskFrom, Allowance, Expression}
+use Rattle.frames.specs.declared.Frame.TheVariants.{Declared, ConceptRule, ConceptExclusion, RoleRule, RoleExclusion, ConceptFact, RoleFact, RoleStep, TestStep, Final, Ask, AskFrom, Allowance, Expression, ListedMark}
 
 -- the kind of a frame
 abbrev pub kind_in : Frame → Kind
@@ -26,6 +26,7 @@ kind_in (Ask a b) = kind.Ask
 kind_in (AskFrom a) = kind.AskFrom
 kind_in (Allowance n) = kind.Allowance
 kind_in (Expression row) = kind.Expression
+kind_in (ListedMark n s t B) = kind.ListedMark
 
 -- the byte that names a kind
 abbrev pub kind_byte : Kind → ℕ
@@ -43,13 +44,14 @@ kind_byte kind.Ask = 0x0B
 kind_byte kind.Allowance = 0x0C
 kind_byte kind.Expression = 0x0D
 kind_byte kind.AskFrom = 0x0E
+kind_byte kind.ListedMark = 0x10
 
 -- a field: in how many bytes it is written, and its number
 pub record Field : Type 0 where
   pub width : ℕ
   pub number : ℕ
 
--- a number in one byte; a deed number in two; an allowance in four
+-- a number in one byte; a deed number in two; rounds in four
 abbrev pub byte : ℕ → Field
 byte n = record { width = 1; number = n }
 
@@ -76,6 +78,7 @@ fields (Ask a b) = byte a.0 ∷ byte b.0 ∷ []
 fields (AskFrom a) = byte a.0 ∷ []
 fields (Allowance n) = rounds n ∷ []
 fields (Expression row) = map byte row
+fields (ListedMark n s t B) = rounds n ∷ byte s.0 ∷ byte t.0 ∷ byte (number_of B) ∷ []
 
 -- a frame as numbers: that of its kind, and those of its fields
 abbrev pub numbers_of : Frame → List ℕ
@@ -97,6 +100,7 @@ IsNumbered C = concept_of (number_of C) ≡ C
 abbrev pub AreNumbered : Frame → Type 0
 AreNumbered (ConceptRule C D) = IsNumbered C × IsNumbered D
 AreNumbered (ConceptExclusion C D) = IsNumbered C × IsNumbered D
+AreNumbered (ListedMark n s t B) = IsNumbered B
 AreNumbered other = ⊤
 
 -- a frame that a line can say: each number goes into the bytes of its field, a concept is that of

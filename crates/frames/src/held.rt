@@ -51,7 +51,7 @@ impl<'a> Held<'a> {
         if !kind.is_named(self.pairs.bytes[0]) {
             return None;
         }
-        let line = kind.line_of(self.characters)?;
+        let line = kind.line_at(self.characters)?;
         let mut reader = Reader::prepared(line, self.pairs);
         reader.byte();
         let frame = frame_of(kind, &mut reader);

@@ -8,9 +8,6 @@ ghost use Rattle.frames.specs.Written.{kind_byte};
 // The bytes that some frames may have more: those of a deed number, and of an allowance that has four.
 const MORE: usize = 2;
 
-// The characters of the longest line of a known length.
-const LONGEST: usize = 12;
-
 // Each kind at the byte that names it.
 #[derive(Clone, Copy, PartialEq, Eq)]
 pub enum Kind {
@@ -28,6 +25,7 @@ pub enum Kind {
     Allowance = 0x0C,
     Expression = 0x0D,
     AskFrom = 0x0E,
+    ListedMark = 0x10,
 }
 
 impl Kind {
@@ -52,6 +50,7 @@ impl Kind {
             0x0C => Kind::Allowance,
             0x0D => Kind::Expression,
             0x0E => Kind::AskFrom,
+            0x10 => Kind::ListedMark,
             _ => return None,
         };
         Some(kind)
@@ -96,6 +95,7 @@ impl Kind {
             Kind::Allowance => 3,
             Kind::Expression => 1,
             Kind::AskFrom => 2,
+            Kind::ListedMark => 8,
         }
     }
 
@@ -117,19 +117,18 @@ impl Kind {
     // The line of this kind at the front of some characters, where an end stands where a frame of the kind ends. The end
     // behind the marks of an expression, which may be anywhere, is not looked for.
     #[inline(always)]
-    pub(crate) fn line_of<'a>(self, held: &'a [u8]) -> Option<&'a [u8]>
+    pub(crate) fn line_at<'a>(self, held: &'a [u8]) -> Option<&'a [u8]>
         ensures { IfSome result (λ line. BeginsLine self held.now line.now) }
     {
-        if held.len() <= LONGEST {
-            return None;
-        }
         let own = 2 * self.length();
-        if held[own] == b'\n' {
+        if own < held.len() && held[own] == b'\n' {
             return Some(&held[..own]);
         }
         let noted = own + 2 * MORE;
         match self {
-            Kind::ConceptFact | Kind::RoleFact if held[noted] == b'\n' => Some(&held[..noted]),
+            Kind::ConceptFact | Kind::RoleFact if noted < held.len() && held[noted] == b'\n' => {
+                Some(&held[..noted])
+            }
             _ => None,
         }
     }

@@ -48,6 +48,7 @@ pub enum Frame {
     AskFrom(Individual),
     Allowance(Rounds),
     Expression(Marks),
+    ListedMark(Rounds, State, State, Concept),
 }
 
 impl Frame {
@@ -69,6 +70,7 @@ impl Frame {
             Frame::AskFrom(_) => Kind::AskFrom,
             Frame::Allowance(_) => Kind::Allowance,
             Frame::Expression(_) => Kind::Expression,
+            Frame::ListedMark(_, _, _, _) => Kind::ListedMark,
         }
     }
 }
@@ -127,6 +129,12 @@ pub(crate) fn frame_of(kind: Kind, reader: &mut Reader) -> Frame
         Kind::Allowance => Frame::Allowance(reader.allowance()),
         Kind::Expression => Frame::Expression(reader.marks()),
         Kind::AskFrom => Frame::AskFrom(reader.field()),
+        Kind::ListedMark => Frame::ListedMark(
+            reader.rounds(),
+            reader.field(),
+            reader.field(),
+            reader.field(),
+        ),
     }
 }
 

@@ -19,6 +19,9 @@ const BYTE: u16 = 256;
 // Numbers of two bytes are below it.
 const TWO_BYTES: Rounds = 65536;
 
+// The bytes of a long allowance.
+const LONG: usize = 4;
+
 // A line's slice, a place in it counted in bytes, and what the digits before that place have in common: it is below `BASE`
 // exactly where each character before the place is a digit. The bytes at the line's front are worked out already.
 #[derive(Drop)]
@@ -144,11 +147,24 @@ impl<'a> Reader<'a> {
             result ≡ number_in (bytes line - self.old.at) (byte_read line) self.old.at }
         ensures whole { ReadsWhole self.old self.new }
     {
-        let first = Rounds::from(self.number());
-        if self.is_at_end() {
-            return first;
+        if self.at + LONG == self.line.len() / 2 {
+            return self.rounds();
         }
-        TWO_BYTES * first + Rounds::from(self.number())
+        Rounds::from(self.number())
+    }
+
+    // A number of four bytes, high byte first.
+    #[tactic(auto, using(crate::proofs::Lengths::number_four))]
+    pub(crate) fn rounds(&mut self) -> Rounds
+        requires gathered { Gathered self.old }
+        requires inside { self.old.at + 3 < length self.old.line.now / 2 }
+        requires front { self.old.at + 3 < 8 }
+        ensures value { result ≡ number_in 4 (byte_read self.old.line.now) self.old.at }
+        ensures line { self.new.line ≡ self.old.line }
+        ensures at { self.new.at ≡ self.old.at + 4 }
+        ensures gathered { Gathered self.new }
+    {
+        TWO_BYTES * Rounds::from(self.number()) + Rounds::from(self.number())
     }
 
     // A field of one byte, as what it stands for.

@@ -9,9 +9,11 @@ use Rattle.meaning.specs.Deeds.{SameButDeeds}
 use Rattle.meaning.specs.Layout.{Lays}
 use Rattle.meaning.specs.Model.{Contradiction}
 use Rattle.meaning.specs.Lite.{lite}
+use Rattle.meaning.specs.Listing.{numbered_lite}
 use Rattle.meaning.proofs.DeedLaws.{one-collection, turned, shapes_kept, deeds-decide-nothing}
-use Rattle.theory.specs.Marks.{RoundCounts}
+use Rattle.theory.specs.Listing.{MarksByRound}
 use Rattle.theory.specs.Sheet as sheet
+use Rattle.sheet.specs.declared.round_marks.RoundMarks.{RoundMarks}
 use Rattle.index.specs.Preparation.{Preparation, with_tables, WhateverDeeds, collection_in, HasSheet, RoundsNeeded, Left}
 use Rattle.index.specs.Marks.{MarksTold}
 use Rattle.index.specs.Rounds.{HasRounds, NoRounds}
@@ -56,9 +58,9 @@ module _ (p : Preparation) (t : Tables) (s : SameButDeeds p.tables t) where
     spared = λ no. l.spared (λ h. no (forth h));
   }
 
-  told : {counts : List ℕ} → MarksTold p counts → MarksTold q counts
-  told {counts} m = record {
-    rounds = λ h n need. subst (λ 𝓔. RoundCounts (lite 𝓔) (min n p.allowance) counts) one (m.rounds (back h) n (need-back n need));
+  told : {rounds : List RoundMarks} → MarksTold p rounds → MarksTold q rounds
+  told {rounds} m = record {
+    marks = λ h n need. subst (λ 𝓔. MarksByRound (numbered_lite 𝓔) (min n p.allowance) rounds) one (m.marks (back h) n (need-back n need));
     none = λ no. m.none (λ h. no (forth h));
   }
 
@@ -92,7 +94,7 @@ module _ (p : Preparation) where
   left-whatever l t s = left p t s l
 
   -- THEOREM: what a listener is told
-  pub told-whatever : {counts : List ℕ} → MarksTold p counts → WhateverDeeds p (λ q. MarksTold q counts)
+  pub told-whatever : {rounds : List RoundMarks} → MarksTold p rounds → WhateverDeeds p (λ q. MarksTold q rounds)
   told-whatever m t s = told p t s m
 
   -- THEOREM: whether there are rounds needed that are allowed

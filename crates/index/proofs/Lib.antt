@@ -2,7 +2,7 @@ pub mod Joined
 pub mod Replies
 pub mod Telling
 pub mod Areas
-pub mod Counted
+pub mod Heard
 pub mod Outcomes
 pub mod ClausesHold
 pub mod Rows
@@ -10,3 +10,4 @@ pub mod Unique
 pub mod ToldOnce
 pub mod Settled
 pub mod Deeds
+pub mod ToldWhole

@@ -1,43 +1,70 @@
--- What a listener is told of a preparation: one row of counts, which with states × concepts make the sheet that is left.
+-- What a listener is told of a preparation: the marks of rounds, in one way; and how many they are, which with states × concepts
+-- make the sheet that is left.
 use Rattle.std.specs.Prelude.{◌≡◌, refl, List, [], ℕ, ◌≤◌, min, length}
-use Rattle.std.proofs.Common.{sym, ◌∙◌, arith}
+use Rattle.std.proofs.Common.{sym, ap, ◌∙◌, arith}
 use Rattle.laws.specs.Once.{AtMostOne}
 use Rattle.meaning.specs.Lite.{lite}
+use Rattle.meaning.specs.Listing.{numbered_lite}
 use Rattle.meaning.specs.Demands.{most_rounds}
 use Rattle.meaning.proofs.Demands.{rounds-suffice}
-use Rattle.meaning.proofs.LiteMarks.{lite-countable, lite-most, area-stands}
-use Rattle.theory.proofs.MarksLaws.{round-counts-once, counts-there}
+use Rattle.meaning.proofs.LiteMarks.{lite-most, area-stands}
+use Rattle.meaning.proofs.ListingLaws.{lite-rounds}
+use Rattle.theory.specs.Listing.{counts_of}
+use Rattle.theory.proofs.ListingLaws.{rounds-once, counts-by-round}
+use Rattle.theory.proofs.MarksLaws.{round-counts-once}
 use Rattle.theory.proofs.SheetLaws.{rounds-unique}
+use Rattle.sheet.specs.declared.round_marks.RoundMarks.{RoundMarks}
 use Rattle.index.specs.Preparation.{Preparation, collection_in, HasSheet, HoldsPrepared}
-use Rattle.index.specs.Marks.{MarksTold, MakesSheet, MarksStand, ToldAtMost}
+use Rattle.index.specs.Marks.{MarksTold, CountsTold, CountsOfMarks, MakesSheet, MarksStand, ToldAtMost}
 use Rattle.index.proofs.Unique.{well, dec-sheet}
 
 module _ (p : Preparation) where
-  -- THEOREM: two rows of counts that are told are equal
+  -- THEOREM: two tellings are equal
   pub told-once : AtMostOne (MarksTold p)
   told-once x y a b = by (dec-sheet p)
     where
       by : Dec (HasSheet p) → x ≡ y
       by (yes s) =
           let w = rounds-suffice (collection_in p) (well p s.fits) in
-          round-counts-once (lite (collection_in p)) (min w.0 p.allowance) x y (a.rounds s w.0 w.2) (b.rounds s w.0 w.2)
+          rounds-once (numbered_lite (collection_in p)) (min w.0 p.allowance) x y (a.marks s w.0 w.2) (b.marks s w.0 w.2)
       by (no n) = a.none n ∙ sym (b.none n)
 
-  -- THEOREM: there is such a row
-  pub told-there : (counts : List ℕ) × MarksTold p counts
+  -- THEOREM: there is one
+  pub told-there : (rounds : List RoundMarks) × MarksTold p rounds
   told-there = by (dec-sheet p)
     where
-      by : Dec (HasSheet p) → (counts : List ℕ) × MarksTold p counts
+      by : Dec (HasSheet p) → (rounds : List RoundMarks) × MarksTold p rounds
       by (yes s) =
           let w = rounds-suffice (collection_in p) (well p s.fits) in
-          let c = counts-there (lite (collection_in p)) (lite-countable (collection_in p) (well p s.fits)) (min w.0 p.allowance) in (
-            c.0,
+          let r = lite-rounds (collection_in p) (well p s.fits) (min w.0 p.allowance) in (
+            r.0,
             record {
-              rounds = λ h n need. let e = rounds-unique (lite (collection_in p)) n w.0 need w.2 in rw e c.1;
+              marks = λ h n need. let e = rounds-unique (lite (collection_in p)) n w.0 need w.2 in rw e r.1;
               none = λ n. absurd (n s);
             },
           )
-      by (no n) = ([], record { rounds = λ s. absurd (n s); none = λ h. refl })
+      by (no n) = ([], record { marks = λ s. absurd (n s); none = λ h. refl })
+
+  -- THEOREM: how many marks of all rounds but round 0 are told
+  pub told-counts : CountsOfMarks p
+  told-counts rounds t = record {
+    rounds = λ s n need. counts-by-round (numbered_lite (collection_in p)) (min n p.allowance) rounds (t.marks s n need);
+    none = λ no. ap counts_of (t.none no);
+  }
+
+  -- THEOREM: so there is a row of counts,
+  pub counts-there : (counts : List ℕ) × CountsTold p counts
+  counts-there = let t = told-there in (counts_of t.0, told-counts t.0 t.1)
+
+  -- THEOREM: and two are equal
+  pub counts-once : AtMostOne (CountsTold p)
+  counts-once x y a b = by (dec-sheet p)
+    where
+      by : Dec (HasSheet p) → x ≡ y
+      by (yes s) =
+          let w = rounds-suffice (collection_in p) (well p s.fits) in
+          round-counts-once (lite (collection_in p)) (min w.0 p.allowance) x y (a.rounds s w.0 w.2) (b.rounds s w.0 w.2)
+      by (no n) = a.none n ∙ sym (b.none n)
 
   -- THEOREM: with states × concepts they make the number of marks standing in the area that holds the sheet
   pub told-make : MakesSheet p

@@ -5,10 +5,11 @@ use Rattle.meaning.specs.Collection.{Collection}
 use Rattle.meaning.specs.Lent.{collection, ShapesOk, NumbersFit}
 use Rattle.meaning.specs.Model.{Contradiction}
 use Rattle.meaning.specs.Asks.{IsYes}
-use Rattle.theory.specs.Marks.{RoundCounts}
+use Rattle.theory.specs.Listing.{MarksByRound}
 use Rattle.theory.specs.Sheet.{Mark}
 use Rattle.theory.specs.Sheet as sheet
 use Rattle.meaning.specs.Lite.{lite}
+use Rattle.meaning.specs.Listing.{numbered_lite}
 use Rattle.meaning.specs.Layout.{area_length, Lays, zeros}
 use Rattle.kinds.specs.declared.Ask.{Ask}
 use Rattle.tables.specs.declared.collection.Collection as code
@@ -21,6 +22,7 @@ use Rattle.walk.specs.Covers.{Covers}
 use Rattle.walk.specs.Meant.{SheetOf}
 use Rattle.sets.specs.declared.concepts.ConceptSet.{ConceptSet}
 use Rattle.sets.specs.declared.states.StateSet.{StateSet}
+use Rattle.sheet.specs.declared.round_marks.RoundMarks.{RoundMarks}
 use Rattle.index.specs.declared.lent.Lent.{Lent}
 use Rattle.index.specs.declared.routes.Paths.{Paths}
 use Rattle.index.specs.declared.work.Found.{Found}
@@ -47,9 +49,9 @@ module _ (𝓒 : Collection) where
   abbrev pub Holds : ℕ → List ℕ → Type 0
   Holds n = Lays (Mark (lite 𝓒) n)
 
-  -- how many marks rounds 1 to n added
-  abbrev pub Counts : ℕ → List ℕ → Type 0
-  Counts = RoundCounts (lite 𝓒)
+  -- the marks that first stand in each of rounds 0 to n
+  abbrev pub ByRound : ℕ → List RoundMarks → Type 0
+  ByRound = MarksByRound (numbered_lite 𝓒)
 
 -- the transitions lead where steps down do; the edges are those of the role facts, by each role that
 -- leads anywhere
@@ -104,16 +106,16 @@ LeavesSecond found.Contradiction spare y = y ≡ spare
 LeavesSecond found.Spent spare y = y ≡ zeros
 LeavesSecond (found.Needed n r) spare y = y ≡ zeros
 
--- how many marks the rounds added that were made for it
-abbrev pub CountsOf : Lent → Found → List ℕ → Type 0
-CountsOf l found.Contradiction counts = counts ≡ []
-CountsOf l found.Spent counts = Counts (meant l.collection) l.allowance counts
-CountsOf l (found.Needed n r) counts = Counts (meant l.collection) n counts
+-- the marks of the rounds that were made for it, round 0 among them
+abbrev pub RoundsOf : Lent → Found → List RoundMarks → Type 0
+RoundsOf l found.Contradiction rounds = rounds ≡ []
+RoundsOf l found.Spent rounds = ByRound (meant l.collection) l.allowance rounds
+RoundsOf l (found.Needed n r) rounds = ByRound (meant l.collection) n rounds
 
--- the counts of all rounds that are made, up to those needed or allowed, begin so
-pub record BeginsCounts (l : Lent) (counts : List ℕ) : Type 0 where
+-- the marks of all rounds that are made, up to those needed or allowed, begin so
+pub record BeginsRounds (l : Lent) (rounds : List RoundMarks) : Type 0 where
   pub sane : Contradiction (meant l.collection) → ⊥
   pub n : ℕ
   pub needed : Needs (meant l.collection) n
-  pub rest : List ℕ
-  pub all : Counts (meant l.collection) (min n l.allowance) (counts ++ rest)
+  pub rest : List RoundMarks
+  pub all : ByRound (meant l.collection) (min n l.allowance) (rounds ++ rest)

@@ -4,6 +4,7 @@
 
 mod call;
 mod checked;
+mod closed;
 mod ground;
 mod lent;
 mod prepared;

@@ -14,7 +14,8 @@ use crate::checked::Checked;
 use crate::lent::Lent;
 use crate::routes::{Paths, Routes};
 use crate::work::{Found, settle};
-use kinds::{AREA, Answer, Ask, NoListener, RoundListener, Rounds};
+use kinds::{AREA, Answer, Ask, Rounds};
+use sheet::{NoListener, RoundListener};
 use std::marker::Model;
 use tables::{Record, Refusal, Table};
 use walk::{Answers, BATCH};
@@ -166,8 +167,8 @@ impl<'a> Lent<'a> {
         }
     }
 
-    // As `prepare`, but the listener is called after each round, with the number of marks that the round added.
-    // Where the listener fails, no more rounds are made, and both areas are as they came.
+    // As `prepare`, but the listener is told the marks of each round: of round 0 all that stand in it, and of each further round
+    // those that it adds. Where the listener fails, no more rounds are made, and both areas are as they came.
     pub fn prepare_telling<L: RoundListener>(
         &self,
         area: &mut [u8],
@@ -187,11 +188,12 @@ impl<'a> Lent<'a> {
         ensures told { OnOk result (ToldOf L.hears
             (MarksTold (prepared_of self.now area.old spare.old)) listener.old listener.new) }
 
-        // The counts told and states × concepts make the marks that stand in the first area.
+        // How many marks rounds 1 and on added and states × concepts make the marks that stand in
+        // the first area.
         ensures stand { OnOk result
             (MarksStand (prepared_of self.now area.old spare.old) area.new) }
 
-        // Where it fails, all counts up to the one that it failed at are of those to be told.
+        // Where it fails, all rounds up to the one that it failed at are of those to be told.
         ensures failed { IfErr result (λ e. FailedAmong L.hears L.fails
             (MarksTold (prepared_of self.now area.old spare.old)) listener.old e listener.new) }
         ensures area_kept { OnErr result (area.new ≡ area.old) }
@@ -230,7 +232,7 @@ impl<'a> Checked<'a> {
         ensures told { OnOk result (ToldOf L.hears
             (MarksTold (fitting_of self.now.lent)) listener.old listener.new) }
 
-        // Where it fails, all counts up to the one that it failed at are of those to be told.
+        // Where it fails, all rounds up to the one that it failed at are of those to be told.
         ensures failed { IfErr result (λ e. FailedAmong L.hears L.fails
             (MarksTold (fitting_of self.now.lent)) listener.old e listener.new) }
 

@@ -3,8 +3,11 @@ ghost use Rattle.std.specs.Prelude.{◌≡◌, ◌<◌, ℕ, List};
 ghost use Rattle.kinds.specs.declared.Ask.{Ask};
 ghost use Rattle.kinds.specs.declared.Answer.{Answer};
 ghost use Rattle.laws.specs.Once.{AtMostOne};
+ghost use Rattle.meaning.specs.Collection.{Collection, WellFormed};
 ghost use Rattle.index.specs.Preparation.{Preparation, Left};
-ghost use Rattle.index.specs.Marks.{MarksTold, MakesSheet, ToldAtMost};
+ghost use Rattle.sheet.specs.declared.round_marks.RoundMarks.{RoundMarks};
+ghost use Rattle.index.specs.Marks.{MarksTold, CountsTold, CountsOfMarks, MakesSheet, ToldAtMost};
+ghost use Rattle.index.specs.Marks.{SheetTold, SheetIsListed};
 ghost use Rattle.index.specs.Rounds.{HasRounds, NoRounds};
 ghost use Rattle.index.specs.Asked.{IsAnswer};
 ghost use Rattle.index.specs.Row.{InTurn};
@@ -35,12 +38,21 @@ pub fn areas()
     ensures by_answer { AnswerFixesAreas }
 {}
 
-// What a listener is told of a preparation: one row of counts, and what it comes to.
+// What a listener is told of a preparation: the marks of each round, how many they are, and what those numbers come to.
 pub fn told()
     ensures one_telling { (p : Preparation) → AtMostOne (MarksTold p) }
-    ensures a_telling { (p : Preparation) → (counts : List ℕ) × MarksTold p counts }
+    ensures a_telling { (p : Preparation) → (rounds : List RoundMarks) × MarksTold p rounds }
+    ensures counts_of_marks { (p : Preparation) → CountsOfMarks p }
+    ensures one_row { (p : Preparation) → AtMostOne (CountsTold p) }
+    ensures a_row { (p : Preparation) → (counts : List ℕ) × CountsTold p counts }
     ensures makes_sheet { (p : Preparation) → MakesSheet p }
     ensures at_most { (p : Preparation) → ToldAtMost p }
+{}
+
+// What a listener is told of a closed sheet: its list, whatever the collection.
+pub fn listed()
+    ensures one_telling { (c : Collection) → WellFormed c → AtMostOne (SheetTold c) }
+    ensures a_list { (c : Collection) → WellFormed c → SheetIsListed c }
 {}
 
 // Whether there are rounds needed that are allowed: one number, or one reason why not.

@@ -9,14 +9,14 @@ ghost use Rattle.sheet.specs.Heard.{ToldOf, FailedOf};
 ghost use Rattle.sheet.specs.Sheets.{IsRound};
 ghost use Rattle.sheet.specs.Areas.{LaysMarks};
 ghost use Rattle.index.specs.Works.{HasAreas, IsFound, LeavesFirst, LeavesSecond};
-ghost use Rattle.index.specs.Works.{CountsOf, BeginsCounts};
+ghost use Rattle.index.specs.Works.{RoundsOf, BeginsRounds};
 
 use crate::checked::Checked;
 use crate::ground::Ground;
 use crate::routes::{Paths, Routes};
-use kinds::{RoundListener, Rounds};
+use kinds::Rounds;
 use rules::Rows;
-use sheet::{Closing, Ran};
+use sheet::{Closing, Ran, RoundListener};
 
 // What is found of a collection that passed its tests.
 #[derive(Clone, Copy)]
@@ -41,8 +41,8 @@ fn leave(closing: &Closing, area: &mut [u8], spare: &mut [u8])
     closing.leave(area, spare);
 }
 
-// Works everything out in order: orders and elements, the contradiction test, the rounds against the allowance, each of which
-// is reported to the listener, and what walks follow. The tables are locals or lent, and are not copied.
+// Works everything out in order: orders and elements, the contradiction test, the rounds against the allowance, whose
+// marks the listener is told, and what walks follow. The tables are locals or lent, and are not copied.
 pub(crate) fn settle<'r, L: RoundListener>(
     checked: &Checked<'r>,
     area: &mut [u8],
@@ -56,9 +56,9 @@ pub(crate) fn settle<'r, L: RoundListener>(
     ensures second { HasAreas (length area.old) (length spare.old)
         → IfOk result (λ found. LeavesSecond found spare.old spare.new) }
     ensures told { IfOk result (λ found.
-        ToldOf L.hears (CountsOf checked.now.lent found) listener.old listener.new) }
+        ToldOf L.hears (RoundsOf checked.now.lent found) listener.old listener.new) }
     ensures failed { IfErr result (λ e.
-        FailedOf L.hears L.fails (BeginsCounts checked.now.lent) listener.old e listener.new) }
+        FailedOf L.hears L.fails (BeginsRounds checked.now.lent) listener.old e listener.new) }
     ensures area_kept { OnErr result (area.new ≡ area.old) }
     ensures spare_kept { OnErr result (spare.new ≡ spare.old) }
 {

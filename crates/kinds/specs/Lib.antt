@@ -1,4 +1,3 @@
 pub mod Kinds
 pub mod Asks
 pub mod Answer
-pub mod Told

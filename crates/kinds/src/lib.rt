@@ -6,10 +6,6 @@ ghost use Rattle.kinds.specs.Kinds.{most_roles, inverse, forward, backward, wrap
 ghost use Rattle.kinds.specs.Asks.{first_of};
 ghost use Rattle.kinds.specs.Answer.{answer_number, answer_count};
 
-mod listener;
-
-pub use listener::{NoListener, RoundListener};
-
 // A number of rounds, and the allowance of them.
 pub type Rounds = u32;
 

@@ -1,5 +1,5 @@
 -- With tables that differ only in deed numbers each call gives and leaves the same.
-use Rattle.std.specs.Prelude.{◌≡◌, List, ℕ, ◌≤◌, length, min}
+use Rattle.std.specs.Prelude.{◌≡◌, List, ℕ, ◌≤◌, min}
 use Rattle.std.proofs.Common.{sym, subst}
 use Rattle.kinds.specs.declared.Ask.{Ask}
 use Rattle.kinds.specs.declared.Answer.{Answer}
@@ -7,15 +7,15 @@ use Rattle.laws.specs.First.{First, fails, holds}
 use Rattle.theory.specs.Sheet.{Mark, Needed}
 use Rattle.theory.specs.Marks.{RoundCounts}
 use Rattle.meaning.specs.Collection.{Collection, NumbersDeclared}
-use Rattle.meaning.specs.Lent.{Tables, Call, Whole, ShapesOk, TablesFit, NumbersFit}
+use Rattle.meaning.specs.Lent.{Tables, Call, TablesFit, NumbersFit}
 use Rattle.meaning.specs.Layout.{Lays}
 use Rattle.meaning.specs.Lite.{lite}
 use Rattle.meaning.specs.Model.{Contradiction}
 use Rattle.meaning.specs.Deeds.{SameButDeeds, lent_with}
-use Rattle.meaning.proofs.DeedLaws.{one-collection, turned, deeds-decide-nothing}
+use Rattle.meaning.proofs.DeedLaws.{one-collection, turned, shapes_kept, deeds-decide-nothing}
 use Rattle.index.specs.Preparation.{Preparation, collection_in, HasSheet}
 use Rattle.index.specs.Asked.{asked}
-use Rattle.index.specs.Marks.{MarksTold}
+use Rattle.index.specs.Marks.{CountsTold}
 use Rattle.index.specs.Row.{InTurn, none, next}
 use Rattle.lampsaffron.specs.Boundary.{passed_with, Gives}
 use Rattle.lampsaffron.specs.Marks.{MarksNumber, Lent, TellsMarks}
@@ -39,21 +39,6 @@ in-turn-deeds {p} {ask} t s (next {n = n} {x = x} {y = y} r before told o) =
     next r (in-turn-deeds t s before) told ((deeds-decide-nothing (asked p (ask n) x y) t s r _ _).0 o)
 
 -- the tests 5 and 6 pass the one as the other
-whole-kept : {width most : ℕ} {t u : List ℕ} → length t ≡ length u → Whole width most t → Whole width most u
-whole-kept e w = record { unbroken = rw (← e) w.unbroken; few = rw (← e) w.few }
-
-shapes-kept : {t u : Tables} → SameButDeeds t u → ShapesOk t → ShapesOk u
-shapes-kept s h = record {
-  concept-rules = rw (← s.concept-rules) h.concept-rules;
-  concept-exclusions = rw (← s.concept-exclusions) h.concept-exclusions;
-  role-rules = rw (← s.role-rules) h.role-rules;
-  role-exclusions = rw (← s.role-exclusions) h.role-exclusions;
-  concept-facts = whole-kept s.concept-facts.long h.concept-facts;
-  role-facts = whole-kept s.role-facts.long h.role-facts;
-  steps = rw (← s.steps) h.steps;
-  finals = rw (← s.finals) h.finals;
-}
-
 module _ (p : Preparation) (t : Tables) (s : SameButDeeds p.tables t) where
   abbrev q : Preparation
   q = passed_with p t
@@ -62,7 +47,7 @@ module _ (p : Preparation) (t : Tables) (s : SameButDeeds p.tables t) where
   same = one-collection p.counts p.tables t s
 
   tables-to : TablesFit p.tables p.area p.spare → TablesFit t p.area p.spare
-  tables-to f = record { tables = shapes-kept s f.tables; area = f.area; spare = f.spare }
+  tables-to f = record { tables = shapes_kept s f.tables; area = f.area; spare = f.spare }
 
   numbers-to : NumbersFit p.counts p.tables → NumbersFit p.counts t
   numbers-to f = record { declared = subst NumbersDeclared same f.declared; step-kinds = rw (← s.steps) f.step-kinds }
@@ -100,7 +85,7 @@ module _ (p : Preparation) (t : Tables) (s : SameButDeeds p.tables t) where
       (holds (tables-to p t s f)
       (holds (numbers-to p t s n) (holds (subst (λ 𝓒. Contradiction 𝓒 → ⊥) alike k) (subst (Allows _) alike m)))))
 
-  told-deeds : {counts : List ℕ} → MarksTold p counts → MarksTold r counts
+  told-deeds : {counts : List ℕ} → CountsTold p counts → CountsTold r counts
   told-deeds {counts} m = record {
     rounds = λ h n need.
         subst (λ 𝓒. RoundCounts (lite 𝓒) (min n p.allowance) counts) alike

@@ -1,15 +1,13 @@
 -- The number of the call that tells how many marks each round made, and the row that it leaves.
-use Rattle.std.specs.Prelude.{◌≡◌, ◌≢◌, refl, List, [], ◌∷◌, ◌++◌, ℕ, suc, ◌+◌, ◌≤◌, ◌<◌, length, take, drop, slice_index}
-use Rattle.std.specs.Prelude.{slice_set, min, sum}
+use Rattle.std.specs.Prelude.{◌≡◌, ◌≢◌, refl, List, [], ◌∷◌, ℕ, zero, suc, ◌+◌, ◌-◌, ◌≤◌, length, take, drop}
+use Rattle.std.specs.Prelude.{map, min, sum}
 use Rattle.std.proofs.Math.Decide.{ℕ_discrete}
-use Rattle.std.proofs.Common.{⊎_elim, sym, subst, ap, ◌∙◌, inl, inr, arith, length-append}
-use Rattle.std.proofs.Math.Seq.{drop-cons, set-append_seam, take-append_seam, drop-append_seam}
-use Rattle.std.proofs.lemmas.List.{length-drop, append_assoc, take-append-drop}
+use Rattle.std.proofs.Common.{⊎_elim, sym, subst, ap, ◌∙◌, inl, inr, arith}
+use Rattle.std.proofs.lemmas.List.{length-drop, length-map, take-append-drop}
 use Rattle.kinds.specs.declared.Answer.{Answer}
 use Rattle.kinds.specs.declared.Counts.{Counts}
 use Rattle.kinds.specs.Answer.{answer_number}
 use Rattle.kinds.specs.Kinds.{CountsFit}
-use Rattle.kinds.specs.Told.{Told, Failed, none, next}
 use Rattle.laws.specs.First.{fails, holds, first-once}
 use Rattle.meaning.specs.Lent.{Tables}
 use Rattle.meaning.specs.Layout.{zeros, Standing}
@@ -20,13 +18,17 @@ use Rattle.meaning.proofs.Demands.{rounds-suffice}
 use Rattle.meaning.proofs.LayoutLaws.{lays-once}
 use Rattle.theory.proofs.SheetLaws.{rounds-unique}
 use Rattle.tables.specs.Lists.{lists}
+use Rattle.theory.specs.Listing.{counts_of}
+use Rattle.sheet.specs.declared.round_marks.RoundMarks.{RoundMarks}
 use Rattle.index.specs.declared.lent.Lent as index
 use Rattle.index.specs.Preparation.{Preparation, made_of, preparation, collection_in, HasSheet, RoundsNeeded, HoldsSheet}
 use Rattle.index.specs.Rounds.{HasRounds, NoRounds}
-use Rattle.index.proofs.ToldOnce.{told-once, told-make}
+use Rattle.index.proofs.ToldOnce.{counts-once, told-make}
 use Rattle.index.proofs.Unique.{well}
 use Rattle.lampsaffron.proofs.Told.{lent-is}
-use Rattle.lampsaffron.specs.Marks.{MarksNumber, WorksRounds, TellsFront, IsFront, Puts, Lent, left, TellsMarks}
+use Rattle.lampsaffron.specs.Front.{IsFront}
+use Rattle.lampsaffron.specs.Marks.{MarksNumber, WorksRounds, TellsFront, count_put, Lent, left, TellsMarks}
+use Rattle.lampsaffron.proofs.Front.{all_put}
 
 module _ (p : Preparation) (room : ℕ) where
   -- the number by why there are no rounds, or by what they are
@@ -83,54 +85,27 @@ module _ (p : Preparation) (room : ℕ) where
   pub number-once : (n m : ℕ) → MarksNumber p room n → MarksNumber p room m → n ≡ m
   number-once = first-once (first-once (first-once (first-once (first-once (first-once (λ n m h k. h ∙ sym k))))))
 
--- what is put one after the other stands at the front
-module _ {S N : Type 0} (row : S → List ℕ) (told : S → ℕ) (name : S → N) (hears : S → ℕ → ℕ → S → Type 0)
-    (puts : (x : S) (r m : ℕ) (y : S) → hears x r m y → (name y ≡ name x) × Puts m (row x) (told x) (row y) (told y)) where
-  pub record Held (from to : S) (counts : List ℕ) : Type 0 where
-    pub same : name to ≡ name from
-    pub many : told to ≡ length counts
-    pub few : length counts ≤ length (row from)
-    pub is : row to ≡ counts ++ drop (length counts) (row from)
+-- what is put of rounds are the counts of those after round 0
+abbrev pub put_count : ℕ → RoundMarks → List ℕ
+put_count round marks = count_put round (length marks)
 
-  pub held : {from to : S} {counts : List ℕ} → told from ≡ 0 → Told hears from counts to → Held from to counts
-  held z none = record { same = refl; many = z; few = omega arith; is = refl }
-  held {from = from} z (next {counts = counts} {at = at} {to = to} {m = m} t h) =
-      let v = held z t in
-      let q = puts at (suc (length counts)) m to h in
-      let long = ap length v.is ∙ length-append counts (drop (length counts) (row from)) in
-      let l = length-drop (length counts) (row from) in
-      let r = q.1.room in
-      let few : length counts < length (row from) = omega (arith, v.few, v.many, long, l, r) in
-      let more = length-append counts (m ∷ []) in
-      let rest = ap (λ (x : List ℕ). slice_set (counts ++ x) (length counts) m) (drop-cons (row from) (length counts) 0 few) in
-      let seam = set-append_seam counts (slice_index (row from) (length counts)) (drop (suc (length counts)) (row from)) m in
-      let e : length (counts ++ m ∷ []) ≡ suc (length counts) = omega (arith, more) in
-      record {
-        same = q.0 ∙ v.same;
-        many = omega (arith, q.1.more, v.many, more);
-        few = omega (arith, few, more);
-        is = rw e (q.1.put
-            ∙ (rw (v.is, v.many) refl ∙ (rest ∙ (seam ∙ sym (append_assoc counts (m ∷ []) (drop (suc (length counts)) (row from)))))));
-      }
+counts-after : (n : ℕ) (rounds : List RoundMarks) → all_put put_count (suc n) rounds ≡ map length rounds
+unfolding all_put
+counts-after n [] = refl
+counts-after n (marks ∷ rounds) = ap (λ l. length marks ∷ l) (counts-after (suc n) rounds)
 
-  pub front : {from to : S} {counts : List ℕ} → Held from to counts → IsFront counts (told to) (row from) (row to)
-  front {from} {to} {counts} h = record {
-    many = h.many;
-    front = rw (h.many, h.is) (take-append_seam counts (drop (length counts) (row from)));
-    rest = rw (h.many, h.is) (drop-append_seam counts (drop (length counts) (row from)));
-  }
+pub counts-put : (rounds : List RoundMarks) → all_put put_count 0 rounds ≡ counts_of rounds
+unfolding all_put
+counts-put [] = refl
+counts-put (marks ∷ rounds) = counts-after 0 rounds
 
-  -- where there is a place for each count, the listener does not fail
-  pub no-place : {E : Type 0} {fails : S → ℕ → ℕ → E → S → Type 0} {from to : S} {counts : List ℕ} {e : E}
-      → ((x : S) (r m : ℕ) (e : E) (y : S) → fails x r m e y → length (row x) ≤ told x) → told from ≡ 0
-      → Failed hears fails from counts e to → length counts ≤ length (row from) → ⊥
-  no-place {from = from} full z f l =
-      let h = held z f.told in
-      let g = full f.at _ _ _ _ f.failed in
-      let long = ap length h.is ∙ length-append f.before (drop (length f.before) (row from)) in
-      let d = length-drop (length f.before) (row from) in
-      let c = ap length f.all ∙ length-append f.before (f.last ∷ []) in
-      omega (arith, g, long, d, h.few, h.many, l, c)
+pub counts-long : (rounds : List RoundMarks) → length (counts_of rounds) ≡ length rounds - 1
+counts-long rounds = length-map (drop 1 rounds) length ∙ length-drop 1 rounds
+
+-- of a further round
+pub count-is : (round many : ℕ) → round ≢ 0 → count_put round many ≡ many ∷ []
+count-is zero many n = absurd (n refl)
+count-is (suc round) many n = refl
 
 -- no count leaves a row as it was
 pub none-put : (rounds : ℕ) (old new : List ℕ) → IsFront [] rounds old new → new ≡ old
@@ -228,7 +203,7 @@ module _ (p : Preparation) (old : Lent) where
           let spare = a.cleared w ∙ sym (b.cleared v) in
           let x = a.told w in
           let y = b.told v in
-          let c = told-once p x.0 y.0 x.1 y.1 in
+          let c = counts-once p x.0 y.0 x.1 y.1 in
           let r = x.2.many ∙ (ap length c ∙ sym y.2.many) in
           let f = sym (take-append-drop new.rounds new.marks) in
           let g = take-append-drop new'.rounds new'.marks in

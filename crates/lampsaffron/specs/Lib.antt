@@ -2,6 +2,9 @@ pub mod Boundary
 pub mod Row
 pub mod Asks
 pub mod Expression
+pub mod Front
 pub mod Marks
 pub mod Areas
 pub mod Same
+pub mod Listing
+pub mod Departs

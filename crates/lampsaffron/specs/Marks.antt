@@ -1,12 +1,13 @@
 -- What the call that tells how many marks each round made gives (docs/RULES.md, sections 6 and 7).
-use Rattle.std.specs.Prelude.{◌≡◌, ◌⊎◌, List, ℕ, ◌+◌, ◌≤◌, ◌<◌, length, take, drop, slice_set, min, [], ◌∷◌}
+use Rattle.std.specs.Prelude.{◌≡◌, ◌⊎◌, List, ℕ, zero, suc, ◌≤◌, length, min, [], ◌∷◌}
 use Rattle.kinds.specs.Kinds.{CountsFit}
 use Rattle.laws.specs.First.{FirstOf, ◌else◌}
 use Rattle.meaning.specs.Lent.{TablesFit, NumbersFit}
 use Rattle.meaning.specs.Layout.{zeros}
 use Rattle.meaning.specs.Model.{Contradiction}
 use Rattle.index.specs.Preparation.{Preparation, collection_in, RoundsNeeded, HoldsSheet}
-use Rattle.index.specs.Marks.{MarksTold}
+use Rattle.index.specs.Marks.{CountsTold}
+use Rattle.lampsaffron.specs.Front.{IsFront}
 
 -- the number given: of the first of these that fails; a row that has no place for each round that
 -- is allowed is 5
@@ -24,22 +25,15 @@ MarksNumber p room =
 abbrev pub WorksRounds : ℕ → Type 0
 WorksRounds number = (number ≡ 0) ⊎ (number ≡ 3)
 
--- so many counts stand at the front of a row, and its rest is as it was
-pub record IsFront (counts : List ℕ) (rounds : ℕ) (old new : List ℕ) : Type 0 where
-  pub many : rounds ≡ length counts
-  pub front : take rounds new ≡ counts
-  pub rest : drop rounds new ≡ drop rounds old
-
 -- what is told of a preparation stands so at the front of a row
 abbrev pub TellsFront : Preparation → ℕ → List ℕ → List ℕ → Type 0
 TellsFront p rounds old new =
-    (counts : List ℕ) × MarksTold p counts × IsFront counts rounds old new
+    (counts : List ℕ) × CountsTold p counts × IsFront counts rounds old new
 
--- a count is put into a row, after those that are told
-pub record Puts (m : ℕ) (old : List ℕ) (before : ℕ) (new : List ℕ) (after : ℕ) : Type 0 where
-  pub room : before < length old
-  pub put : new ≡ slice_set old before m
-  pub more : after ≡ before + 1
+-- what is put of a round: of round 0 nothing, and of each further round how many marks it added
+abbrev pub count_put : ℕ → ℕ → List ℕ
+count_put zero many = []
+count_put (suc round) many = many ∷ []
 
 -- what is left of what was lent: both areas, the row of counts, and how many it has
 pub record Lent : Type 0 where

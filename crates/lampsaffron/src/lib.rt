@@ -18,6 +18,8 @@ ghost use Rattle.lampsaffron.specs.Expression.{number_of, Makes, told_tables};
 
 pub mod areas;
 pub mod asks;
+pub mod departs;
+pub mod listing;
 pub mod marks;
 mod passed;
 pub mod same;

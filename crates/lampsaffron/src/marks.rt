@@ -7,11 +7,13 @@ ghost use Rattle.meaning.specs.LawsOfMarks.{first_marks};
 ghost use Rattle.meaning.specs.Deeds.{SameButDeeds};
 ghost use Rattle.index.specs.Preparation.{preparation, HasSheet, RoundsNeeded, HoldsSheet};
 ghost use Rattle.lampsaffron.specs.Boundary.{counted, passed, passed_with};
-ghost use Rattle.lampsaffron.specs.Marks.{MarksNumber, WorksRounds, TellsFront, Puts, left, TellsMarks};
+ghost use Rattle.lampsaffron.specs.Marks.{MarksNumber, WorksRounds, TellsFront, count_put, left, TellsMarks};
+ghost use Rattle.lampsaffron.specs.Front.{Puts};
 
 use crate::passed::Passed;
 use index::{Lent, Routes};
-use kinds::{MarkCount, RoundListener, Rounds};
+use kinds::{MarkCount, Rounds};
+use sheet::{RoundListener, RoundMarks};
 
 // A row that counts are put into, the first at its front, and how many it has been told.
 #[derive(Drop)]
@@ -27,18 +29,22 @@ struct Full;
 impl RoundListener for CountRow<'_> {
     type Error = Full;
 
-    ghost hears = { λ old _ m new. (new.counts.ghost_name ≡ old.counts.ghost_name)
-        × Puts m old.counts.now old.told new.counts.now new.told };
+    ghost hears = { λ old round marks new. (new.counts.ghost_name ≡ old.counts.ghost_name)
+        × Puts (count_put round (length marks)) old.counts.now old.told new.counts.now new.told };
 
-    ghost fails = { λ old _ _ _ _. length old.counts.now ≤ old.told };
+    ghost fails = { λ old round _ _ _. (round ≢ 0) × (length old.counts.now ≤ old.told) };
 
-    fn round_made(&mut self, _round: Rounds, marks: MarkCount) -> Result<(), Full> {
+    fn round_made(&mut self, round: Rounds, marks: &RoundMarks) -> Result<(), Full> {
+        // What stands in round 0 was added by no round.
+        if round == 0 {
+            return Ok(());
+        }
         let counts = &mut *self.counts;
         let at = self.told;
         if counts.len() <= at {
             return Err(Full);
         }
-        counts[at] = marks;
+        counts[at] = marks.count();
         self.told = at + 1;
         Ok(())
     }

@@ -10,6 +10,8 @@ ghost use Rattle.lampsaffron.specs.Asks.{Left, TellsAsks};
 ghost use Rattle.lampsaffron.specs.Expression.{Makes, Rows, TellsTables};
 ghost use Rattle.lampsaffron.specs.Marks.{Lent, TellsMarks};
 ghost use Rattle.lampsaffron.specs.Same.{SameNumber};
+ghost use Rattle.lampsaffron.specs.Listing.{Left as ListLeft, TellsListing};
+ghost use Rattle.lampsaffron.specs.Departs.{TellsDeparture, AcceptedIsGiven};
 ghost use Rattle.lampsaffron.specs.Areas.{TellsMoved, TellsBack};
 ghost use Rattle.lampsaffron.specs.Areas.{ThereAndBack, BackAndThere};
 ghost use Rattle.lampsaffron.specs.Areas.{RoundsMoved, RoundsMovedBack};
@@ -17,8 +19,8 @@ ghost use Rattle.expression.specs.Listed.{Listed};
 ghost use Rattle.expression.specs.Answer.{IsAutomatonOf};
 
 // What each call gives and leaves: of one ask, of a row of pairs, of a row of asks, of the marks of rounds, of the tables
-// of an expression, of two collections compared, and of an area moved and moved back. Of an expression also the number
-// alone, and the automaton.
+// of an expression, of two collections compared, of the list of a sheet and of where another departs from it, and of an
+// area moved and moved back. Of an expression also the number alone, and the automaton.
 pub fn unique()
     ensures one_call { (c : Call) (number number' count count' : ℕ) (x y u v : List ℕ)
         → Gives c number count x y → Gives c number' count' u v
@@ -40,6 +42,12 @@ pub fn unique()
         → (number ≡ number') × (new ≡ new') }
     ensures one_comparing { (c : Counts) (t : Tables) (d : Counts) (u : Tables)
         → AtMostOne (SameNumber c t d u) }
+    ensures one_giving { (c : Counts) (t : Tables) (old new new' : ListLeft) (number number' : ℕ)
+        → TellsListing c t old number new → TellsListing c t old number' new'
+        → (number ≡ number') × (new ≡ new') }
+    ensures one_departing { (c : Counts) (t : Tables) (list : List ℕ)
+        (old new new' number number' : ℕ) → TellsDeparture c t list old number new
+        → TellsDeparture c t list old number' new' → (number ≡ number') × (new ≡ new') }
     ensures one_moving { (stored old new new' : List ℕ) (number number' : ℕ)
         → TellsMoved stored old number new → TellsMoved stored old number' new'
         → (number ≡ number') × (new ≡ new') }
@@ -50,6 +58,11 @@ pub fn unique()
         → Makes row steps finals n → Makes row steps finals m → n ≡ m }
     ensures one_automaton { (row : List ℕ) (a b : Listed)
         → IsAutomatonOf row a → IsAutomatonOf row b → a ≡ b }
+{}
+
+// Of lists: the one call accepts what the other gives, and nothing else.
+pub fn listed()
+    ensures accepted_is_given { AcceptedIsGiven }
 {}
 
 // Of areas moved: each of the two calls undoes the other, and what holds the sheet of a collection after a round holds it

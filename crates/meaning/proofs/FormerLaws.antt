@@ -16,7 +16,7 @@ use Rattle.meaning.specs.LawsOfSheet.{Marked}
 use Rattle.meaning.specs.Former.{former_states, former_place, IsArea, most_counts, Placed, StandsIn, IsMoved, MarksAbove, IsFormer}
 use Rattle.meaning.specs.Former.{MovedThere, MovedOnce, MovedSame, BackSays, BackOnce, MovedExactly, HeldIsMoved, HeldIsMovedBack, FormerThere, MovedAfterRounds, BackAfterRounds}
 use Rattle.meaning.proofs.CalculateLaws.{sheet-lays-by}
-use Rattle.meaning.proofs.LayoutLaws.{bit_past_by, same_bit, lays-once-by, lays-once, state_of, next_of, concept_at, place_of, concept_declared, concept_declared-in, concept_declared-out, number-below, place-once-by, tested-lays}
+use Rattle.meaning.proofs.LayoutLaws.{bit_past_by, same_bit, lays-once-by, lays-once, state_of, next_of, concept_at, place_of, concept_declared, concept_declared-in, concept_declared-out, number-below, place-once-by, tested-lays, same-lays}
 use Rattle.meaning.proofs.RoundLaws.{marked-valid}
 
 fits : CountsFit most_counts
@@ -68,17 +68,6 @@ module _ (n : ℕ) where
         rw (e.0, e.1, e.2) at m,
     λ m. record { placed = low s t B m; one = (lays.marks (place_by n s t B)).1 (s, t, B, m, refl) },
   )
-
-  -- two sheets with the same marks are held by the same areas
-  same-lays : (f g : Sheet) (area : List ℕ) → ((s t : State) (B : Concept) → f s t B ↔ g s t B) → LaysBy n f area → LaysBy n g area
-  same-lays f g area same l = record {
-    long = l.long;
-    bytes = l.bytes;
-    marks = λ p. (
-      λ e. let w = (l.marks p).0 e in (w.0, w.1, w.2, (same w.0 w.1 w.2).0 w.3, w.4),
-      λ w. (l.marks p).1 (w.0, w.1, w.2, (same w.0 w.1 w.2).1 w.3, w.4),
-    );
-  }
 
   -- whether a mark stands in an area, as a test
   stands : List ℕ → State → State → Concept → Bool

@@ -1,5 +1,5 @@
 -- The area that holds a sheet: it can be computed, and there is only one.
-use Rattle.std.specs.Prelude.{◌≡◌, refl, Bool, List, ℕ, zero, suc, ◌+◌, ◌*◌, ◌/◌, ◌%◌, ◌^◌, ◌≤◌, ◌<◌, T, ltb, length, get_or}
+use Rattle.std.specs.Prelude.{◌≡◌, ◌↔◌, refl, Bool, List, ℕ, zero, suc, ◌+◌, ◌*◌, ◌/◌, ◌%◌, ◌^◌, ◌≤◌, ◌<◌, T, ltb, length, get_or}
 use Rattle.std.specs.Int.{bit_at}
 use Rattle.std.proofs.Common.{sym, ap, ◌∙◌, arith, ltb→lt, lt→ltb, ext_get_or}
 use Rattle.std.proofs.Math.Decide.{dec_lt}
@@ -58,6 +58,18 @@ lays-once-by n f = packs-once-by n (IsPlaceBy n f)
 
 pub lays-once : (f : State → State → Concept → Type 0) (x y : List ℕ) → Lays f x → Lays f y → x ≡ y
 lays-once = lays-once-by most_states
+
+-- two sheets with the same marks are held by the same areas
+pub same-lays : (n : ℕ) (f g : State → State → Concept → Type 0) (area : List ℕ) → ((s t : State) (B : Concept) → f s t B ↔ g s t B)
+    → LaysBy n f area → LaysBy n g area
+same-lays n f g area same l = record {
+  long = l.long;
+  bytes = l.bytes;
+  marks = λ p. (
+    λ e. let w = (l.marks p).0 e in (w.0, w.1, w.2, (same w.0 w.1 w.2).0 w.3, w.4),
+    λ w. (l.marks p).1 (w.0, w.1, w.2, (same w.0 w.1 w.2).1 w.3, w.4),
+  );
+}
 
 -- ---- an area from a test of its places
 

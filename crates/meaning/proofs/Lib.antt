@@ -26,6 +26,7 @@ pub mod LayoutLaws
 pub mod FormerLaws
 pub mod AreaLaws
 pub mod LiteMarks
+pub mod ListingLaws
 pub mod Calculate
 pub mod CalculateLaws
 pub mod BytesLaws

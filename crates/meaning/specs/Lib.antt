@@ -8,6 +8,7 @@ pub mod Leaving
 pub mod Asks
 pub mod Lite
 pub mod Walk
+pub mod Listing
 pub mod Layout
 pub mod Outcome
 -- What is demanded of it.
@@ -27,6 +28,7 @@ pub mod LawsOfSheet
 pub mod Bytes
 pub mod Former
 pub mod LawsOfMarks
+pub mod LawsOfListing
 pub mod LawsOfCalls
 pub mod LawsOfDeeds
 pub mod LawsOfWorlds

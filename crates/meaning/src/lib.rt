@@ -4,6 +4,7 @@
 
 pub mod calls;
 pub mod excluded;
+pub mod listing;
 pub mod model;
 pub mod orders;
 pub mod sheet;

@@ -1,5 +1,5 @@
 -- A file that is read whole is accepted: for each of its asks the library is lent a call that none of its tests 4, 5, 6 and 8 refuses.
-use Rattle.std.specs.Prelude.{ℕ, zero, suc, ◌+◌, ◌*◌, ◌/◌, ◌%◌, ◌<◌, ◌≤◌, ◌≡◌, ◌≢◌, ◌⊎◌, Option, None, Some, IfSome, is_some, cond, unwrap_or, length, get_or, drop}
+use Rattle.std.specs.Prelude.{⊤, ℕ, zero, suc, ◌+◌, ◌*◌, ◌/◌, ◌%◌, ◌<◌, ◌≤◌, ◌≡◌, ◌≢◌, ◌⊎◌, Option, None, Some, IfSome, is_some, cond, unwrap_or, length, get_or, drop}
 use Rattle.std.proofs.Math.Path.{refl}
 use Rattle.std.proofs.Common.{ap, sym, ◌∙◌, subst, inl, inr, get_or-drop, mul-zero, mul-suc, arith}
 use mathlib.Core.List.Memᴰ
@@ -24,8 +24,8 @@ use Rattle.streams.specs.Lines.{lines}
 use Rattle.kinds.specs.Asks.{AskDeclared}
 use Rattle.tables.specs.Asks.{ask_by}
 use Rattle.frames.specs.declared.Frame.{Frame}
-use Rattle.frames.specs.declared.Frame.TheVariants.{Declared, ConceptRule, ConceptExclusion, RoleRule, RoleExclusion, ConceptFact, RoleFact, RoleStep, TestStep, Final, Ask, AskFrom, Allowance, Expression}
-use Rattle.reading.specs.Tables.{Kind, concept_rules, concept_exclusions, role_rules, role_exclusions, concept_facts, role_facts, steps, finals, asks, record_in, width, most, entries, table, declared_by, expression_given}
+use Rattle.frames.specs.declared.Frame.TheVariants.{Declared, ConceptRule, ConceptExclusion, RoleRule, RoleExclusion, ConceptFact, RoleFact, RoleStep, TestStep, Final, Ask, AskFrom, Allowance, Expression, ListedMark}
+use Rattle.reading.specs.Tables.{Kind, concept_rules, concept_exclusions, role_rules, role_exclusions, concept_facts, role_facts, steps, finals, asks, listed, record_in, width, most, entries, table, declared_by, expression_given}
 use Rattle.reading.specs.File.{file_of, typed_question, IsQuestion, asked}
 use Rattle.reading.specs.Reading.{Verdict, sound, frames_of, Reading, empty, whole, stopped, onward, Taken, none, more}
 use Rattle.reading.proofs.TableLaws.{record-width, entries-cons, table-length}
@@ -47,6 +47,8 @@ module _ (c : Counts) (n : ℕ → ℕ) where
   Passes steps = (n 0 ≤ 1) × StepDeclared c (step (state (n 1)) (letter_of (n 0) (n 2)) (state (n 3)))
   Passes finals = StateDeclared c (state (n 0))
   Passes asks = AskDeclared c (ask_by (n 0) (n 1) (n 2))
+  -- the list is lent to no call
+  Passes listed = ⊤
 
 -- the numbers of a record that stands first in a list
 abbrev numbers : List ℕ → ℕ → ℕ
@@ -63,8 +65,8 @@ concepts-pass c k C D h = rw (concept-number c k.names C h.0, concept-number c k
 
 module _ (before : List Frame) (t : Taken before) (l : List ℕ) where
   taken-passes : (kind : Kind) (f : Frame) → Passed before f → FramePasses (declared_by before) f kind l
-  taken-passes concept_rules (ConceptRule C D) p = concepts-pass (declared_by before) (fitting before t p.in_place) C D p.numbers
-  taken-passes concept_exclusions (ConceptExclusion C D) p = concepts-pass (declared_by before) (fitting before t p.in_place) C D p.numbers
+  taken-passes concept_rules (ConceptRule C D) p = concepts-pass (declared_by before) (fitting before t p.in_place.begun) C D p.numbers
+  taken-passes concept_exclusions (ConceptExclusion C D) p = concepts-pass (declared_by before) (fitting before t p.in_place.begun) C D p.numbers
   taken-passes role_rules (RoleRule R S) p = p.numbers
   taken-passes role_exclusions (RoleExclusion R S) p = p.numbers
   taken-passes concept_facts (ConceptFact A a n) p = p.numbers
@@ -74,6 +76,7 @@ module _ (before : List Frame) (t : Taken before) (l : List ℕ) where
   taken-passes finals (Final u) p = p.numbers
   taken-passes asks (Ask a b) p = p.ask
   taken-passes asks (AskFrom a) p = p.ask
+  taken-passes listed (ListedMark n u v B) p = tt
   taken-passes kind f p = tt
 
 -- every record of some frames passes by line 1's counts, whatever follows it in its table
@@ -105,12 +108,14 @@ passing-more before f t p h g m kind l = side (Memᴰ.append_cases before m)
         none-of steps = tt
         none-of finals = tt
         none-of asks = tt
-    new (Allowance n) q go = go q.in_place.0
-    new (RoleStep s R u) q go = go q.in_place.0
-    new (TestStep s A u) q go = go q.in_place.0
-    new (Final s) q go = go q.in_place.0
-    new (Expression row) q go = go q.in_place.0
-    new o q go = go q.in_place
+        none-of listed = tt
+    new (Allowance n) q go = go q.in_place.0.begun
+    new (RoleStep s R u) q go = go q.in_place.0.begun
+    new (TestStep s A u) q go = go q.in_place.0.begun
+    new (Final s) q go = go q.in_place.0.begun
+    new (Expression row) q go = go q.in_place.0.begun
+    new (ListedMark n s u B) q go = go q.in_place
+    new o q go = go q.in_place.begun
 
     last : (g ≡ f) ⊎ (g ∈ []) → FramePasses (declared_by (before ++ f ∷ [])) g kind l
     last (inl e) = rw e (new f p later)

@@ -1,10 +1,10 @@
--- Frames that are taken stay within the most of each table, so that there are at most 7,714 of them.
+-- Frames that are taken stay within the most of each table, so that there are at most 138,786 of them.
 use Rattle.std.specs.Prelude.{ℕ, ◌+◌, ◌<◌, ◌≤◌, ◌≡◌, Bool, true, false, List, [], ◌∷◌, ◌++◌, Option, None, Some, cond, is_some, length, count_by}
 use Rattle.std.proofs.Common.{refl, ap, arith}
 use Rattle.std.proofs.lemmas.List.Sums.{sum_by-cons, sum_by_push}
 use Rattle.frames.specs.declared.Frame.{Frame}
-use Rattle.frames.specs.declared.Frame.TheVariants.{Declared, ConceptRule, ConceptExclusion, RoleRule, RoleExclusion, ConceptFact, RoleFact, RoleStep, TestStep, Final, Ask, AskFrom, Allowance, Expression}
-use Rattle.reading.specs.Tables.{Kind, concept_rules, concept_exclusions, role_rules, role_exclusions, concept_facts, role_facts, steps, finals, asks, record_in, most, entries, table, is_declared, is_allowance, is_expression, allowance_given, expression_given}
+use Rattle.frames.specs.declared.Frame.TheVariants.{Declared, ConceptRule, ConceptExclusion, RoleRule, RoleExclusion, ConceptFact, RoleFact, RoleStep, TestStep, Final, Ask, AskFrom, Allowance, Expression, ListedMark}
+use Rattle.reading.specs.Tables.{Kind, concept_rules, concept_exclusions, role_rules, role_exclusions, concept_facts, role_facts, steps, finals, asks, listed, record_in, most, most_lines, entries, table, is_declared, is_allowance, is_expression, allowance_given, expression_given}
 use Rattle.reading.specs.Reading.{Taken}
 use Rattle.reading.specs.Laws.{Within}
 use Rattle.reading.proofs.TableLaws.{added, entries-more, entries-cons, table-length}
@@ -112,7 +112,7 @@ abbrev kinds : Frame → ℕ
 kinds f =
     cond (is_declared f) 1 0 + cond (is_allowance f) 1 0 + cond (is_expression f) 1 0
     + added concept_rules f + added concept_exclusions f + added role_rules f + added role_exclusions f + added concept_facts f
-    + added role_facts f + added steps f + added finals f + added asks f
+    + added role_facts f + added steps f + added finals f + added asks f + added listed f
 
 one-kind : (f : Frame) → kinds f ≡ 1
 one-kind (Declared c) = refl
@@ -129,31 +129,32 @@ one-kind (Ask a b) = refl
 one-kind (AskFrom a) = refl
 one-kind (Allowance n) = refl
 one-kind (Expression row) = refl
+one-kind (ListedMark n s t B) = refl
 
 all : List Frame → ℕ
 all fs =
     count_by is_declared fs + count_by is_allowance fs + count_by is_expression fs
     + entries concept_rules fs + entries concept_exclusions fs + entries role_rules fs + entries role_exclusions fs + entries concept_facts fs
-    + entries role_facts fs + entries steps fs + entries finals fs + entries asks fs
+    + entries role_facts fs + entries steps fs + entries finals fs + entries asks fs + entries listed fs
 
 all-cons : (f : Frame) (fs : List Frame) → all (f ∷ fs) ≡ kinds f + all fs
 unfolding all
 all-cons f fs =
-    omega (arith, count-cons is_declared f fs, count-cons is_allowance f fs, count-cons is_expression f fs, entries-cons concept_rules f fs, entries-cons concept_exclusions f fs, entries-cons role_rules f fs, entries-cons role_exclusions f fs, entries-cons concept_facts f fs, entries-cons role_facts f fs, entries-cons steps f fs, entries-cons finals f fs, entries-cons asks f fs)
+    omega (arith, count-cons is_declared f fs, count-cons is_allowance f fs, count-cons is_expression f fs, entries-cons concept_rules f fs, entries-cons concept_exclusions f fs, entries-cons role_rules f fs, entries-cons role_exclusions f fs, entries-cons concept_facts f fs, entries-cons role_facts f fs, entries-cons steps f fs, entries-cons finals f fs, entries-cons asks f fs, entries-cons listed f fs)
 
 all-length : (fs : List Frame) → length fs ≤ all fs
 all-length [] = omega arith
 all-length (f ∷ fs) = omega (arith, all-length fs, all-cons f fs, one-kind f)
 
--- the most lines of a sound file: line 1, the allowance, and as many as the tables have records; 7,714
-abbrev pub most_lines : ℕ
-most_lines = 2 + most concept_rules + most concept_exclusions + most role_rules + most role_exclusions + most concept_facts + most role_facts + most steps + most finals + most asks
+-- a file has at most 7,714 lines beside its list
+pub beside_list : (fs : List Frame) → Within fs → length fs ≤ 7714 + entries listed fs
+unfolding all
+beside_list fs w =
+    omega (arith, all-length fs, w.declared, w.allowances, w.expressions, w.few concept_rules, w.few concept_exclusions, w.few role_rules, w.few role_exclusions, w.few concept_facts, w.few role_facts, w.few finals, w.few asks)
 
 -- THEOREM: any frames within that are at most as many
 pub bounded-lines : (fs : List Frame) → Within fs → length fs ≤ most_lines
-unfolding all
-bounded-lines fs w =
-    omega (arith, all-length fs, w.declared, w.allowances, w.expressions, w.few concept_rules, w.few concept_exclusions, w.few role_rules, w.few role_exclusions, w.few concept_facts, w.few role_facts, w.few finals, w.few asks)
+bounded-lines fs w = omega (arith, beside_list fs w, w.few listed)
 
 -- THEOREM: a file has at most that many lines before its first faulty one
 pub within-lines : (fs : List Frame) → Taken fs → length fs ≤ most_lines

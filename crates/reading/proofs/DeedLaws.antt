@@ -8,17 +8,18 @@ use Rattle.meaning.specs.Lent.{concept_fact_width, role_fact_width}
 use Rattle.meaning.specs.Deeds.{SameButLast, SameButDeeds}
 use Rattle.expression.specs.Listed.{Listed}
 use Rattle.frames.specs.declared.Frame.{Frame}
-use Rattle.frames.specs.declared.Frame.TheVariants.{Declared, ConceptFact, RoleFact, RoleStep, TestStep, Final, Allowance, Expression}
+use Rattle.frames.specs.declared.Frame.TheVariants.{Declared, ConceptFact, RoleFact, RoleStep, TestStep, Final, Allowance, Expression, ListedMark}
 use Rattle.frames.proofs.Once.{frame-once}
 use Rattle.reading.specs.declared.Refusal.{Refusal}
 use Rattle.reading.specs.declared.Refusal.TheVariants.{OutOfPlace}
-use Rattle.reading.specs.Tables.{Kind, concept_rules, concept_exclusions, role_rules, role_exclusions, concept_facts, role_facts, steps, finals, record_in, width, entries, table, declared_by, allowance_given, expression_given}
+use Rattle.reading.specs.Tables.{Kind, concept_rules, concept_exclusions, role_rules, role_exclusions, concept_facts, role_facts, steps, finals, listed, record_in, width, entries, table, declared_by, allowance_given, expression_given}
 use Rattle.reading.specs.File.{IsQuestionOf, tables_of}
-use Rattle.reading.specs.Judged.{InPlace, CountsOk, HasRoom, NumbersOk, AskOk, IsShallow, IsExpressed, IsShaped, Judged}
+use Rattle.reading.specs.Judged.{IsOpen, InPlace, CountsOk, HasRoom, NumbersOk, AskOk, IsShallow, IsExpressed, IsShaped, Judged}
 use Rattle.reading.specs.Reading.{Finds, unread, refused, taken, Verdict, faulty, sound, Reading, empty, whole, stopped, onward}
 use Rattle.reading.specs.Deeds.{SameButDeed, same, concept, role, SameLine, same-line, same-facts, InStep, ended, next, SameVerdict, both-faulty, both-sound, ConceptFactsKept, RoleFactsKept}
 use Rattle.reading.proofs.TableLaws.{added, entries-append, entries-cons, table-append, record-width}
 use Rattle.reading.proofs.Judging.{first-same}
+use Rattle.reading.proofs.ListLaws.{none-counted}
 
 abbrev pub Alike : List Frame → List Frame → Type 0
 Alike = InStep SameButDeed
@@ -189,9 +190,17 @@ module _ {before after : List Frame} (s : Alike before after) where
   some-before : (before ≢ []) ↔ (after ≢ [])
   some-before = (λ n e. n ((alike-none s).1 e), λ n e. n ((alike-none s).0 e))
 
+  -- and no list in the one where there is none in the other
+  open-same : IsOpen before ↔ IsOpen after
+  open-same =
+      let e = entries-same listed s in (
+        λ h. record { begun = some-before.0 h.begun; no_list = (none-counted after).0 (sym e ∙ (none-counted before).1 h.no_list) },
+        λ h. record { begun = some-before.1 h.begun; no_list = (none-counted before).0 (e ∙ (none-counted after).1 h.no_list) },
+      )
+
   -- a part of a test that holds of both
-  not-none : {P Q : Type 0} → (P → Q) → (Q → P) → ((before ≢ []) × P) ↔ ((after ≢ []) × Q)
-  not-none to from = (λ h. (some-before.0 h.0, to h.1), λ h. (some-before.1 h.0, from h.1))
+  not-none : {P Q : Type 0} → (P → Q) → (Q → P) → (IsOpen before × P) ↔ (IsOpen after × Q)
+  not-none to from = (λ h. (open-same.0 h.0, to h.1), λ h. (open-same.1 h.0, from h.1))
 
   none-typed : (expression_given before ≡ None) ↔ (expression_given after ≡ None)
   none-typed = let e = expression-same s in (λ h. sym e ∙ h, λ h. e ∙ h)
@@ -205,12 +214,13 @@ module _ {before after : List Frame} (s : Alike before after) where
   place-same (same (Expression row)) =
       let d = table-same steps tt s in
       let e = table-same finals tt s in (
-        λ h. (some-before.0 h.0, none-typed.0 h.1, sym d ∙ h.2, sym e ∙ h.3),
-        λ h. (some-before.1 h.0, none-typed.1 h.1, d ∙ h.2, e ∙ h.3),
+        λ h. (open-same.0 h.0, none-typed.0 h.1, sym d ∙ h.2, sym e ∙ h.3),
+        λ h. (open-same.1 h.0, none-typed.1 h.1, d ∙ h.2, e ∙ h.3),
       )
-  place-same (same f) = some-before
-  place-same (concept A a n m) = some-before
-  place-same (role r a b n m) = some-before
+  place-same (same (ListedMark n p t B)) = some-before
+  place-same (same f) = open-same
+  place-same (concept A a n m) = open-same
+  place-same (role r a b n m) = open-same
 
   counts-same : {f g : Frame} → SameButDeed f g → CountsOk f ↔ CountsOk g
   counts-same (same f) = (λ h. h, λ h. h)

@@ -1,6 +1,6 @@
 -- What a file was found to be while there were at most 16 states, beside what it is found to be today.
-use Rattle.std.specs.Prelude.{ℕ, ◌<◌, ◌≤◌, ◌≡◌, ◌≢◌, ◌↔◌, ◌+◌, ◌⊎◌, All, List, [], ◌∷◌, ◌++◌, Result, Ok, Err, length}
-use Rattle.std.proofs.Common.{refl, sym, ap, ◌∙◌, arith, inl, inr, append-nil, append_assoc}
+use Rattle.std.specs.Prelude.{ℕ, ◌<◌, ◌≤◌, ◌≡◌, ◌≢◌, ◌↔◌, ◌+◌, ◌⊎◌, All, IsSome, List, [], ◌∷◌, ◌++◌, Result, Ok, Err, length}
+use Rattle.std.proofs.Common.{refl, ap, ◌∙◌, arith, inl, inr, append_assoc}
 use Rattle.std.proofs.lemmas.List.Elements.{All-nil, All-cons, All-head, All-tail}
 use Rattle.std.proofs.Math.Decide.{ℕ_discrete, dec_le, dec_lt}
 use Rattle.kinds.specs.declared.Counts.{Counts}
@@ -8,19 +8,20 @@ use Rattle.laws.specs.First.{fails, holds}
 use Rattle.frames.specs.Digits.{bytes}
 use Rattle.frames.specs.Frames.{FrameOf}
 use Rattle.frames.specs.declared.Frame.{Frame}
-use Rattle.frames.specs.declared.Frame.TheVariants.{Declared, RoleStep, TestStep, Final, Allowance}
+use Rattle.frames.specs.declared.Frame.TheVariants.{Declared, RoleStep, TestStep, Final, Allowance, ListedMark}
 use Rattle.frames.specs.declared.Misread.{Misread}
 use Rattle.frames.proofs.Once.{frame-once}
 use Rattle.reading.specs.declared.Refusal.{Refusal}
-use Rattle.reading.specs.Tables.{Kind, steps, finals, entries, declared_by}
+use Rattle.reading.specs.Tables.{Kind, steps, finals, entries, entry_in, list_in, declared_by}
 use Rattle.reading.specs.Tables as table
 use Rattle.reading.specs.Judged.{InPlace, Judged}
 use Rattle.reading.specs.Reading.{Finds, unread, refused, taken, Verdict, faulty, sound, Reading, empty, whole, stopped, onward}
 use Rattle.meaning.specs.Former.{former_states}
-use Rattle.reading.specs.Former.{former_line, former_allowance, former_steps, former_finals, WasFull, FrameWasRefused, wide, many, full, WasRefused, long, framed, FormerFinds, was_refused, as_today, FormerReading, IsFormerFault, FormerLine, FormerLimits}
+use Rattle.reading.specs.Former.{former_line, former_allowance, former_steps, former_finals, WasFull, FrameWasRefused, wide, unknown, many, full, WasRefused, long, framed, FormerFinds, was_refused, as_today, FormerReading, IsFormerFault, FormerLine, FormerLimits}
 use Rattle.reading.proofs.Once.{finds-once, once-by}
 use Rattle.reading.proofs.Passed.{passed}
 use Rattle.reading.proofs.Kept.{declared-later}
+use Rattle.reading.proofs.ListLaws.{list-none, list-same, entry-listed, sound-extends}
 use Rattle.reading.proofs.TableLaws.{added, entries-more, entries-cons, entries-append}
 
 -- of two numbers, one at most as large as the other, smaller, or the same, unless it is not
@@ -51,6 +52,9 @@ same-frame line f g h k = let e = frame-once line (Ok f) (Ok g) h k in cc
 module _ {before : List Frame} {line : List ℕ} where
   frame-once-refused : {f : Frame} {r q : Refusal} → FrameWasRefused before line f r → FrameWasRefused before line f q → r ≡ q
   frame-once-refused (wide n h) (wide m k) = refl
+  frame-once-refused (unknown n s t B) (unknown m u v C) = refl
+  frame-once-refused (unknown n s t B) (full g q k) = absurd k
+  frame-once-refused (full f p h) (unknown n s t B) = absurd h
   frame-once-refused (many c p h) (many d q k) = refl
   frame-once-refused (full f p h) (full g q k) = refl
   frame-once-refused (wide n h) (full g q k) = absurd k
@@ -84,6 +88,7 @@ still-taken (as_today r n h) = h
 its-fault : {before : List Frame} {line : List ℕ} {r : Refusal} → WasRefused before line r → IsFormerFault (faulty before r)
 its-fault (long h) = tt
 its-fault (framed f r h i (wide n k)) = tt
+its-fault (framed f r h i (unknown n s t B)) = tt
 its-fault (framed f r h i (many c p k)) = tt
 its-fault (framed f r h i (full g p k)) = tt
 
@@ -146,6 +151,7 @@ module _ (before : List Frame) (line : List ℕ) where
     where
       only : (q : Refusal) → FrameWasRefused before line (Final s) q → InPlace before (Final s) × WasFull before (Final s)
       only q (full f i h) = (i, h)
+  frame-was (ListedMark n s t B) p = inl (_, unknown n s t B)
   frame-was f p = inr none
     where
       none : (q : Refusal) → ¬ FrameWasRefused before line f q
@@ -192,10 +198,11 @@ record Few (fs : List Frame) : Type 0 where
   states : (declared_by fs).states ≤ former_states
   steps : entries table.steps fs ≤ former_steps
   finals : entries table.finals fs ≤ former_finals
+  no_list : list_in fs ≡ []
 
 none_few : Few []
 unfolding entries
-none_few = record { states = omega arith; steps = omega arith; finals = omega arith }
+none_few = record { states = omega arith; steps = omega arith; finals = omega arith; no_list = list-none }
 
 -- a frame that was not refused leaves them few
 module _ (before : List Frame) (line : List ℕ) where
@@ -212,6 +219,7 @@ module _ (before : List Frame) (line : List ℕ) where
     states = states-more (Declared c) few.states (at_most (λ h. n _ (many c p h)));
     steps = omega (arith, entries-more table.steps before (Declared c), few.steps);
     finals = omega (arith, entries-more table.finals before (Declared c), few.finals);
+    no_list = list-same before (Declared c) refl ∙ few.no_list;
   }
   few-more (RoleStep s R t) p n few = record {
     states = states-more (RoleStep s R t) few.states (omega arith);
@@ -219,6 +227,7 @@ module _ (before : List Frame) (line : List ℕ) where
         let room : entries table.steps before < former_steps = below (λ h. n _ (full (RoleStep s R t) p (omega (arith, h)))) in
         omega (arith, entries-more table.steps before (RoleStep s R t), room);
     finals = omega (arith, entries-more table.finals before (RoleStep s R t), few.finals);
+    no_list = list-same before (RoleStep s R t) refl ∙ few.no_list;
   }
   few-more (TestStep s A t) p n few = record {
     states = states-more (TestStep s A t) few.states (omega arith);
@@ -226,6 +235,7 @@ module _ (before : List Frame) (line : List ℕ) where
         let room : entries table.steps before < former_steps = below (λ h. n _ (full (TestStep s A t) p (omega (arith, h)))) in
         omega (arith, entries-more table.steps before (TestStep s A t), room);
     finals = omega (arith, entries-more table.finals before (TestStep s A t), few.finals);
+    no_list = list-same before (TestStep s A t) refl ∙ few.no_list;
   }
   few-more (Final s) p n few = record {
     states = states-more (Final s) few.states (omega arith);
@@ -233,11 +243,14 @@ module _ (before : List Frame) (line : List ℕ) where
     finals =
         let room : entries table.finals before < former_finals = below (λ h. n _ (full (Final s) p (omega (arith, h)))) in
         omega (arith, entries-more table.finals before (Final s), room);
+    no_list = list-same before (Final s) refl ∙ few.no_list;
   }
+  few-more (ListedMark k s t B) p n few = absurd (n _ (unknown k s t B))
   few-more f p n few = record {
     states = states-more f few.states (omega arith);
     steps = omega (arith, entries-more table.steps before f, few.steps);
     finals = omega (arith, entries-more table.finals before f, few.finals);
+    no_list = list-same before f refl ∙ few.no_list;
   }
 
   -- of a line that was taken
@@ -256,7 +269,7 @@ module _ (before : List Frame) (line : List ℕ) where
 
 was-within : {before : List Frame} {ls : List (List ℕ)} {fs : List Frame} → FormerReading before ls (sound fs) → Few before → FormerLimits ls fs
 was-within (whole f fs) few =
-    record { lines = All-nil FormerLine; states = few.states; steps = few.steps; finals = few.finals }
+    record { lines = All-nil FormerLine; states = few.states; steps = few.steps; finals = few.finals; no_list = few.no_list }
 was-within (onward before line ls f v h rest) few =
     let later = was-within rest (taken-few before line h few) in
     record {
@@ -264,18 +277,12 @@ was-within (onward before line ls f v h rest) few =
       states = later.states;
       steps = later.steps;
       finals = later.finals;
+      no_list = later.no_list;
     }
 
 still-sound : {before : List Frame} {ls : List (List ℕ)} {fs : List Frame} → FormerReading before ls (sound fs) → Reading before ls (sound fs)
 still-sound (whole f fs) = whole f fs
 still-sound (onward before line ls f v h rest) = onward before line ls f v (still-taken h) (still-sound rest)
-
--- the frames of a sound file begin with those that were read before
-extends : {before : List Frame} {ls : List (List ℕ)} {fs : List Frame} → Reading before ls (sound fs) → (rest : List Frame) × (fs ≡ before ++ rest)
-extends (whole f fs) = ([], sym (append-nil (f ∷ fs)))
-extends (onward before line ls f v h rest) =
-    let later = extends rest in
-    (f ∷ later.0, later.1 ∙ append_assoc before (f ∷ []) later.0)
 
 -- where they are few to the end, no frame of them was refused
 module _ (before : List Frame) (line : List ℕ) (fit : FormerLine line) (rest : List Frame) where
@@ -284,6 +291,9 @@ module _ (before : List Frame) (line : List ℕ) (fit : FormerLine line) (rest :
 
   one-more : (kind : Kind) (f : Frame) → entries kind (before ++ f ∷ rest) ≡ entries kind before + (added kind f + entries kind rest)
   one-more kind f = entries-append kind before (f ∷ rest) ∙ ap (λ n. entries kind before + n) (entries-cons kind f rest)
+
+  not-listed : (f : Frame) → IsSome (entry_in f) → list_in (before ++ f ∷ rest) ≡ [] → ⊥
+  not-listed f some e = entry-listed before f rest some e
 
   not-full : (f : Frame) → Few (before ++ f ∷ rest) → ¬ WasFull before f
   not-full (RoleStep s R t) few h = omega (arith, one-more table.steps (RoleStep s R t), few.steps, h)
@@ -294,6 +304,7 @@ module _ (before : List Frame) (line : List ℕ) (fit : FormerLine line) (rest :
   frame-kept : (f : Frame) → FrameOf line (Ok f) → Few (before ++ f ∷ rest) → (q : Refusal) → ¬ FrameWasRefused before line f q
   frame-kept (Allowance n) o few q (wide m h) = h (fit.allowance n o)
   frame-kept (Declared c) o few q (many d p h) = not-first c p few.states h
+  frame-kept (ListedMark n s t B) o few q (unknown m u v C) = not-listed (ListedMark n s t B) refl few.no_list
   frame-kept f o few q (full g p h) = not-full f few h
 
   line-kept : (f : Frame) → FrameOf line (Ok f) → Few (before ++ f ∷ rest) → (q : Refusal) → ¬ WasRefused before line q
@@ -304,14 +315,14 @@ was-sound : {before : List Frame} {ls : List (List ℕ)} {fs : List Frame} → R
     → FormerReading before ls (sound fs)
 was-sound (whole f fs) fits few = whole f fs
 was-sound (onward before line ls f (sound fs) (taken g o j) rest) fits few =
-    let later = extends rest in
-    let e = later.1 ∙ append_assoc before (f ∷ []) later.0 in
-    let none = line-kept before line (All-head FormerLine line ls fits) later.0 f o (rw e at few) in
+    let later = sound-extends rest in
+    let e = later.are ∙ append_assoc before (f ∷ []) later.rest in
+    let none = line-kept before line (All-head FormerLine line ls fits) later.rest f o (rw e at few) in
     onward before line ls f (sound fs) (as_today (Ok f) none (taken f o j)) (was-sound rest (All-tail FormerLine line ls fits) few)
 
 -- THEOREM: a file was sound exactly where it is sound, with the same frames, and has no more than it might have
 pub former-sound : (ls : List (List ℕ)) (fs : List Frame) → FormerReading [] ls (sound fs) ↔ (Reading [] ls (sound fs) × FormerLimits ls fs)
 former-sound ls fs = (
   λ r. (still-sound r, was-within r none_few),
-  λ h. was-sound h.0 h.1.lines (record { states = h.1.states; steps = h.1.steps; finals = h.1.finals }),
+  λ h. was-sound h.0 h.1.lines (record { states = h.1.states; steps = h.1.steps; finals = h.1.finals; no_list = h.1.no_list }),
 )

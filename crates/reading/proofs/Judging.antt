@@ -4,16 +4,17 @@ use Rattle.std.proofs.Common.{refl, arith}
 use Rattle.laws.specs.First as tests
 use Rattle.laws.specs.First.{fails, holds, first-onward, first-passed}
 use Rattle.frames.specs.declared.Frame.{Frame}
-use Rattle.frames.specs.declared.Frame.TheVariants.{Declared, ConceptRule, ConceptExclusion, RoleRule, RoleExclusion, ConceptFact, RoleFact, RoleStep, TestStep, Final, Ask, AskFrom, Allowance, Expression}
+use Rattle.frames.specs.declared.Frame.TheVariants.{Declared, ConceptRule, ConceptExclusion, RoleRule, RoleExclusion, ConceptFact, RoleFact, RoleStep, TestStep, Final, Ask, AskFrom, Allowance, Expression, ListedMark}
 use Rattle.reading.specs.declared.File.{File}
 use Rattle.reading.specs.declared.Refusal.{Refusal}
-use Rattle.reading.specs.Tables.{Kind, concept_rules, concept_exclusions, role_rules, role_exclusions, concept_facts, role_facts, steps, finals, asks, record_in, most, entries, table}
-use Rattle.reading.specs.File.{file_of, IsInPlace, HasShelfRoom, RoomIn}
-use Rattle.reading.specs.Judged.{InPlace, HasRoom, Judged}
+use Rattle.reading.specs.Tables.{Kind, concept_rules, concept_exclusions, role_rules, role_exclusions, concept_facts, role_facts, steps, finals, asks, listed, record_in, most, entries, table}
+use Rattle.reading.specs.File.{file_of, HoldsOpen, IsInPlace, HasShelfRoom, RoomIn}
+use Rattle.reading.specs.Judged.{IsOpen, InPlace, HasRoom, Judged}
 use Rattle.reading.specs.Turns.{FrameJudged, ExpressionJudged, Passes}
+use Rattle.reading.proofs.ListLaws.{none-counted}
 use Rattle.reading.proofs.TableLaws.{table-length}
 
-begun : (fs : List Frame) → (0 < length fs) ↔ (fs ≢ [])
+pub begun : (fs : List Frame) → (0 < length fs) ↔ (fs ≢ [])
 begun [] = (λ h. absurd (omega arith), λ n. absurd (n refl))
 begun (f ∷ fs) = (λ h e. cc, λ n. omega arith)
 
@@ -22,17 +23,21 @@ none [] = (λ h. refl, λ h. refl)
 none (f ∷ fs) = (λ h. absurd (omega arith), λ e. absurd cc)
 
 module _ (before : List Frame) where
-  begun-and : {P Q : Type 0} → (P → Q) → (Q → P) → ((0 < length before) × P) ↔ ((before ≢ []) × Q)
-  begun-and to from = (λ h. ((begun before).0 h.0, to h.1), λ h. ((begun before).1 h.0, from h.1))
+  same_open : HoldsOpen (file_of before) ↔ IsOpen before
+  same_open = (
+    λ h. record { begun = (begun before).0 h.begun; no_list = (none-counted before).0 h.no_list },
+    λ h. record { begun = (begun before).1 h.begun; no_list = (none-counted before).1 h.no_list },
+  )
 
   pub in_place : (f : Frame) → IsInPlace (file_of before) f ↔ InPlace before f
   in_place (Declared c) = none before
-  in_place (Allowance n) = (λ h. ((begun before).0 h.0, h.1), λ h. ((begun before).1 h.0, h.1))
-  in_place (RoleStep s R t) = begun-and (λ x. x) (λ x. x)
-  in_place (TestStep s A t) = begun-and (λ x. x) (λ x. x)
-  in_place (Final s) = begun-and (λ x. x) (λ x. x)
-  in_place (Expression row) = (λ h. ((begun before).0 h.0, h.1, h.2, h.3), λ h. ((begun before).1 h.0, h.1, h.2, h.3))
-  in_place f = begun before
+  in_place (Allowance n) = (λ h. (same_open.0 h.0, h.1), λ h. (same_open.1 h.0, h.1))
+  in_place (RoleStep s R t) = (λ h. (same_open.0 h.0, h.1), λ h. (same_open.1 h.0, h.1))
+  in_place (TestStep s A t) = (λ h. (same_open.0 h.0, h.1), λ h. (same_open.1 h.0, h.1))
+  in_place (Final s) = (λ h. (same_open.0 h.0, h.1), λ h. (same_open.1 h.0, h.1))
+  in_place (Expression row) = (λ h. (same_open.0 h.0, h.1, h.2, h.3), λ h. (same_open.1 h.0, h.1, h.2, h.3))
+  in_place (ListedMark n s t B) = begun before
+  in_place f = same_open
 
   -- room for one more record
   abbrev Room : Kind → Type 0
@@ -50,6 +55,7 @@ module _ (before : List Frame) where
   room-in steps = (λ h. omega (arith, table-length steps before), λ h. omega (arith, table-length steps before))
   room-in finals = (λ h. omega (arith, table-length finals before), λ h. omega (arith, table-length finals before))
   room-in asks = (λ h. omega (arith, table-length asks before), λ h. omega (arith, table-length asks before))
+  room-in listed = (λ h. omega (arith, table-length listed before), λ h. omega (arith, table-length listed before))
 
   room-to : (kind : Kind) (f : Frame) → HasShelfRoom (file_of before) f → IsSome (record_in kind f) → Room kind
   room-to concept_rules (ConceptRule C D) h e = (room-in concept_rules).0 h
@@ -63,6 +69,7 @@ module _ (before : List Frame) where
   room-to finals (Final s) h e = (room-in finals).0 h
   room-to asks (Ask a b) h e = (room-in asks).0 h
   room-to asks (AskFrom a) h e = (room-in asks).0 h
+  room-to listed (ListedMark n s t B) h e = h
   room-to kind f h e = absurd cc
 
   room-from : (f : Frame) → HasRoom before f → HasShelfRoom (file_of before) f
@@ -77,6 +84,7 @@ module _ (before : List Frame) where
   room-from (Final s) h = (room-in finals).1 (h finals refl)
   room-from (Ask a b) h = (room-in asks).1 (h asks refl)
   room-from (AskFrom a) h = (room-in asks).1 (h asks refl)
+  room-from (ListedMark n s t B) h = h listed refl
   room-from f h = tt
 
   pub room : (f : Frame) → HasShelfRoom (file_of before) f ↔ HasRoom before f

@@ -1,14 +1,15 @@
 -- A frame that is taken and kept: what is held is then that of one frame more.
-use Rattle.std.specs.Prelude.{ℕ, ◌+◌, ◌≡◌, ◌≢◌, List, [], ◌∷◌, ◌++◌, Option, None, Some, length}
-use Rattle.std.proofs.Common.{refl, ap, ◌∙◌, length-append}
+use Rattle.std.specs.Prelude.{ℕ, ◌+◌, ◌-◌, ◌^◌, ◌≡◌, ◌≢◌, List, [], ◌∷◌, ◌++◌, Option, None, Some, length, min}
+use Rattle.std.proofs.Common.{refl, ap, ◌∙◌, arith, length-append}
 use Rattle.kinds.specs.declared.Counts.{Counts}
 use Rattle.frames.specs.declared.Frame.{Frame}
-use Rattle.frames.specs.declared.Frame.TheVariants.{Declared, ConceptRule, ConceptExclusion, RoleRule, RoleExclusion, ConceptFact, RoleFact, RoleStep, TestStep, Final, Ask, AskFrom, Allowance, Expression}
+use Rattle.frames.specs.declared.Frame.TheVariants.{Declared, ConceptRule, ConceptExclusion, RoleRule, RoleExclusion, ConceptFact, RoleFact, RoleStep, TestStep, Final, Ask, AskFrom, Allowance, Expression, ListedMark}
 use Rattle.reading.specs.declared.File.{File}
-use Rattle.reading.specs.Tables.{concept_rules, concept_exclusions, role_rules, role_exclusions, concept_facts, role_facts, steps, finals, asks, record_in, table, declared_by, allowance_given, expression_given}
-use Rattle.reading.specs.File.{file_of, file_with}
-use Rattle.reading.proofs.TableLaws.{plus, table-more}
-use Rattle.reading.proofs.Bounds.{or_else, or_else-none, allowance-more, expression-more}
+use Rattle.reading.specs.Tables.{concept_rules, concept_exclusions, role_rules, role_exclusions, concept_facts, role_facts, steps, finals, asks, listed, record_in, entries, table, Entry, frame_of, declared_by, allowance_given, expression_given}
+use Rattle.reading.specs.File.{file_of, fields_with, file_with}
+use Rattle.reading.specs.Reading.{Taken}
+use Rattle.reading.proofs.TableLaws.{plus, table-more, counted, entries-counted}
+use Rattle.reading.proofs.Bounds.{or_else, or_else-none, allowance-more, expression-more, within-lines}
 use Rattle.reading.proofs.Passed.{Passed}
 
 pub declared-later : (before : List Frame) (f : Frame) → before ≢ [] → declared_by (before ++ f ∷ []) ≡ declared_by before
@@ -36,13 +37,14 @@ module _ (before : List Frame) (f : Frame) where
     expression = x;
     asks = plus (table asks before) (record_in asks f);
     lines = length before + 1;
+    listed = counted (entries listed before) (record_in listed f);
   }
 
   file_of-more : {c : Counts} {a : Option ℕ} {x : Option (List ℕ)} → declared_by (before ++ f ∷ []) ≡ c
       → allowance_given (before ++ f ∷ []) ≡ a → expression_given (before ++ f ∷ []) ≡ x
       → held_after c a x ≡ file_of (before ++ f ∷ [])
   file_of-more d e g =
-      rw (d, e, g, table-more concept_rules before f, table-more concept_exclusions before f, table-more role_rules before f, table-more role_exclusions before f, table-more concept_facts before f, table-more role_facts before f, table-more steps before f, table-more finals before f, table-more asks before f, length-append before (f ∷ [])) refl
+      rw (d, e, g, table-more concept_rules before f, table-more concept_exclusions before f, table-more role_rules before f, table-more role_exclusions before f, table-more concept_facts before f, table-more role_facts before f, table-more steps before f, table-more finals before f, table-more asks before f, entries-counted listed before f, length-append before (f ∷ [])) refl
 
   same-allowance : allowance_given (f ∷ []) ≡ None → allowance_given (before ++ f ∷ []) ≡ allowance_given before
   same-allowance a = allowance-more before f ∙ ap (or_else (allowance_given before)) a ∙ or_else-none (allowance_given before)
@@ -55,24 +57,39 @@ module _ (before : List Frame) (f : Frame) where
   later n a x = file_of-more (declared-later before f n) (same-allowance a) (same-expression x)
 
 module _ (before : List Frame) where
-  pub file_with-file_of : (f : Frame) → Passed before f → file_with f (file_of before) ≡ file_of (before ++ f ∷ [])
-  file_with-file_of (Declared c) p =
+  -- a frame more, and one line more
+  abbrev counted_with : Frame → File
+  counted_with f = record (fields_with f (file_of before)) { lines = length before + 1 }
+
+  -- an entry of a list more
+  pub entry-held : (entry : Entry) → before ≢ [] → counted_with (frame_of entry) ≡ file_of (before ++ frame_of entry ∷ [])
+  entry-held (n, s, u, B) some = later before (ListedMark n s u B) some refl refl
+
+  pub held-more : (f : Frame) → Passed before f → counted_with f ≡ file_of (before ++ f ∷ [])
+  held-more (Declared c) p =
       file_of-more before (Declared c) (declared-first before c p.in_place)
       (same-allowance before (Declared c) refl) (same-expression before (Declared c) refl)
-  file_with-file_of (Allowance n) p =
-      file_of-more before (Allowance n) (declared-later before (Allowance n) p.in_place.0)
+  held-more (Allowance n) p =
+      file_of-more before (Allowance n) (declared-later before (Allowance n) p.in_place.0.begun)
       (allowance-more before (Allowance n) ∙ ap (λ o. or_else o (Some n)) p.in_place.1) (same-expression before (Allowance n) refl)
-  file_with-file_of (Expression row) p =
-      file_of-more before (Expression row) (declared-later before (Expression row) p.in_place.0) (same-allowance before (Expression row) refl)
+  held-more (Expression row) p =
+      file_of-more before (Expression row) (declared-later before (Expression row) p.in_place.0.begun)
+      (same-allowance before (Expression row) refl)
       (expression-more before (Expression row) ∙ ap (λ o. or_else o (Some row)) p.in_place.1)
-  file_with-file_of (ConceptRule C D) p = later before (ConceptRule C D) p.in_place refl refl
-  file_with-file_of (ConceptExclusion C D) p = later before (ConceptExclusion C D) p.in_place refl refl
-  file_with-file_of (RoleRule R S) p = later before (RoleRule R S) p.in_place refl refl
-  file_with-file_of (RoleExclusion R S) p = later before (RoleExclusion R S) p.in_place refl refl
-  file_with-file_of (ConceptFact A a n) p = later before (ConceptFact A a n) p.in_place refl refl
-  file_with-file_of (RoleFact r a b n) p = later before (RoleFact r a b n) p.in_place refl refl
-  file_with-file_of (RoleStep s R t) p = later before (RoleStep s R t) p.in_place.0 refl refl
-  file_with-file_of (TestStep s A t) p = later before (TestStep s A t) p.in_place.0 refl refl
-  file_with-file_of (Final s) p = later before (Final s) p.in_place.0 refl refl
-  file_with-file_of (Ask a b) p = later before (Ask a b) p.in_place refl refl
-  file_with-file_of (AskFrom a) p = later before (AskFrom a) p.in_place refl refl
+  held-more (ConceptRule C D) p = later before (ConceptRule C D) p.in_place.begun refl refl
+  held-more (ConceptExclusion C D) p = later before (ConceptExclusion C D) p.in_place.begun refl refl
+  held-more (RoleRule R S) p = later before (RoleRule R S) p.in_place.begun refl refl
+  held-more (RoleExclusion R S) p = later before (RoleExclusion R S) p.in_place.begun refl refl
+  held-more (ConceptFact A a n) p = later before (ConceptFact A a n) p.in_place.begun refl refl
+  held-more (RoleFact r a b n) p = later before (RoleFact r a b n) p.in_place.begun refl refl
+  held-more (RoleStep s R u) p = later before (RoleStep s R u) p.in_place.0.begun refl refl
+  held-more (TestStep s A u) p = later before (TestStep s A u) p.in_place.0.begun refl refl
+  held-more (Final s) p = later before (Final s) p.in_place.0.begun refl refl
+  held-more (Ask a b) p = later before (Ask a b) p.in_place.begun refl refl
+  held-more (AskFrom a) p = later before (AskFrom a) p.in_place.begun refl refl
+  held-more (ListedMark n s u B) p = entry-held (n, s, u, B) p.in_place
+
+  pub file_with-file_of : Taken before → (f : Frame) → Passed before f → file_with f (file_of before) ≡ file_of (before ++ f ∷ [])
+  file_with-file_of t f p =
+      let n : min (length before + 1) (2 ^ 64 - 1) ≡ length before + 1 = omega (arith, within-lines before t) in
+      ap (λ n. record (fields_with f (file_of before)) { lines = n }) n ∙ held-more f p

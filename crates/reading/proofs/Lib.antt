@@ -1,13 +1,17 @@
 pub mod TableLaws
+pub mod ListLaws
 pub mod Passed
 pub mod Bounds
 pub mod Kept
 pub mod Judging
+pub mod RoomLaws
 pub mod Turns
 pub mod Questions
 pub mod Rows
 pub mod GoingOn
 pub mod Fronts
+pub mod UpToList
+pub mod ListEnds
 pub mod Once
 pub mod FormerLaws
 pub mod Accepted

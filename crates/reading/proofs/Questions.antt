@@ -11,7 +11,7 @@ use Rattle.expression.specs.Listed.{Listed}
 use Rattle.expression.specs.Answer.{IsAutomatonOf}
 use Rattle.expression.proofs.Clauses.{automaton-once}
 use Rattle.frames.specs.declared.Frame.{Frame}
-use Rattle.frames.specs.declared.Frame.TheVariants.{Declared, ConceptRule, ConceptExclusion, RoleRule, RoleExclusion, ConceptFact, RoleFact, RoleStep, TestStep, Final, Ask, AskFrom, Allowance, Expression}
+use Rattle.frames.specs.declared.Frame.TheVariants.{Declared, ConceptRule, ConceptExclusion, RoleRule, RoleExclusion, ConceptFact, RoleFact, RoleStep, TestStep, Final, Ask, AskFrom, Allowance, Expression, ListedMark}
 use Rattle.reading.specs.declared.File.{File}
 use Rattle.reading.specs.Tables.{declared_by, expression_given}
 use Rattle.reading.specs.File.{typed_question, IsQuestion, lent_tables, LendsTables}
@@ -58,19 +58,20 @@ expressing-more before (Declared c) t p h =
     rw e tt
 expressing-more before (Expression row) t p h =
     let e = expression-more before (Expression row) ∙ ap (λ o. or_else o (Some row)) p.in_place.1 in
-    rw (declared-later before (Expression row) p.in_place.0, e) (record { declared = p.numbers; shaped = p.shaped })
-expressing-more before (Allowance n) t p h = expressing-later before (Allowance n) p.in_place.0 refl h
-expressing-more before (ConceptRule C D) t p h = expressing-later before (ConceptRule C D) p.in_place refl h
-expressing-more before (ConceptExclusion C D) t p h = expressing-later before (ConceptExclusion C D) p.in_place refl h
-expressing-more before (RoleRule R S) t p h = expressing-later before (RoleRule R S) p.in_place refl h
-expressing-more before (RoleExclusion R S) t p h = expressing-later before (RoleExclusion R S) p.in_place refl h
-expressing-more before (ConceptFact A a n) t p h = expressing-later before (ConceptFact A a n) p.in_place refl h
-expressing-more before (RoleFact r a b n) t p h = expressing-later before (RoleFact r a b n) p.in_place refl h
-expressing-more before (RoleStep s R u) t p h = expressing-later before (RoleStep s R u) p.in_place.0 refl h
-expressing-more before (TestStep s A u) t p h = expressing-later before (TestStep s A u) p.in_place.0 refl h
-expressing-more before (Final s) t p h = expressing-later before (Final s) p.in_place.0 refl h
-expressing-more before (Ask a b) t p h = expressing-later before (Ask a b) p.in_place refl h
-expressing-more before (AskFrom a) t p h = expressing-later before (AskFrom a) p.in_place refl h
+    rw (declared-later before (Expression row) p.in_place.0.begun, e) (record { declared = p.numbers; shaped = p.shaped })
+expressing-more before (Allowance n) t p h = expressing-later before (Allowance n) p.in_place.0.begun refl h
+expressing-more before (ConceptRule C D) t p h = expressing-later before (ConceptRule C D) p.in_place.begun refl h
+expressing-more before (ConceptExclusion C D) t p h = expressing-later before (ConceptExclusion C D) p.in_place.begun refl h
+expressing-more before (RoleRule R S) t p h = expressing-later before (RoleRule R S) p.in_place.begun refl h
+expressing-more before (RoleExclusion R S) t p h = expressing-later before (RoleExclusion R S) p.in_place.begun refl h
+expressing-more before (ConceptFact A a n) t p h = expressing-later before (ConceptFact A a n) p.in_place.begun refl h
+expressing-more before (RoleFact r a b n) t p h = expressing-later before (RoleFact r a b n) p.in_place.begun refl h
+expressing-more before (RoleStep s R u) t p h = expressing-later before (RoleStep s R u) p.in_place.0.begun refl h
+expressing-more before (TestStep s A u) t p h = expressing-later before (TestStep s A u) p.in_place.0.begun refl h
+expressing-more before (Final s) t p h = expressing-later before (Final s) p.in_place.0.begun refl h
+expressing-more before (Ask a b) t p h = expressing-later before (Ask a b) p.in_place.begun refl h
+expressing-more before (AskFrom a) t p h = expressing-later before (AskFrom a) p.in_place.begun refl h
+expressing-more before (ListedMark n s u B) t p h = expressing-later before (ListedMark n s u B) p.in_place refl h
 
 expressing : (fs : List Frame) → Taken fs → Expressing fs
 expressing = taken-keeps Expressing tt expressing-more

@@ -1,22 +1,14 @@
 -- What a shelf of records holds, as the flat list that callers see.
 use Rattle.std.specs.Prelude.{◌≡◌, refl, List, [], ◌∷◌, ◌++◌, ℕ, zero, suc, ◌+◌, ◌*◌, ◌<◌, ◌≤◌, length, take, slice_set}
-use Rattle.std.specs.List.{AllByRecursion}
 use Rattle.std.proofs.Common.{ap, ◌∙◌, arith}
 use Rattle.std.proofs.Math.Nat.{mul-le-mul_left, lt_of_not-le}
 use Rattle.std.proofs.lemmas.List.{take_more_set, length-take-le, append-nil}
 use Rattle.std.proofs.lemmas.Grind.{flat_map-append}
-use mathlib.Core.List.Memᴰ
-use Rattle.laws.specs.Member.{◌∈◌}
+use Rattle.laws.specs.Member.{all-out, all-in}
 use Rattle.meaning.specs.Lent.{Whole}
 use Rattle.sorted.specs.Rows.{rows, flat, AreWide, AreTidied, IsTidied}
-use Rattle.sorted.proofs.Members.{all-out}
 use Rattle.sorted.proofs.Chunks.{length-flat, flat-rows, rows-flat, rows-wide, whole-flat}
 use Rattle.reading.specs.Shelves.{HoldsRecords}
-
--- what holds of each member holds of every element
-all-in : {X : Type 0} (P : X → Type 0) (l : List X) → ((x : X) → x ∈ l → P x) → AllByRecursion P l
-all-in P [] h = tt
-all-in P (x ∷ l) h = (h x (Memᴰ.head refl), all-in P l (λ y m. h y (Memᴰ.tail m)))
 
 wide-more : (w : ℕ) (l : List (List ℕ)) (r : List ℕ) → AreWide w l → length r ≡ w → AreWide w (l ++ r ∷ [])
 wide-more w [] r h e = (e, tt)

@@ -1,11 +1,11 @@
 -- Laws of a file's tables: one frame more, and whole records.
 use Rattle.std.specs.Prelude.{ℕ, ◌+◌, ◌*◌, ◌≡◌, List, [], ◌∷◌, ◌++◌, Option, None, Some, cond, is_some, unwrap_or, length}
-use Rattle.std.proofs.Common.{refl, sym, ap, ap₂, ◌∙◌, append-nil, length-append, mul-zero, mul-add}
+use Rattle.std.proofs.Common.{refl, sym, ap, ap₂, ◌∙◌, arith, append-nil, length-append, mul-zero, mul-add}
 use Rattle.std.proofs.lemmas.List.Sums.{sum_by-append, sum_by-cons, sum_by_push}
 use Rattle.std.proofs.lemmas.Grind.{flat_map-append}
 use Rattle.frames.specs.declared.Frame.{Frame}
-use Rattle.frames.specs.declared.Frame.TheVariants.{ConceptRule, ConceptExclusion, RoleRule, RoleExclusion, ConceptFact, RoleFact, RoleStep, TestStep, Final, Ask, AskFrom}
-use Rattle.reading.specs.Tables.{Kind, concept_rules, concept_exclusions, role_rules, role_exclusions, concept_facts, role_facts, steps, finals, asks, record_in, width, entries, table}
+use Rattle.frames.specs.declared.Frame.TheVariants.{ConceptRule, ConceptExclusion, RoleRule, RoleExclusion, ConceptFact, RoleFact, RoleStep, TestStep, Final, Ask, AskFrom, ListedMark}
+use Rattle.reading.specs.Tables.{Kind, concept_rules, concept_exclusions, role_rules, role_exclusions, concept_facts, role_facts, steps, finals, asks, listed, record_in, width, entries, table}
 
 -- how many records a frame adds to a table
 abbrev pub added : Kind → Frame → ℕ
@@ -41,6 +41,19 @@ pub table-more : (kind : Kind) (fs : List Frame) (f : Frame) → table kind (fs 
 unfolding table
 table-more kind fs f = flat_map-append (λ g. unwrap_or (record_in kind g) []) fs (f ∷ []) ∙ plus_is (table kind fs) (record_in kind f)
 
+-- and how many records there are then
+abbrev pub counted : ℕ → Option (List ℕ) → ℕ
+counted n None = n
+counted n (Some record-of) = n + 1
+
+counted_is : (n : ℕ) (o : Option (List ℕ)) → n + cond (is_some o) 1 0 ≡ counted n o
+counted_is n None = omega arith
+counted_is n (Some r) = refl
+
+pub entries-counted : (kind : Kind) (fs : List Frame) (f : Frame)
+    → entries kind (fs ++ f ∷ []) ≡ counted (entries kind fs) (record_in kind f)
+entries-counted kind fs f = entries-more kind fs f ∙ counted_is (entries kind fs) (record_in kind f)
+
 -- a record has its table's width
 pub record-width : (kind : Kind) (f : Frame) → length (unwrap_or (record_in kind f) []) ≡ width kind * added kind f
 record-width concept_rules (ConceptRule C D) = refl
@@ -54,6 +67,7 @@ record-width steps (TestStep s A t) = refl
 record-width finals (Final s) = refl
 record-width asks (Ask a b) = refl
 record-width asks (AskFrom a) = refl
+record-width listed (ListedMark n s t B) = refl
 record-width kind f = sym (mul-zero (width kind))
 
 -- a table holds whole records

@@ -1,6 +1,6 @@
 -- What each ask is as a call of the library (docs/RULES.md, section 8); and what is held of the
 -- frames that are read, each fact about them in its own field.
-use Rattle.std.specs.Prelude.{ℕ, ◌+◌, ◌*◌, ◌^◌, ◌<◌, ◌≤◌, ◌≡◌, List, [], ◌∷◌, ◌++◌, Option, None, Some, IfSome, ⊤, length, unwrap_or}
+use Rattle.std.specs.Prelude.{ℕ, ◌+◌, ◌*◌, ◌^◌, ◌<◌, ◌≤◌, ◌≡◌, ◌-◌, List, [], ◌∷◌, ◌++◌, Option, None, Some, IfSome, ⊤, length, min, unwrap_or}
 use Rattle.kinds.specs.Kinds.{number_of}
 use Rattle.meaning.specs.Lent.{Tables, Call}
 use Rattle.meaning.specs.Demands.{most_rounds}
@@ -10,9 +10,9 @@ use Rattle.tables.specs.Asks.{read_ask}
 use Rattle.expression.specs.Listed.{Listed}
 use Rattle.expression.specs.Answer.{IsAutomatonOf}
 use Rattle.frames.specs.declared.Frame.{Frame}
-use Rattle.frames.specs.declared.Frame.TheVariants.{Declared, ConceptRule, ConceptExclusion, RoleRule, RoleExclusion, ConceptFact, RoleFact, RoleStep, TestStep, Final, Ask, AskFrom, Allowance, Expression}
+use Rattle.frames.specs.declared.Frame.TheVariants.{Declared, ConceptRule, ConceptExclusion, RoleRule, RoleExclusion, ConceptFact, RoleFact, RoleStep, TestStep, Final, Ask, AskFrom, Allowance, Expression, ListedMark}
 use Rattle.reading.specs.declared.File.{File}
-use Rattle.reading.specs.Tables.{Kind, concept_rules, concept_exclusions, role_rules, role_exclusions, concept_facts, role_facts, steps, finals, asks, width, most, table, declared_by, allowance_given, expression_given, rounds_allowed}
+use Rattle.reading.specs.Tables.{Kind, concept_rules, concept_exclusions, role_rules, role_exclusions, concept_facts, role_facts, steps, finals, asks, listed, width, most, most_listed, entries, table, declared_by, allowance_given, expression_given, rounds_allowed}
 
 -- the question of some frames, by their expression if there is one, and by the steps and final
 -- states that they type: of an expression, those of its automaton
@@ -69,6 +69,7 @@ file_of fs = record {
   expression = expression_given fs;
   asks = table asks fs;
   lines = length fs;
+  listed = entries listed fs;
 }
 
 -- the question of what is held
@@ -123,16 +124,22 @@ held_call file q k = record {
   spare = zeros;
 }
 
+-- line 1 is held, and no entry of a list is
+pub record HoldsOpen (file : File) : Type 0 where
+  pub begun : 0 < file.lines
+  pub no_list : file.listed ≡ 0
+
 -- a frame is in its place, by what is held
 abbrev pub IsInPlace : File → Frame → Type 0
 IsInPlace file (Declared c) = file.lines ≡ 0
-IsInPlace file (Allowance n) = (0 < file.lines) × (file.allowance ≡ None)
-IsInPlace file (RoleStep s R t) = (0 < file.lines) × (file.expression ≡ None)
-IsInPlace file (TestStep s A t) = (0 < file.lines) × (file.expression ≡ None)
-IsInPlace file (Final s) = (0 < file.lines) × (file.expression ≡ None)
+IsInPlace file (Allowance n) = HoldsOpen file × (file.allowance ≡ None)
+IsInPlace file (RoleStep s R t) = HoldsOpen file × (file.expression ≡ None)
+IsInPlace file (TestStep s A t) = HoldsOpen file × (file.expression ≡ None)
+IsInPlace file (Final s) = HoldsOpen file × (file.expression ≡ None)
 IsInPlace file (Expression row) =
-    (0 < file.lines) × (file.expression ≡ None) × (file.steps ≡ []) × (file.finals ≡ [])
-IsInPlace file other = 0 < file.lines
+    HoldsOpen file × (file.expression ≡ None) × (file.steps ≡ []) × (file.finals ≡ [])
+IsInPlace file (ListedMark n s t B) = 0 < file.lines
+IsInPlace file other = HoldsOpen file
 
 -- a table of some numbers has room for one more record
 abbrev pub RoomIn : Kind → List ℕ → Type 0
@@ -151,6 +158,7 @@ HasShelfRoom file (TestStep s A t) = RoomIn steps file.steps
 HasShelfRoom file (Final s) = RoomIn finals file.finals
 HasShelfRoom file (Ask a b) = RoomIn asks file.asks
 HasShelfRoom file (AskFrom a) = RoomIn asks file.asks
+HasShelfRoom file (ListedMark n s t B) = file.listed < most_listed
 HasShelfRoom file other = ⊤
 
 -- the numbers of a rule's concepts go into 16 bits
@@ -180,6 +188,8 @@ fields_with (Ask a b) t = record t { asks = t.asks ++ (0 ∷ a.0 ∷ b.0 ∷ [])
 fields_with (AskFrom a) t = record t { asks = t.asks ++ (1 ∷ a.0 ∷ 0 ∷ []) }
 fields_with (Allowance n) t = record t { allowance = Some n }
 fields_with (Expression row) t = record t { expression = Some row }
+fields_with (ListedMark n s t B) file = record file { listed = file.listed + 1 }
 
+-- the lines are counted as far as 64 bits count
 abbrev pub file_with : Frame → File → File
-file_with f t = record (fields_with f t) { lines = t.lines + 1 }
+file_with f t = record (fields_with f t) { lines = min (t.lines + 1) (2 ^ 64 - 1) }

@@ -1,33 +1,40 @@
--- The number that refuses a frame, or none (docs/RULES.md, section 8): of its tests, in their
--- order, the first that fails.
+-- The number that refuses a frame, or none (docs/RULES.md, sections 8 and 12): of its tests, in
+-- their order, the first that fails.
 use Rattle.std.specs.Prelude.{ℕ, ◌+◌, ◌<◌, ◌≡◌, ◌≢◌, List, [], Result, Ok, Err, None, IsSome, ⊤, ◌∷◌}
 use Rattle.kinds.specs.declared.Counts.{Counts}
-use Rattle.kinds.specs.Kinds.{state, CountsFit, StateDeclared, IndividualDeclared}
+use Rattle.kinds.specs.Kinds.{state, CountsFit, StateDeclared, IndividualDeclared, ConceptDeclared}
 use Rattle.laws.specs.First.{FirstOf, ◌else◌}
 use Rattle.meaning.specs.Collection.{role, test, step, ConceptsDeclared, RolesDeclared, ConceptFactDeclared, RoleFactDeclared, StepDeclared}
 use Rattle.expression.specs.Depth.{TooDeep}
 use Rattle.expression.specs.Fits.{MarksDeclared}
 use Rattle.expression.specs.Answer.{HasMarks}
 use Rattle.frames.specs.declared.Frame.{Frame}
-use Rattle.frames.specs.declared.Frame.TheVariants.{Declared, ConceptRule, ConceptExclusion, RoleRule, RoleExclusion, ConceptFact, RoleFact, RoleStep, TestStep, Final, Ask, AskFrom, Allowance, Expression}
+use Rattle.frames.specs.declared.Frame.TheVariants.{Declared, ConceptRule, ConceptExclusion, RoleRule, RoleExclusion, ConceptFact, RoleFact, RoleStep, TestStep, Final, Ask, AskFrom, Allowance, Expression, ListedMark}
 use Rattle.reading.specs.declared.Refusal.{Refusal}
 use Rattle.reading.specs.declared.Refusal.TheVariants.{BadCount, BadTable, BadNumber, BadAsk, OutOfPlace, NoExpression, AnotherShape}
 use Rattle.reading.specs.declared.Refusal.TheVariants as refusal
-use Rattle.reading.specs.Tables.{Kind, steps, finals, record_in, most, entries, table, declared_by, allowance_given, expression_given}
+use Rattle.reading.specs.Tables.{Kind, steps, finals, record_in, most, entries, table, list_in, declared_by, allowance_given, expression_given}
+
+-- line 1 stands before, and no list has begun, which ends a file
+pub record IsOpen (before : List Frame) : Type 0 where
+  pub begun : before ≢ []
+  pub no_list : list_in before ≡ []
 
 -- not 11: line 1 declares, and no other line does; one allowance is given at most, and the
--- question is given by one expression or by steps and final states
+-- question is given by one expression or by steps and final states; behind the first entry of a
+-- list there is nothing but entries
 module _ (before : List Frame) where
   abbrev pub InPlace : Frame → Type 0
   InPlace (Declared c) = before ≡ []
-  InPlace (Allowance n) = (before ≢ []) × (allowance_given before ≡ None)
-  InPlace (RoleStep s R t) = (before ≢ []) × (expression_given before ≡ None)
-  InPlace (TestStep s A t) = (before ≢ []) × (expression_given before ≡ None)
-  InPlace (Final s) = (before ≢ []) × (expression_given before ≡ None)
+  InPlace (Allowance n) = IsOpen before × (allowance_given before ≡ None)
+  InPlace (RoleStep s R t) = IsOpen before × (expression_given before ≡ None)
+  InPlace (TestStep s A t) = IsOpen before × (expression_given before ≡ None)
+  InPlace (Final s) = IsOpen before × (expression_given before ≡ None)
   InPlace (Expression row) =
-      (before ≢ []) × (expression_given before ≡ None)
+      IsOpen before × (expression_given before ≡ None)
       × (table steps before ≡ []) × (table finals before ≡ [])
-  InPlace other = before ≢ []
+  InPlace (ListedMark n s t B) = before ≢ []
+  InPlace other = IsOpen before
 
 -- not 4: what is declared fits
 abbrev pub CountsOk : Frame → Type 0
@@ -39,7 +46,7 @@ abbrev pub HasRoom : List Frame → Frame → Type 0
 HasRoom before f = (kind : Kind) → IsSome (record_in kind f) → entries kind before < most kind
 
 -- not 6: each number of its record is declared, and what each role or test mark reads; a deed
--- number may be any
+-- number may be any, and so may a round
 module _ (counts : Counts) where
   abbrev pub NumbersOk : Frame → Type 0
   NumbersOk (ConceptRule C D) = ConceptsDeclared counts (C, D)
@@ -52,6 +59,8 @@ module _ (counts : Counts) where
   NumbersOk (TestStep s A t) = StepDeclared counts (step s (test A) t)
   NumbersOk (Final s) = StateDeclared counts s
   NumbersOk (Expression row) = MarksDeclared counts row
+  NumbersOk (ListedMark n s t B) =
+      StateDeclared counts s × StateDeclared counts t × ConceptDeclared counts B
   NumbersOk other = ⊤
 
 -- not 8: each asked individual is declared

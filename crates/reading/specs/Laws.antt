@@ -1,5 +1,5 @@
 -- Laws of reading a file (docs/RULES.md, sections 7 and 8).
-use Rattle.std.specs.Prelude.{ℕ, suc, ◌+◌, ◌*◌, ◌<◌, ◌≤◌, ◌≡◌, ◌≢◌, ◌↔◌, List, [], ◌∷◌, Result, length, take, count_by}
+use Rattle.std.specs.Prelude.{ℕ, ◌+◌, ◌<◌, ◌≤◌, ◌≡◌, ◌≢◌, ◌↔◌, IsSome, List, [], ◌∷◌, ◌++◌, Result, Ok, Err, map, length, take, count_by}
 use Rattle.meaning.specs.Lent.{Tables, Sound}
 use Rattle.streams.specs.Lines.{lines}
 use Rattle.streams.specs.declared.TheConstants.{LINE}
@@ -9,11 +9,11 @@ use Rattle.reading.specs.declared.Fault.{Fault}
 use Rattle.reading.specs.declared.File.{File}
 use Rattle.reading.specs.declared.Refusal.{Refusal}
 use Rattle.reading.specs.Refusal.{refusal_number}
-use Rattle.reading.specs.Tables.{Kind, steps, asks, most, entries, is_declared, is_allowance, is_expression}
-use Rattle.reading.specs.File.{IsQuestionOf, asked, LendsTables}
-use Rattle.reading.specs.Judged.{Judged}
+use Rattle.reading.specs.Tables.{Kind, steps, asks, listed, most, most_listed, most_lines, entries, Entry, entry_in, frame_of, list_in, declared_by, is_declared, is_allowance, is_expression}
+use Rattle.reading.specs.File.{file_of, IsQuestionOf, asked, LendsTables}
+use Rattle.reading.specs.Judged.{NumbersOk, Judged}
 use Rattle.reading.specs.Reading.{Finds, Verdict, sound, frames_of, Reading, Taken}
-use Rattle.reading.specs.Reads.{ReadsFile}
+use Rattle.reading.specs.Reads.{BeginsList, ReadsFile}
 
 -- a frame is refused for one reason, or taken
 abbrev pub JudgedOnce : Type 0
@@ -35,12 +35,17 @@ abbrev pub ReadsOnce : Type 0
 ReadsOnce = (ls : List (List ℕ)) (r q : Result (Unit {0}) Fault) (x y : File)
     → ReadsFile ls r x → ReadsFile ls q y → (r ≡ q) × (x ≡ y)
 
--- the number that refuses a line is one of 4 to 14, but never 7
+-- the number that refuses a file is one of 4 to 15, but never 7
 abbrev pub IsListed : ℕ → Type 0
-IsListed number = (4 ≤ number) × (number ≤ 14) × (number ≢ 7)
+IsListed number = (4 ≤ number) × (number ≤ 15) × (number ≢ 7)
 
 abbrev pub RefusalsListed : Type 0
 RefusalsListed = (r : Refusal) → IsListed (refusal_number r)
+
+-- and 15 refuses no line by itself
+abbrev pub LinesRefused : Type 0
+LinesRefused = (before : List Frame) (line : List ℕ) (r : Refusal)
+    → Finds before line (Err r) → refusal_number r ≤ 14
 
 -- the frames that were read of a file, sound or faulty, were taken one after the other
 abbrev pub ReadingTaken : Type 0
@@ -78,27 +83,74 @@ pub record Within (fs : List Frame) : Type 0 where
 abbrev pub TakenWithin : Type 0
 TakenWithin = (fs : List Frame) → Taken fs → Within fs
 
--- and any frames that do, taken or not, are at most 7,714: line 1, the allowance, and as many as
--- the tables have records
+-- and any frames that do, taken or not, are at most 138,786, with the list: line 1, the allowance,
+-- and as many as the tables have records
 abbrev pub LinesBounded : Type 0
-LinesBounded = (fs : List Frame) → Within fs → length fs ≤ 7714
+LinesBounded = (fs : List Frame) → Within fs → length fs ≤ most_lines
 
--- two rows of lines that read alike for n lines: the same, up to one that is too long in both
+-- two rows of lines that read alike for n bytes: the same, each with its end, up to one that is too
+-- long in both, or that may reach beyond those bytes
 pub data Alike : ℕ → List (List ℕ) → List (List ℕ) → Type 0 where
-  far : {ls ms : List (List ℕ)} → Alike 0 ls ms
+  far : {n : ℕ} {ls ms : List (List ℕ)} → n ≤ LINE → Alike n ls ms
   ended : {n : ℕ} → Alike n [] []
-  same : {n : ℕ} {ls ms : List (List ℕ)} (l : List ℕ) → Alike n ls ms
-      → Alike (suc n) (l ∷ ls) (l ∷ ms)
+  same : {n m : ℕ} {ls ms : List (List ℕ)} (l : List ℕ) → n ≤ length l + 1 + m → Alike m ls ms
+      → Alike n (l ∷ ls) (l ∷ ms)
   long : {n : ℕ} {ls ms : List (List ℕ)} (l m : List ℕ) → LINE < length l → LINE < length m
       → Alike n (l ∷ ls) (m ∷ ms)
 
--- an input and its first n bytes read alike for as many lines as surely stand within them, each of
--- at most 130 characters and its end
+-- an input and its first n bytes read alike for n bytes
 abbrev pub StartAlike : Type 0
-StartAlike = (input : List ℕ) (r n : ℕ) → r * 131 ≤ n
-    → Alike r (lines input) (lines (take n input))
+StartAlike = (input : List ℕ) (n : ℕ) → Alike n (lines input) (lines (take n input))
 
--- the first 1,010,665 bytes of an input, or more of them, are found to be what the whole is
+-- the first 3,238,889 bytes of an input, or more of them, are found to be what the whole is: 7,715
+-- lines of 131 bytes, and 131,072 of an entry, which have 17
 abbrev pub StartDecides : Type 0
-StartDecides = (input : List ℕ) (n : ℕ) → 1010665 ≤ n → (v : Verdict)
+StartDecides = (input : List ℕ) (n : ℕ) → 3238889 ≤ n → (v : Verdict)
     → Reading [] (lines (take n input)) v ↔ Reading [] (lines input) v
+
+-- frames that were taken are those of a collection, and then those of a list
+pub record EndsInList (fs : List Frame) : Type 0 where
+  pub collection : List Frame
+  pub no_list : list_in collection ≡ []
+  pub are : fs ≡ collection ++ map frame_of (list_in fs)
+
+abbrev pub ListLast : Type 0
+ListLast = (fs : List Frame) → Taken fs → EndsInList fs
+
+-- where a list has begun, nothing but an entry is taken
+abbrev pub ListOnly : Type 0
+ListOnly = (before : List Frame) (f : Frame) → Judged before f (Ok tt)
+    → list_in before ≢ [] → IsSome (entry_in f)
+
+-- a list has as many entries as are counted
+abbrev pub ListCounted : Type 0
+ListCounted = (fs : List Frame) → entries listed fs ≡ length (list_in fs)
+
+-- an entry is taken after line 1, where there is room for one more, and its states and its concept
+-- are declared
+abbrev pub EntryTaken : Type 0
+EntryTaken = (before : List Frame) (entry : Entry) → before ≢ []
+    → entries listed before < most_listed → NumbersOk (declared_by before) (frame_of entry)
+    → Judged before (frame_of entry) (Ok tt)
+
+-- what is held of some entries more is what was held, with both counts raised by how many they are
+abbrev pub EntriesHeld : Type 0
+EntriesHeld = (before : List Frame) (list : List Entry) → before ≢ []
+    → let old = file_of before in
+    let count = length list in
+    file_of (before ++ map frame_of list)
+    ≡ record old { lines = old.lines + count; listed = old.listed + count }
+
+-- where the bytes that are left begin as an entry does, and are found to be sound, there is a list
+abbrev pub ListBegins : Type 0
+ListBegins = (before fs : List Frame) (left : List ℕ) → BeginsList left
+    → Reading before (lines left) (sound fs) → list_in fs ≢ []
+
+-- the frames of a sound file begin with those that were read before
+pub record Extends (before fs : List Frame) : Type 0 where
+  pub rest : List Frame
+  pub are : fs ≡ before ++ rest
+
+abbrev pub SoundExtends : Type 0
+SoundExtends = (before fs : List Frame) (ls : List (List ℕ))
+    → Reading before ls (sound fs) → Extends before fs

@@ -5,7 +5,9 @@ pub mod File
 pub mod Judged
 pub mod Reading
 pub mod Reads
+pub mod Room
 pub mod Turns
+pub mod Next
 pub mod Front
 pub mod Laws
 pub mod Deeds

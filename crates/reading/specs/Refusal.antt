@@ -6,9 +6,9 @@ use Rattle.frames.specs.declared.Misread.TheVariants as unread
 use Rattle.expression.specs.declared.listed.Refusal as expression
 use Rattle.expression.specs.declared.listed.Refusal.TheVariants as row
 use Rattle.reading.specs.declared.Refusal.{Refusal}
-use Rattle.reading.specs.declared.Refusal.TheVariants.{BadCount, BadTable, BadNumber, BadAsk, BadLine, BadFrame, OutOfPlace, NoExpression, TooDeep, AnotherShape}
+use Rattle.reading.specs.declared.Refusal.TheVariants.{BadCount, BadTable, BadNumber, BadAsk, BadLine, BadFrame, OutOfPlace, NoExpression, TooDeep, AnotherShape, NotTheSheet}
 
--- the number of each refusal; 7 is never given
+-- the number of each refusal; 7 is never given, and 15 to no line by itself
 abbrev pub refusal_number : Refusal → ℕ
 refusal_number BadCount = 4
 refusal_number BadTable = 5
@@ -20,6 +20,7 @@ refusal_number OutOfPlace = 11
 refusal_number NoExpression = 12
 refusal_number TooDeep = 13
 refusal_number AnotherShape = 14
+refusal_number NotTheSheet = 15
 
 -- and of a line that is no frame
 abbrev pub refusal_of : Misread → Refusal

@@ -32,3 +32,4 @@ pub record TidiesTables (old new : File) : Type 0 where
   pub expression : new.expression ≡ old.expression
   pub asks : new.asks ≡ old.asks
   pub lines : new.lines ≡ old.lines
+  pub listed : new.listed ≡ old.listed

@@ -52,9 +52,9 @@ fn shape_ok(automaton: &Automaton, counts: Counts) -> bool
 impl Expression {
     // The expression of some marks; or 13, brackets too deep, 12, no expression, or 14.
     pub(crate) fn read(marks: Marks, counts: Counts) -> Result<Expression, Refusal>
-        requires { counts.states ≤ most_states }
         ensures taken { OnOk result (RowJudged counts marks (Ok tt)) }
-        ensures refused { IfErr result (λ refusal. RowJudged counts marks (Err refusal)) }
+        ensures refused { counts.states ≤ most_states
+            → IfErr result (λ refusal. RowJudged counts marks (Err refusal)) }
         ensures marks { IfOk result (λ expression. expression ≡ marks) }
     {
         let automaton = automaton_of(marks.as_slice())?;

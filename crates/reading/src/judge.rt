@@ -1,12 +1,13 @@
 // A frame judged: of its tests, in their order, the first that fails refuses it. Those of an expression alone come last,
 // where it is read.
-ghost use Rattle.std.specs.Prelude.{◌↔◌, All, IsTrue};
+ghost use Rattle.std.specs.Prelude.{◌≡◌, ◌↔◌, All, IsTrue, None};
 ghost use Rattle.std.specs.Bool.{OnTrue};
 ghost use Rattle.reading.specs.Judged.{CountsOk, NumbersOk, AskOk};
-ghost use Rattle.reading.specs.File.{IsInPlace, HasShelfRoom};
+ghost use Rattle.reading.specs.File.{HoldsOpen, IsInPlace, HasShelfRoom};
+ghost use Rattle.reading.specs.Tables.{entry_in};
 ghost use Rattle.reading.specs.Turns.{HasNoQuestion, MarkOk, Passes, FrameJudged};
 
-use crate::{File, Refusal};
+use crate::{File, LISTED, Refusal};
 use expression::letter;
 use frames::Frame;
 use kinds::Counts;
@@ -38,7 +39,7 @@ fn marks_ok(row: &[u8], counts: Counts) -> bool
     row.iter().all(|mark| mark_ok(*mark, counts))
 }
 
-// 6: the numbers of a record. A deed number may be any.
+// 6: the numbers of a record. A deed number may be any, and so may a round.
 #[tactic(auto, using(crate::proofs::Questions::all_declared))]
 fn numbers_ok(frame: &Frame, counts: Counts) -> bool
     ensures { IsTrue result ↔ NumbersOk counts frame.now }
@@ -62,6 +63,9 @@ fn numbers_ok(frame: &Frame, counts: Counts) -> bool
         }
         Frame::Final(s) => s.declared(counts),
         Frame::Expression(marks) => marks_ok(marks.as_slice(), counts),
+        Frame::ListedMark(_, s, t, c) => {
+            s.declared(counts) && t.declared(counts) && c.declared(counts)
+        }
         _ => true,
     }
 }
@@ -85,19 +89,28 @@ impl File {
         self.expression.is_none() && self.steps.is_empty() && self.finals.is_empty()
     }
 
-    // 11: line 1 declares, and no other line does; one allowance is given at most; and the question is given by one
-    // expression or by steps and final states.
+    // Whether line 1 is read, and no list has begun.
+    #[inline(always)]
+    pub(crate) fn is_open(&self) -> bool
+        ensures { IsTrue result ↔ HoldsOpen self.now }
+    {
+        0 < self.lines && self.listed == 0
+    }
+
+    // 11: line 1 declares, and no other line does; one allowance is given at most; the question is given by one expression or
+    // by steps and final states; and behind the first entry of a list there is nothing but entries.
     fn is_in_place(&self, frame: &Frame) -> bool
         ensures { IsTrue result ↔ IsInPlace self.now frame.now }
     {
         match frame {
             Frame::Declared(_) => self.lines == 0,
-            Frame::Allowance(_) => 0 < self.lines && self.allowance.is_none(),
+            Frame::Allowance(_) => self.is_open() && self.allowance.is_none(),
             Frame::RoleStep(_, _, _) | Frame::TestStep(_, _, _) | Frame::Final(_) => {
-                0 < self.lines && self.expression.is_none()
+                self.is_open() && self.expression.is_none()
             }
-            Frame::Expression(_) => 0 < self.lines && self.has_no_question(),
-            _ => 0 < self.lines,
+            Frame::Expression(_) => self.is_open() && self.has_no_question(),
+            Frame::ListedMark(_, _, _, _) => 0 < self.lines,
+            _ => self.is_open(),
         }
     }
 
@@ -115,6 +128,7 @@ impl File {
             Frame::RoleStep(_, _, _) | Frame::TestStep(_, _, _) => self.steps.has_room(),
             Frame::Final(_) => self.finals.has_room(),
             Frame::Ask(_, _) | Frame::AskFrom(_) => self.asks.has_room(),
+            Frame::ListedMark(_, _, _, _) => self.listed < LISTED,
             Frame::Declared(_) | Frame::Allowance(_) | Frame::Expression(_) => true,
         }
     }
@@ -141,16 +155,15 @@ impl File {
         Ok(())
     }
 
-    // Whether a frame that adds a record to a table passes all these tests, by one look at its kind. What it does not pass may
-    // yet be taken: `judge` tells.
+    // Whether a frame that adds a record to a table, and no entry to a list, passes all these tests behind line 1 and before
+    // any list, by one look at its kind. What it does not pass may yet be taken: `judge` tells.
     #[inline(always)]
     pub(crate) fn passes(&self, frame: &Frame) -> bool
-        ensures { OnTrue result (Passes self.now frame.now) }
+        requires { HoldsOpen self.now }
+        ensures passes { OnTrue result (Passes self.now frame.now) }
+        ensures adds_none { OnTrue result (entry_in frame.now ≡ None) }
     {
         let counts = self.counts;
-        if self.lines == 0 {
-            return false;
-        }
         match frame {
             Frame::ConceptRule(c, d) => {
                 self.concept_rules.has_room() && c.declared(counts) && d.declared(counts)

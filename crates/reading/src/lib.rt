@@ -1,18 +1,22 @@
 // A file read line by line: each line's frame is refused with its number, or its record is kept in the table of its kind.
 #![tactic(auto)]
 
-ghost use Rattle.std.specs.Prelude.{◌≡◌, ◌+◌, ◌-◌, ◌^◌, ◌<◌, ◌≤◌, [], Ok, Err, Some, IfOk, IfErr, IfSome, OnOk, OnErr, min};
+ghost use Rattle.std.specs.Prelude.{◌≡◌, ◌↔◌, ◌+◌, ◌-◌, ◌^◌, ◌<◌, ◌≤◌, [], Ok, Err, Some, IsTrue, IfOk, IfErr, IfSome, OnOk, OnErr, min};
 ghost use Rattle.reading.specs.Front.{TakesFront, TakesLines};
 ghost use Rattle.kinds.specs.Kinds.{number_of, most_states};
 ghost use Rattle.meaning.specs.Demands.{most_rounds};
 ghost use Rattle.tables.specs.Lists.{lists};
+ghost use Rattle.streams.specs.Input.{left_of};
 ghost use Rattle.streams.specs.Lines.{lines};
 ghost use Rattle.reading.specs.Refusal.{refusal_number, refusal_of};
 ghost use Rattle.reading.specs.Laws.{IsListed};
-ghost use Rattle.reading.specs.File.{file_of, file_with, allowance_in, Asks, LendsTables, HasShelfRoom, IsSmall};
-ghost use Rattle.reading.specs.Reads.{IsRead, ReadsFile, told_at_end};
+ghost use Rattle.reading.specs.File.{file_of, file_with, allowance_in, Asks, LendsTables, HoldsOpen, HasShelfRoom, IsSmall};
+ghost use Rattle.reading.specs.Reads.{BeginsList, IsOpenFor, IsRead, ReadsOn, ReadsUpTo, fault_after, told_at_end};
+ghost use Rattle.reading.specs.Room.{room_left};
+ghost use Rattle.reading.specs.Tables.{most_lines};
 ghost use Rattle.reading.specs.Tidy.{SpellsOut, TidiesTables};
 ghost use Rattle.reading.specs.Turns.{ExpressionJudged, RowJudged, TakesLine};
+ghost use Rattle.reading.specs.Next.{Proceeds};
 
 use expressed::Expression;
 use frames::held::Held;
@@ -39,6 +43,12 @@ pub mod theorems;
 // The most asks of a file.
 pub const ASKS: usize = 256;
 
+// The most entries of the list that ends a file.
+pub const LISTED: usize = 131_072;
+
+// The characters that tell whether a line is an entry of a list: those of its kind.
+const LIST_BEGINS: usize = 2;
+
 // What is declared before line 1 is read.
 const NOTHING: Counts = Counts {
     names: 0,
@@ -48,7 +58,7 @@ const NOTHING: Counts = Counts {
     start: State(0),
 };
 
-// Why a line, and with it the file, is refused.
+// Why a file is refused: by its first faulty line, or where no line is faulty, since its list is not that of its sheet.
 #[derive(Clone, Copy)]
 pub enum Refusal {
     BadCount,
@@ -61,6 +71,7 @@ pub enum Refusal {
     NoExpression,
     TooDeep,
     AnotherShape,
+    NotTheSheet,
 }
 
 // A file's first faulty line, counted from 1, and why it is refused.
@@ -68,6 +79,21 @@ pub enum Refusal {
 pub struct Fault {
     pub line: usize,
     pub refusal: Refusal,
+}
+
+// What stands behind the lines that were read of an input: nothing, or the list that ends it.
+#[derive(Clone, Copy)]
+pub enum Behind {
+    Nothing,
+    List,
+}
+
+// What came of the next line: it was taken, or refused, or there was none.
+#[derive(Clone, Copy)]
+enum Progress {
+    Taken,
+    Refused(Refusal),
+    Ended,
 }
 
 // The steps and the final states of a question.
@@ -78,7 +104,7 @@ struct Question<'a> {
 }
 
 // What is read of a file: what line 1 declares, the allowance and the expression where they are given, the tables, and how
-// many lines were read.
+// many lines were read, and of them how many entries of a list.
 #[derive(Drop)]
 pub struct File {
     pub counts: Counts,
@@ -94,6 +120,7 @@ pub struct File {
     pub expression: Option<Expression>,
     pub asks: Shelf<Ask, { Ask::WIDTH }, { ASKS }>,
     pub lines: usize,
+    pub listed: usize,
 }
 
 impl Refusal {
@@ -112,6 +139,7 @@ impl Refusal {
             Refusal::NoExpression => 12,
             Refusal::TooDeep => 13,
             Refusal::AnotherShape => 14,
+            Refusal::NotTheSheet => 15,
         }
     }
 }
@@ -150,7 +178,7 @@ fn number(c: Concept) -> u16
 
 impl File {
     // Nothing read yet.
-    #[tactic(auto, unfolding(crate::specs::Tables::table))]
+    #[tactic(auto, unfolding(crate::specs::Tables::table, crate::specs::Tables::entries))]
     pub fn new() -> File
         ensures { result ≡ file_of [] }
     {
@@ -168,6 +196,7 @@ impl File {
             expression: None,
             asks: Shelf::new(),
             lines: 0,
+            listed: 0,
         }
     }
 
@@ -263,9 +292,9 @@ impl File {
     // make room for an automaton at each line.
     #[inline(never)]
     fn express(&mut self, marks: Marks) -> Result<(), Refusal>
-        requires { self.old.counts.states ≤ most_states }
         ensures taken { OnOk result (RowJudged self.old.counts marks (Ok tt)) }
-        ensures refused { IfErr result (λ refusal. RowJudged self.old.counts marks (Err refusal)) }
+        ensures refused { self.old.counts.states ≤ most_states
+            → IfErr result (λ refusal. RowJudged self.old.counts marks (Err refusal)) }
         ensures ok { OnOk result (self.new ≡ record self.old { expression = Some marks }) }
         ensures err { OnErr result (self.new ≡ self.old) }
     {
@@ -278,9 +307,8 @@ impl File {
     fn keep(&mut self, frame: Frame) -> Result<(), Refusal>
         requires room { HasShelfRoom self.old frame }
         requires small { IsSmall frame }
-        requires few { self.old.lines < 2 ^ 16 }
-        requires states { self.old.counts.states ≤ most_states }
-        ensures judged { ExpressionJudged self.old.counts frame result }
+        ensures judged { self.old.counts.states ≤ most_states
+            → ExpressionJudged self.old.counts frame result }
         ensures ok { OnOk result (self.new ≡ file_with frame self.old) }
         ensures err { OnErr result (self.new ≡ self.old) }
     {
@@ -299,15 +327,17 @@ impl File {
             Frame::AskFrom(i) => self.asks.push([1, i.0, 0]),
             Frame::Allowance(rounds) => self.allowance = Some(rounds),
             Frame::Expression(marks) => self.express(marks)?,
+            Frame::ListedMark(_, _, _, _) => self.listed += 1,
         }
-        self.lines += 1;
+        self.lines = self.lines.saturating_add(1);
         Ok(())
     }
 
     // A line read: its frame is kept, or the line is refused and nothing changes.
     fn take_line(&mut self, line: &[u8]) -> Result<(), Refusal>
-        requires { IsRead self.old }
-        ensures { TakesLine self.old line.now result self.new }
+        ensures turn { TakesLine self.old line.now result self.new }
+        ensures room { OnOk result (room_left self.new < room_left self.old) }
+        ensures err { OnErr result (self.new ≡ self.old) }
     {
         let frame = frames::read(line)?;
         self.judge(&frame)?;
@@ -319,7 +349,7 @@ impl File {
     #[inline(always)]
     #[tactic(auto, using(crate::proofs::Fronts::at_front))]
     fn take_front(&mut self, held: &[u8]) -> usize
-        requires { IsRead self.old }
+        requires { HoldsOpen self.old }
         ensures { TakesFront self.old held.now result self.new }
     {
         let Some(front) = Held::at(held) else {
@@ -340,14 +370,14 @@ impl File {
             Kind::Final => self.take_kind(Kind::Final, &front),
             Kind::Ask => self.take_kind(Kind::Ask, &front),
             Kind::AskFrom => self.take_kind(Kind::AskFrom, &front),
-            Kind::Declared | Kind::Allowance | Kind::Expression => 0,
+            Kind::Declared | Kind::Allowance | Kind::Expression | Kind::ListedMark => 0,
         }
     }
 
     // A line of a kind, taken so. Each kind that adds a record has code of its own, in which nothing asks for the kind again.
     #[inline(always)]
     fn take_kind(&mut self, kind: Kind, held: &Held) -> usize
-        requires { IsRead self.old }
+        requires { HoldsOpen self.old }
         ensures { TakesFront self.old held.now.characters.now result self.new }
     {
         let Some(Front { frame, length }) = held.frame(kind) else {
@@ -364,9 +394,11 @@ impl File {
 
     // The lines at the front of what is held, as long as they are taken so: how many characters they have.
     fn take_lines(&mut self, held: &[u8]) -> usize
-        requires { IsRead self.old }
         ensures { TakesLines self.old held.now result self.new }
     {
+        if !self.is_open() {
+            return 0;
+        }
         let mut at = 0;
         'lines: loop {
             let n = self.take_front(&held[at..]);
@@ -377,13 +409,30 @@ impl File {
         }
     }
 
+    // The next line of an input, read by itself, whatever it is, which alone tells the numbers 9 and 10. Where it is not taken
+    // nothing changes.
+    fn take_next<S: Source>(&mut self, input: &mut Lines<S>) -> io::Result<Progress>
+        ensures ok { IfOk result (λ progress.
+            Proceeds (left_of input.old) (left_of input.new) self.old progress self.new) }
+        ensures fails { IfErr result S.fails }
+    {
+        let progress = match input.next()? {
+            Next::End => Progress::Ended,
+            Next::TooLong => Progress::Refused(Refusal::BadLine),
+            Next::Line(line) => match self.take_line(line.as_slice()) {
+                Ok(()) => Progress::Taken,
+                Err(refusal) => Progress::Refused(refusal),
+            },
+        };
+        Ok(progress)
+    }
+
     // The line after those that are read, refused.
     fn fault(&self, refusal: Refusal) -> Fault
-        requires { self.now.lines < 2 ^ 16 }
-        ensures { result ≡ record { line = self.now.lines + 1; refusal = refusal } }
+        ensures { result ≡ fault_after self.now refusal }
     {
         Fault {
-            line: self.lines + 1,
+            line: self.lines.saturating_add(1),
             refusal,
         }
     }
@@ -398,48 +447,100 @@ impl File {
         }
         Ok(())
     }
-}
 
-// A line is read by itself, whatever it is, which alone tells the numbers 9 and 10; the lines behind it are taken where they
-// stand, up to one that is not.
-fn read_lines<S: Source + Drop>(source: S, file: &mut File) -> io::Result<Result<(), Fault>>
-    requires { file.old ≡ file_of [] }
-    ensures found { IfOk result (λ found.
-        IfSome (S.remaining source) (λ input. ReadsFile (lines input) found file.new)) }
-    ensures taken { IfOk result (λ found. IsRead file.new) }
-    ensures begun { IfOk result (λ found. OnOk found (0 < file.new.lines)) }
-    ensures line { IfOk result (λ found. IfErr found (λ fault. fault.line < 2 ^ 16)) }
-    ensures fails { IfErr result S.fails }
-{
-    let mut lines = Lines::new(source);
-    'lines: loop {
-        match lines.next()? {
-            Next::End => return Ok(file.ended()),
-            Next::TooLong => return Ok(Err(file.fault(Refusal::BadLine))),
-            Next::Line(line) => {
-                if let Err(refusal) = file.take_line(line.as_slice()) {
-                    return Ok(Err(file.fault(refusal)));
-                }
-            }
-        }
-        let taken = file.take_lines(lines.held());
-        lines.consume(taken);
+    // Whether a list begins, behind line 1, at the front of what is held.
+    fn begins_list(&self, held: &[u8]) -> bool
+        ensures { IsTrue result ↔ (HoldsOpen self.now × BeginsList held.now) }
+    {
+        self.is_open() && 1 < held.len() && held[0] == b'1' && held[1] == b'0'
     }
 }
 
-// The lines of a source read into a file, up to the first faulty one. Whatever the file held is gone; after an `Err` it
-// holds nothing.
-pub fn read<S: Source + Drop>(source: S, file: &mut File) -> io::Result<Result<(), Fault>>
+// A line is read by itself, and those behind it are taken where they stand, up to one that is not; so on, up to a list.
+fn read_lines<S: Source>(input: &mut Lines<S>, file: &mut File) -> io::Result<Result<Behind, Fault>>
+    requires { file.old ≡ file_of [] }
     ensures found { IfOk result (λ found.
-        IfSome (S.remaining source) (λ input. ReadsFile (lines input) found file.new)) }
+        ReadsUpTo (left_of input.old) (left_of input.new) found file.new) }
     ensures taken { IfOk result (λ found. IsRead file.new) }
     ensures begun { IfOk result (λ found. OnOk found (0 < file.new.lines)) }
-    ensures line { IfOk result (λ found. IfErr found (λ fault. fault.line < 2 ^ 16)) }
+    ensures is_open { IfOk result (λ found. IfOk found (λ behind. IsOpenFor behind file.new)) }
+    ensures line { IfOk result (λ found. IfErr found (λ fault. fault.line ≤ most_lines + 1)) }
+    ensures fails { IfErr result S.fails }
+{
+    'lines: loop {
+        input.fill(LIST_BEGINS)?;
+        if file.begins_list(input.held()) {
+            return Ok(Ok(Behind::List));
+        }
+        match file.take_next(input)? {
+            Progress::Taken => {}
+            Progress::Refused(refusal) => return Ok(Err(file.fault(refusal))),
+            Progress::Ended => {
+                return match file.ended() {
+                    Ok(()) => Ok(Ok(Behind::Nothing)),
+                    Err(fault) => Ok(Err(fault)),
+                };
+            }
+        }
+        let taken = file.take_lines(input.held());
+        input.consume(taken);
+    }
+}
+
+// The lines that are left of an input read into a file, up to the first faulty one, or to the list that ends it. Whatever
+// the file held is gone; after an `Err` it holds nothing.
+pub fn read<S: Source>(input: &mut Lines<S>, file: &mut File) -> io::Result<Result<Behind, Fault>>
+    ensures found { IfOk result (λ found.
+        ReadsUpTo (left_of input.old) (left_of input.new) found file.new) }
+    ensures taken { IfOk result (λ found. IsRead file.new) }
+    ensures begun { IfOk result (λ found. OnOk found (0 < file.new.lines)) }
+    ensures is_open { IfOk result (λ found. IfOk found (λ behind. IsOpenFor behind file.new)) }
+    ensures line { IfOk result (λ found. IfErr found (λ fault. fault.line ≤ most_lines + 1)) }
     ensures err { OnErr result (file.new ≡ file_of []) }
     ensures fails { IfErr result S.fails }
 {
     file.clear();
-    match read_lines(source, file) {
+    match read_lines(input, file) {
+        Ok(found) => Ok(found),
+        Err(e) => {
+            file.clear();
+            Err(e)
+        }
+    }
+}
+
+// Each line that is left is read by itself, whatever was held.
+fn read_rest<S: Source>(input: &mut Lines<S>, file: &mut File) -> io::Result<Result<(), Fault>>
+    ensures found { IfOk result (λ found.
+        IfSome (left_of input.old) (λ left. ReadsOn file.old (lines left) found file.new)) }
+    ensures taken { IsRead file.old → IfOk result (λ found. IsRead file.new) }
+    ensures begun { IfOk result (λ found. OnOk found (0 < file.new.lines)) }
+    ensures line { IsRead file.old
+        → IfOk result (λ found. IfErr found (λ fault. fault.line ≤ most_lines + 1)) }
+    ensures fails { IfErr result S.fails }
+{
+    'lines: loop {
+        match file.take_next(input)? {
+            Progress::Taken => {}
+            Progress::Refused(refusal) => return Ok(Err(file.fault(refusal))),
+            Progress::Ended => return Ok(file.ended()),
+        }
+    }
+}
+
+// The lines that are left read on into a file, those of a list among them, up to the first faulty one. After an `Err` the
+// file holds nothing.
+pub fn read_on<S: Source>(input: &mut Lines<S>, file: &mut File) -> io::Result<Result<(), Fault>>
+    ensures found { IfOk result (λ found.
+        IfSome (left_of input.old) (λ left. ReadsOn file.old (lines left) found file.new)) }
+    ensures taken { IsRead file.old → IfOk result (λ found. IsRead file.new) }
+    ensures begun { IfOk result (λ found. OnOk found (0 < file.new.lines)) }
+    ensures line { IsRead file.old
+        → IfOk result (λ found. IfErr found (λ fault. fault.line ≤ most_lines + 1)) }
+    ensures err { OnErr result (file.new ≡ file_of []) }
+    ensures fails { IfErr result S.fails }
+{
+    match read_rest(input, file) {
         Ok(found) => Ok(found),
         Err(e) => {
             file.clear();

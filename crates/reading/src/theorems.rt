@@ -1,8 +1,9 @@
 // Laws of reading a file. The functions here have nothing to do: each clause is a law.
 ghost use Rattle.reading.specs.Laws.{JudgedOnce, FindsOnce, ReadingOnce, ReadsOnce};
-ghost use Rattle.reading.specs.Laws.{RefusalsListed, ReadingTaken, TakenAccepted, WholeAccepted};
+ghost use Rattle.reading.specs.Laws.{RefusalsListed, LinesRefused, ReadingTaken, TakenAccepted, WholeAccepted};
 ghost use Rattle.reading.specs.Laws.{QuestionOnce, LentOnce};
 ghost use Rattle.reading.specs.Laws.{TakenWithin, LinesBounded, StartAlike, StartDecides};
+ghost use Rattle.reading.specs.Laws.{SoundExtends, ListLast, ListOnly, ListCounted, ListBegins, EntryTaken, EntriesHeld};
 ghost use Rattle.reading.specs.Former.{FormerOnce, FormerFound, FormerSound, FormerElse};
 ghost use Rattle.reading.specs.Deeds.{ReadsWithoutDeeds, ConceptFactsKept, RoleFactsKept};
 
@@ -19,6 +20,7 @@ pub fn once()
 // What is refused has one of the listed numbers; what is taken, the library does not refuse.
 pub fn accepted()
     ensures listed { RefusalsListed }
+    ensures lines { LinesRefused }
     ensures reading { ReadingTaken }
     ensures taken { TakenAccepted }
     ensures whole { WholeAccepted }
@@ -30,6 +32,17 @@ pub fn start()
     ensures bounded { LinesBounded }
     ensures alike { StartAlike }
     ensures decides { StartDecides }
+{}
+
+// A list ends a file, and its entries are taken one after the other.
+pub fn list()
+    ensures extends { SoundExtends }
+    ensures last { ListLast }
+    ensures only { ListOnly }
+    ensures counted { ListCounted }
+    ensures begins { ListBegins }
+    ensures taken { EntryTaken }
+    ensures held { EntriesHeld }
 {}
 
 // What is read does not depend on deed numbers, but each fact is kept with its own.

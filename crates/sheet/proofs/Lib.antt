@@ -1,8 +1,10 @@
 pub mod Theory
 pub mod Laws
 pub mod HowMany
+pub mod Flat
+pub mod ListedLaws
 pub mod Ending
-pub mod Counts
+pub mod TellingLaws
 pub mod AreaLaws
 pub mod FormerLaws
 pub mod FormerOnce

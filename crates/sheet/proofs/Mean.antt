@@ -1,6 +1,6 @@
 -- What the sheet of the rows means: with rows that say what a collection says, rounds, ends and areas are the collection's.
-use Rattle.std.specs.Prelude.{◌≡◌, refl, ◌<◌, ◌≤◌, ℕ, suc, map}
-use Rattle.std.proofs.Common.{sym, ap, ◌∙◌, arith}
+use Rattle.std.specs.Prelude.{◌≡◌, refl, ◌<◌, ◌≤◌, ℕ, suc, List, map}
+use Rattle.std.proofs.Common.{sym, subst, ap, ◌∙◌, arith}
 use Rattle.std.proofs.lemmas.List.{length-map}
 use Rattle.std.proofs.Math.Decide.{dec_lt}
 use Rattle.kinds.specs.declared.State.{State}
@@ -8,12 +8,15 @@ use Rattle.kinds.specs.declared.Concept.{Concept}
 use Rattle.kinds.specs.Kinds.{state, number_of, concept_of, number-concept, concept-number, CountsFit}
 use Rattle.laws.specs.Member.{◌∈◌, map-in, map-out}
 use Rattle.laws.specs.Distinct.{distinct-map}
+use Rattle.laws.specs.Rises.{rises-map}
 use Rattle.laws.specs.Rounds.{least-same}
 use Rattle.meaning.specs.Collection.{Collection}
 use Rattle.theory.specs.Kind.{Kind}
 use Rattle.meaning.specs.Lite.{lite}
 use Rattle.theory.specs.Sheet.{Mark, Unchanged, Needed}
 use Rattle.theory.specs.Marks.{Added, Adds}
+use Rattle.theory.specs.Listing.{FirstIn, mark_order, FirstMarks}
+use Rattle.meaning.specs.Listing.{numbered_lite}
 use Rattle.meaning.specs.Layout as layout
 use Rattle.meaning.proofs.Declared.{concept-out}
 use Rattle.theory.proofs.SheetLaws.{mark-markable}
@@ -22,7 +25,9 @@ use Rattle.rules.specs.Rows.{kind_of}
 use Rattle.rules.specs.RowsOf.{RowsOf}
 use Rattle.rules.proofs.Same.{mark_to, mark_from}
 use Rattle.sheet.specs.Areas.{IsPlaceOf}
-use Rattle.sheet.specs.Meant.{NeededMeans, AreaMeans, CountsMean}
+use Rattle.sheet.specs.Listed.{mark_of}
+use Rattle.sheet.specs.Telling.{numbered}
+use Rattle.sheet.specs.Meant.{NeededMeans, AreaMeans, CountsMean, MarksMean}
 
 module _ (𝓒 : Collection) (fit : CountsFit 𝓒.counts) (rows : Rows) (r : RowsOf 𝓒 rows) where
   abbrev K : Kind
@@ -126,3 +131,44 @@ module _ (𝓒 : Collection) (fit : CountsFit 𝓒.counts) (rows : Rows) (r : Ro
   -- THEOREM: and rounds add the same numbers of marks
   pub same_counts : CountsMean 𝓒 rows
   same_counts n counts c = record { long = c.long; each = λ k l. same_adds k _ (c.each k l) }
+
+  -- ---- what is told of rounds
+
+  first_to : (n s t B : ℕ) → FirstIn (numbered rows) n s t B → FirstIn (numbered_lite 𝓒) n (state s) (state t) (concept_of B)
+  first_to n s t B f = record {
+    stands = mark_to 𝓒 rows r n s t B f.stands;
+    no_sooner = λ m h k. f.no_sooner m h (mark_from 𝓒 rows r m s t B k);
+  }
+
+  first_back : (n : ℕ) (s t : State) (B : Concept) → FirstIn (numbered_lite 𝓒) n s t B → FirstIn (numbered rows) n s.0 t.0 (number_of B)
+  first_back n s t B f =
+      let c = concept-number 𝓒.counts fit.names B (concept-out 𝓒.counts B (mark-markable L n s t B f.stands).of) in
+      record {
+        stands = mark_back n s t B f.stands;
+        no_sooner = λ m h k. let x = mark_to 𝓒 rows r m s.0 t.0 (number_of B) k in f.no_sooner m h (rw c at x);
+      }
+
+  same_first : (n : ℕ) (numbers : List (ℕ × ℕ × ℕ)) → FirstMarks (numbered rows) n numbers
+      → FirstMarks (numbered_lite 𝓒) n (map mark_of numbers)
+  same_first n numbers f = record {
+    sorted = rises-map (mark_order (numbered rows)) (mark_order (numbered_lite 𝓒)) mark_of
+        (λ x y h. rw (number-concept x.2, number-concept y.2) h) numbers f.sorted;
+    are = λ s t B. (to s t B, from s t B);
+  }
+    where
+      to : (s t : State) (B : Concept) → (s, t, B) ∈ map mark_of numbers → FirstIn (numbered_lite 𝓒) n s t B
+      to s t B i =
+          let w = map-out mark_of numbers i in
+          let x = w.0 in
+          subst (λ (m : State × State × Concept). FirstIn (numbered_lite 𝓒) n m.0 m.1 m.2) (sym w.2)
+          (first_to n x.0 x.1 x.2 ((f.are x.0 x.1 x.2).0 w.1))
+
+      from : (s t : State) (B : Concept) → FirstIn (numbered_lite 𝓒) n s t B → (s, t, B) ∈ map mark_of numbers
+      from s t B x =
+          let c = concept-number 𝓒.counts fit.names B (concept-out 𝓒.counts B (mark-markable L n s t B x.stands).of) in
+          let i = map-in mark_of ((f.are s.0 t.0 (number_of B)).1 (first_back n s t B x)) in
+          rw c at i
+
+  -- THEOREM: what is told of rounds has the collection's marks
+  pub same_marks : MarksMean 𝓒 rows
+  same_marks n rounds t = record { long = t.long; each = λ k h. let w = t.each k h in rw w.told (same_first k w.numbers w.are) }

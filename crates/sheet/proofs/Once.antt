@@ -1,10 +1,12 @@
--- The contracts of `sheet` leave one answer each: the end of rounds, the sheet and what comes next, the count of a round, every
--- byte of an area.
-use Rattle.std.specs.Prelude.{◌≡◌, refl, ◌↔◌, Bool, true, false, List, ℕ, ◌*◌, ◌/◌, ◌%◌, ◌<◌}
-use Rattle.std.proofs.Common.{sym, ◌∙◌, ap, arith}
+-- The contracts of `sheet` leave one answer each: the end of rounds, the sheet and what comes next, what is told of rounds,
+-- every byte of an area.
+use Rattle.std.specs.Prelude.{◌≡◌, refl, ◌↔◌, Bool, true, false, List, [], map, ℕ, ◌*◌, ◌/◌, ◌%◌, ◌<◌, ◌≤◌}
+use Rattle.std.proofs.Common.{sym, ◌∙◌, ap, arith, ext_get_or}
 use Rattle.kinds.specs.Kinds.{most_states}
+use Rattle.laws.specs.Once.{AtMostOne}
 use Rattle.theory.specs.Sheet.{Mark}
 use Rattle.theory.proofs.SheetLaws.{rounds-unique}
+use Rattle.theory.proofs.ListingLaws.{marks-once}
 use Rattle.sets.specs.declared.concepts.ConceptSet.{ConceptSet}
 use Rattle.sets.proofs.Once.{concept_rows_once}
 use Rattle.rules.proofs.Members.{has_is, has_of}
@@ -15,6 +17,8 @@ use Rattle.sheet.specs.declared.allowed.Ran.{Ran}
 use Rattle.sheet.specs.declared.allowed.Ran.TheVariants.{Needed}
 use Rattle.theory.specs.Marks.{Added}
 use Rattle.sheet.specs.Sheets.{Holds}
+use Rattle.sheet.specs.Listed.{mark_of}
+use Rattle.sheet.specs.Telling.{numbered, ToldIn, ToldUpTo}
 use Rattle.sheet.specs.Ends.{Ended, needed, spent, rounds_made}
 use Rattle.meaning.proofs.LayoutLaws.{packs-once}
 use Rattle.sheet.specs.Areas.{IsPlaceIn, LaysRows, IsPlaceOf, LaysMarks}
@@ -55,6 +59,15 @@ module _ (rows : Rows) (n : ℕ) where
     sheet = holds_once (Mark (kind_of rows) n) v.sheet.rows w.sheet.rows a.round.sheet b.round.sheet a.sheet b.sheet;
     delta = holds_once (Added (kind_of rows) n) v.delta.marks.rows w.delta.marks.rows a.round.delta b.round.delta a.delta b.delta;
   }
+
+  -- THEOREM: and of rounds one thing is told
+  told_in_once : AtMostOne (ToldIn rows n)
+  told_in_once x y a b = let e = marks-once (numbered rows) n a.numbers b.numbers a.are b.are in a.told ∙ (ap (map mark_of) e ∙ sym b.told)
+
+pub told_once : (rows : Rows) (n : ℕ) → AtMostOne (ToldUpTo rows n)
+told_once rows n x y a b =
+    ext_get_or [] x y (a.long ∙ sym b.long)
+    (λ k l. let h : k ≤ n = omega (arith, a.long) in told_in_once rows k _ _ (a.each k h) (b.each k h))
 
 -- THEOREM: every byte of an area is given by the marks
 pub lays_once : (f : ℕ → ℕ → ℕ → Type 0) (v w : List ℕ) → LaysMarks f v → LaysMarks f w → v ≡ w

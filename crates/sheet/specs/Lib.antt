@@ -1,7 +1,11 @@
 pub mod Pairs
 pub mod Finds
 pub mod Sheets
+pub mod Listed
+pub mod ToCome
 pub mod Ends
+pub mod Telling
+pub mod Told
 pub mod Heard
 pub mod Areas
 pub mod Former

@@ -13,10 +13,14 @@ use Rattle.rules.specs.declared.rows.Rows.{Rows}
 use Rattle.rules.specs.Rows.{kind_of}
 use Rattle.sheet.specs.declared.allowed.Ran.{Ran}
 use Rattle.sheet.specs.declared.closing.Closing.{Closing}
+use Rattle.sheet.specs.declared.round_marks.RoundMarks.{RoundMarks}
 use Rattle.sheet.specs.Areas.{LaysMarks}
 use Rattle.sheet.specs.Ends.{Ended, rounds_made}
 use Rattle.theory.specs.Marks.{Added, RoundCounts}
+use Rattle.theory.specs.Listing.{MarksByRound}
+use Rattle.meaning.specs.Listing.{numbered_lite}
 use Rattle.sheet.specs.Sheets.{IsRound}
+use Rattle.sheet.specs.Telling.{ToldUpTo}
 
 -- ---- one outcome
 
@@ -83,3 +87,9 @@ module _ (𝓒 : Collection) (rows : Rows) where
   CountsMean =
       (n : ℕ) (counts : List ℕ) → RoundCounts (kind_of rows) n counts
       → RoundCounts (lite 𝓒) n counts
+
+  -- and what is told of rounds has the collection's marks
+  abbrev pub MarksMean : Type 0
+  MarksMean =
+      (n : ℕ) (rounds : List RoundMarks) → ToldUpTo rows n rounds
+      → MarksByRound (numbered_lite 𝓒) n rounds

@@ -1,14 +1,14 @@
 // Rounds against an allowance.
 
 ghost use Rattle.std.specs.Prelude.{IfOk, IfErr};
-ghost use Rattle.theory.specs.Marks.{RoundCounts};
-ghost use Rattle.rules.specs.Rows.{kind_of};
 ghost use Rattle.sheet.specs.Sheets.{IsRound};
 ghost use Rattle.sheet.specs.Ends.{Ended, rounds_made};
+ghost use Rattle.sheet.specs.Telling.{ToldUpTo};
 ghost use Rattle.sheet.specs.Heard.{ToldOf, FailedGoing};
 
 use crate::closing::Closing;
-use kinds::{RoundListener, Rounds, SignedRole};
+use crate::listener::RoundListener;
+use kinds::{Rounds, SignedRole};
 use rules::Rows;
 use sets::nowhere;
 
@@ -21,7 +21,7 @@ pub enum Ran {
 
 impl Closing {
     /// Rounds from round 0 on, until one more would add nothing or the allowance is spent. The
-    /// listener is told of each, as it is made; where it fails, no other round is made.
+    /// listener is told the marks of each, before the next is worked; where it fails, no other is.
     pub fn run<L: RoundListener>(
         &mut self,
         rows: &Rows,
@@ -32,7 +32,7 @@ impl Closing {
         ensures sheet { IfOk result (λ ran.
             IsRound rows.now (rounds_made allowance ran) self.new) }
         ensures told { IfOk result (λ ran.
-            ToldOf L.hears (RoundCounts (kind_of rows.now) (rounds_made allowance ran))
+            ToldOf L.hears (ToldUpTo rows.now (rounds_made allowance ran))
             listener.old listener.new) }
         ensures failed { IfErr result (λ e.
             FailedGoing L.hears L.fails rows.now allowance listener.old e listener.new) }
@@ -40,6 +40,7 @@ impl Closing {
         // Room for the rounds, made once.
         let mut loops = [nowhere(); SignedRole::NUMBERS];
         self.start(&mut loops, rows);
+        listener.round_made(0, &self.own())?;
         let mut n: Rounds = 0;
         loop {
             if self.is_closed() {
@@ -48,9 +49,9 @@ impl Closing {
             if n == allowance {
                 return Ok(Ran::Spent);
             }
-            let added = self.advance(&mut loops, rows);
             n += 1;
-            listener.round_made(n, added)?;
+            listener.round_made(n, &self.added())?;
+            self.advance(&mut loops, rows);
         }
     }
 }

@@ -9,8 +9,9 @@ ghost use Rattle.sheet.specs.Finds.{RowsFrom, AllRows, EachRow, Own, IsTurn, Fir
 use crate::delta::Delta;
 use crate::joining::joins;
 use crate::marks::Marks;
+use crate::round_marks::RoundMarks;
 use crate::through::{Loops, through_children};
-use kinds::{MarkCount, State};
+use kinds::State;
 use rules::Rows;
 use sets::{Sheet, StateSet};
 
@@ -33,8 +34,8 @@ impl Closing {
     ghost use Rattle.theory.specs.Sheet.{Unchanged};
     ghost use Rattle.rules.specs.Rows.{kind_of};
     ghost use Rattle.rules.specs.declared.rows.Rows.{Rows as TheRows};
-    ghost use Rattle.theory.specs.Marks.{Adds};
     ghost use Rattle.sheet.specs.Sheets.{IsRound};
+    ghost use Rattle.sheet.specs.Telling.{ToldIn};
 
     /// A sheet with no mark, before any round.
     pub fn new() -> Closing {
@@ -58,14 +59,10 @@ impl Closing {
         );
     }
 
-    // One round. How many marks it added.
-    pub(crate) fn advance(&mut self, loops: &mut Loops, rows: &Rows) -> MarkCount
-        ensures round { (n : ℕ) → IsRound rows.now n self.old
-            → IsRound rows.now (n + 1) self.new }
-        ensures added { (n : ℕ) → IsRound rows.now n self.old
-            → Adds (kind_of rows.now) n result }
+    // One round.
+    pub(crate) fn advance(&mut self, loops: &mut Loops, rows: &Rows)
+        ensures { (n : ℕ) → IsRound rows.now n self.old → IsRound rows.now (n + 1) self.new }
     {
-        let added = self.delta.many;
         round(
             &mut self.sheet,
             &mut self.delta,
@@ -73,7 +70,20 @@ impl Closing {
             loops,
             rows,
         );
-        added
+    }
+
+    // The marks of the sheet, to be told while it is that of round 0. They are counted here, since nobody counted them.
+    pub(crate) fn own(&self) -> RoundMarks<'_>
+        ensures { (rows : TheRows) → IsRound rows 0 self.now → ToldIn rows 0 result }
+    {
+        RoundMarks::new(&self.sheet, self.sheet.count())
+    }
+
+    // The marks that one more round adds, to be told of that round.
+    pub(crate) fn added(&self) -> RoundMarks<'_>
+        ensures { (rows : TheRows) (n : ℕ) → IsRound rows n self.now → ToldIn rows (n + 1) result }
+    {
+        RoundMarks::new(&self.delta.marks, self.delta.many)
     }
 
     // Whether one more round adds nothing.

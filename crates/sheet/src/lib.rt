@@ -8,7 +8,9 @@ mod delta;
 mod filtering;
 pub mod former;
 mod joining;
+mod listener;
 mod marks;
+mod round_marks;
 pub mod theorems;
 mod through;
 
@@ -16,4 +18,6 @@ pub use allowed::Ran;
 pub use areas::lay;
 pub use closing::Closing;
 pub use delta::Delta;
+pub use listener::{NoListener, RoundListener};
 pub use marks::Marks;
+pub use round_marks::{MarksToCome, RoundMarks};

@@ -3,7 +3,6 @@ ghost use Rattle.std.specs.Prelude.{◌≡◌, ℕ, List};
 ghost use Rattle.kinds.specs.Kinds.{CountsFit};
 ghost use Rattle.laws.specs.Once.{AtMostOne};
 ghost use Rattle.meaning.specs.Collection.{Collection};
-ghost use Rattle.theory.specs.Marks.{Adds};
 ghost use Rattle.theory.specs.Sheet.{Mark};
 ghost use Rattle.rules.specs.declared.rows.Rows.{Rows};
 ghost use Rattle.rules.specs.Rows.{kind_of};
@@ -13,8 +12,9 @@ ghost use Rattle.sheet.specs.declared.allowed.Ran.{Ran};
 ghost use Rattle.sheet.specs.declared.closing.Closing.{Closing};
 ghost use Rattle.sheet.specs.Areas.{LaysRows, LaysMarks};
 ghost use Rattle.sheet.specs.Ends.{Ended};
+ghost use Rattle.sheet.specs.Telling.{ToldUpTo};
 ghost use Rattle.sheet.specs.Meant.{HasRound, SameRound, Closes};
-ghost use Rattle.sheet.specs.Meant.{IsKnown, AddsByNew, NeededMeans, AreaMeans, CountsMean};
+ghost use Rattle.sheet.specs.Meant.{IsKnown, AddsByNew, NeededMeans, AreaMeans, CountsMean, MarksMean};
 ghost use Rattle.sheet.specs.Former.{OneMoved, OneMovedBack, ThereAndBack, BackAndThere};
 ghost use Rattle.sheet.specs.Former.{SheetMoved, SheetMovedBack};
 
@@ -24,7 +24,7 @@ use theory::sheet::AnyKind;
 pub fn unique()
     ensures one_round { (rows : Rows) (n : ℕ) (v w : Closing)
         → HasRound rows n v → HasRound rows n w → SameRound v w }
-    ensures one_number { (rows : Rows) (n : ℕ) → AtMostOne (Adds (kind_of rows) n) }
+    ensures one_telling { (rows : Rows) (n : ℕ) → AtMostOne (ToldUpTo rows n) }
     ensures one_end { (rows : Rows) (allowance : ℕ) → AtMostOne (Ended rows allowance) }
     ensures one_area { (rows : Rows) (n : ℕ) → AtMostOne (LaysMarks (Mark (kind_of rows) n)) }
     ensures one_laying { (sheet : List ConceptSet) → AtMostOne (LaysRows sheet) }
@@ -42,6 +42,8 @@ pub fn meant<K: AnyKind>()
         → AreaMeans c rows }
     ensures counts_mean { (c : Collection) (rows : Rows) → CountsFit c.counts → RowsOf c rows
         → CountsMean c rows }
+    ensures marks_mean { (c : Collection) (rows : Rows) → CountsFit c.counts → RowsOf c rows
+        → MarksMean c rows }
 {}
 
 /// A stored area that is moved to the places of today, and back.

@@ -7,11 +7,12 @@ use Rattle.streams.proofs.Parts.{starts_ended}
 use Rattle.reading.specs.declared.File.{File}
 use Rattle.reading.specs.declared.Fault.{Fault}
 use Rattle.reading.specs.File.{file_of}
-use Rattle.reading.specs.Reading.{Verdict, faulty, sound, frames_of, Reading}
-use Rattle.reading.specs.Reading as first
-use Rattle.reading.specs.Reads.{ReadsFile, told_of}
-use Rattle.reading.proofs.Accepted.{reading-taken}
-use Rattle.shell.specs.Reports.{OneOf, Tells, TellsFound}
+use Rattle.reading.specs.Reading.{Verdict, faulty, sound, frames_of}
+use Rattle.reading.specs.Reads.{told_of}
+use Rattle.intake.specs.Verdicts.{Verdicts}
+use Rattle.intake.specs.TakesIn.{TakesIn}
+use Rattle.intake.proofs.VerdictLaws.{verdict-taken}
+use Rattle.shell.specs.Reports.{OneOf, TellsFound}
 use Rattle.shell.specs.Writes.{Saying, WritesOf, fault, said}
 
 -- what follows from P of a text
@@ -28,25 +29,25 @@ module _ (Says : Saying) (found : Result (Unit {0}) Fault) (file : File) where
       by (Err wrong) t = f _ t
 
   -- THEOREM: what is put for what reading finds of an input is written of the input
-  pub of-input : (input : List ℕ) (P : List ℕ → Type 0) → ReadsFile (lines input) found file → TellsFound Says found file P
+  pub of-input : (input : List ℕ) (P : List ℕ → Type 0) → TakesIn (lines input) found file → TellsFound Says found file P
       → OneOf (WritesOf Says input) P
-  of-input input P r t = by r.verdict r.reading r.kept (subst (λ (found : Result (Unit {0}) Fault). TellsFound Says found file P) r.told t)
+  of-input input P r t = by r.verdict r.is r.kept (subst (λ (found : Result (Unit {0}) Fault). TellsFound Says found file P) r.told t)
     where
-      by : (v : Verdict) → Reading [] (lines input) v → file ≡ file_of (frames_of v) → TellsFound Says (told_of v) file P
+      by : (v : Verdict) → Verdicts (lines input) v → file ≡ file_of (frames_of v) → TellsFound Says (told_of v) file P
           → OneOf (WritesOf Says input) P
       by (sound fs) h kept t =
-          let o = t.by fs (reading-taken h first.none) kept in
+          let o = t.by fs (verdict-taken (lines input) (sound fs) h) kept in
           record { text = o.text; is = said fs o.text h o.is; so = o.so }
       by (faulty before r) h kept t = record { text = _; is = fault before r h; so = t }
 
   -- where the input is known
-  pub of-known : (known : Option (List ℕ)) (P : List ℕ → Type 0) → IfSome known (λ input. ReadsFile (lines input) found file)
+  pub of-known : (known : Option (List ℕ)) (P : List ℕ → Type 0) → IfSome known (λ input. TakesIn (lines input) found file)
       → TellsFound Says found file P → IfSome known (λ input. OneOf (WritesOf Says input) P)
   of-known None P r t = tt
   of-known (Some input) P r t = of-input input P r t
 
   -- in memory: as much was put as is told, or had no room
-  module _ (input text : List ℕ) (r : ReadsFile (lines input) found file) where
+  module _ (input text : List ℕ) (r : TakesIn (lines input) found file) where
     pub copied : (n : ℕ) → TellsFound Says found file (λ out. take n text ≡ out) → WritesOf Says input (take n text)
     copied n t =
         let o = of-input input (λ out. take n text ≡ out) r t in

@@ -1,16 +1,14 @@
--- An input writes one text; its first 1,010,665 bytes decide it; two outcomes of a call are one.
-use Rattle.std.specs.Prelude.{ℕ, ◌+◌, ◌≡◌, refl, List, [], ◌++◌, length, take, drop}
+-- An input writes one text; its first 3,238,889 bytes decide it; two outcomes of a call are one.
+use Rattle.std.specs.Prelude.{ℕ, ◌+◌, ◌≡◌, refl, List, ◌++◌, length, take, drop}
 use Rattle.std.proofs.Math.Path.{ap₂}
 use Rattle.std.proofs.Common.{sym, ap, ◌∙◌, subst, take-append-drop, length-take, arith}
 use Rattle.streams.specs.Lines.{lines}
 use Rattle.frames.specs.declared.Frame.{Frame}
 use Rattle.reading.specs.Refusal.{refusal_number}
-use Rattle.reading.specs.Reading.{Verdict, faulty, sound, Reading}
-use Rattle.reading.specs.Reading as read
-use Rattle.reading.proofs.Accepted.{reading-taken}
+use Rattle.reading.specs.Reading.{Verdict, faulty, sound}
 use Rattle.reading.proofs.Bounds.{within-lines}
-use Rattle.reading.proofs.Once.{reading-once}
-use Rattle.reading.proofs.Prefix.{reading-start, reading-whole}
+use Rattle.intake.specs.Verdicts.{Verdicts}
+use Rattle.intake.proofs.VerdictLaws.{verdict-once, verdict-taken, start-decides}
 use Rattle.shell.specs.Faults.{fault_line}
 use Rattle.shell.specs.Laws.{FaultsNear, FaultWritten, SaidWritten, StartWrites, WritesOnce, WrittenOnce, ServedOnce}
 use Rattle.shell.specs.Writes.{Saying, WritesBy, WritesOf, fault, said}
@@ -50,37 +48,37 @@ module _ (Reads : List (List ℕ) → Verdict → Type 0) (Says : Saying) (input
         by (sound fs) h a b = one fs h x y a b
 
 module _ (Says : Saying) where
-  reads-once : (input : List ℕ) (v w : Verdict) → Reading [] (lines input) v → Reading [] (lines input) w → v ≡ w
-  reads-once input v w a b = reading-once a b
+  found-once : (input : List ℕ) (v w : Verdict) → Verdicts (lines input) v → Verdicts (lines input) w → v ≡ w
+  found-once input = verdict-once (lines input)
 
   -- THEOREM: a faulty input writes the line of its fault
   pub fault-written : FaultWritten Says
   fault-written input before r h text = (
-    λ w. text-of (Reading []) Says input (reads-once input) (faulty before r) h w,
-    λ e. written (Reading []) Says input (faulty before r) h e,
+    λ w. text-of Verdicts Says input (found-once input) (faulty before r) h w,
+    λ e. written Verdicts Says input (faulty before r) h e,
   )
 
   -- THEOREM: and a sound one what is said of its frames
   pub said-written : SaidWritten Says
   said-written input fs h text =
-      (λ w. text-of (Reading []) Says input (reads-once input) (sound fs) h w, λ s. written (Reading []) Says input (sound fs) h s)
+      (λ w. text-of Verdicts Says input (found-once input) (sound fs) h w, λ s. written Verdicts Says input (sound fs) h s)
 
-  -- THEOREM: any input writes what its first 1,010,665 bytes write, and they write what it writes
+  -- THEOREM: any input writes what its first 3,238,889 bytes write, and they write what it writes
   pub start-writes : StartWrites Says
   start-writes input n h text = (whole, start)
     where
       whole : {x : List ℕ} → WritesOf Says (take n input) x → WritesOf Says input x
-      whole (fault before r k) = fault before r (reading-whole input n h (faulty before r) k)
-      whole (said fs x k s) = said fs x (reading-whole input n h (sound fs) k) s
+      whole (fault before r k) = fault before r ((start-decides input n h (faulty before r)).0 k)
+      whole (said fs x k s) = said fs x ((start-decides input n h (sound fs)).0 k) s
 
       start : {x : List ℕ} → WritesOf Says input x → WritesOf Says (take n input) x
-      start (fault before r k) = fault before r (reading-start input n h (faulty before r) k)
-      start (said fs x k s) = said fs x (reading-start input n h (sound fs) k) s
+      start (fault before r k) = fault before r ((start-decides input n h (faulty before r)).1 k)
+      start (said fs x k s) = said fs x ((start-decides input n h (sound fs)).1 k) s
 
   -- THEOREM: where one text is said of each file an input writes one text
   pub writes-once : WritesOnce Says
   writes-once one input x y =
-      by-once (Reading []) Says input (reads-once input) (λ fs h. one fs (reading-taken h read.none))
+      by-once Verdicts Says input (found-once input) (λ fs h. one fs (verdict-taken (lines input) (sound fs) h))
 
   -- THEOREM: two outcomes of writing in memory are equal: how much is told, and every byte of the text
   pub written-once : WrittenOnce Says
@@ -95,6 +93,6 @@ module _ (Says : Saying) where
   pub served-once : ServedOnce Says
   served-once one input old x y a b = a.so ∙ ap (λ (text : List ℕ). old ++ text) (writes-once one input a.text b.text a.is b.is) ∙ sym b.so
 
--- THEOREM: the first faulty line of any input has a number of at most 7,715
+-- THEOREM: the first faulty line of any input has a number of at most 138,787
 pub faults-near : FaultsNear
-faults-near input before r h = omega (arith, within-lines before (reading-taken h read.none))
+faults-near input before r h = omega (arith, within-lines before (verdict-taken (lines input) (faulty before r) h))

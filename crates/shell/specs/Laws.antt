@@ -1,4 +1,4 @@
--- Laws of what a program writes of an input, whatever it says of a file that is read whole.
+-- Laws of what a program writes of an input, whatever it says of a sound file.
 use Rattle.std.specs.Prelude.{ℕ, ◌+◌, ◌≤◌, ◌≡◌, ◌↔◌, List, Some, length, take, drop}
 use Rattle.std.specs.Io.KnownBytes.{Appends}
 use Rattle.frames.specs.declared.Frame.{Frame}
@@ -9,10 +9,10 @@ use Rattle.shell.specs.Faults.{fault_line}
 use Rattle.shell.specs.Reports.{OneOf}
 use Rattle.shell.specs.Writes.{IsSound, IsFaulty, Saying, WritesOf}
 
--- a faulty input's first faulty line has a number of at most 7,715
+-- a faulty input's first faulty line has a number of at most 138,787
 abbrev pub FaultsNear : Type 0
 FaultsNear = (input : List ℕ) (before : List Frame) (r : Refusal) → IsFaulty input before r
-    → length before + 1 ≤ 7715
+    → length before + 1 ≤ 138787
 
 module _ (Says : Saying) where
   -- a faulty input writes the line of that number, from 1, and of the number that refuses the line
@@ -26,9 +26,9 @@ module _ (Says : Saying) where
   SaidWritten = (input : List ℕ) (fs : List Frame) → IsSound input fs
       → (text : List ℕ) → WritesOf Says input text ↔ Says fs text
 
-  -- the first 1,010,665 bytes of an input, or more of them, write what the whole writes
+  -- the first 3,238,889 bytes of an input, or more of them, write what the whole writes
   abbrev pub StartWrites : Type 0
-  StartWrites = (input : List ℕ) (n : ℕ) → 1010665 ≤ n → (text : List ℕ)
+  StartWrites = (input : List ℕ) (n : ℕ) → 3238889 ≤ n → (text : List ℕ)
       → WritesOf Says (take n input) text ↔ WritesOf Says input text
 
   -- of frames that were taken one after the other one text is said

@@ -9,11 +9,19 @@ use reading::Fault;
 // The kind of line.
 const FAULT: u8 = 0x8F;
 
+// The last line whose number has two bytes; each later one's has four.
+const LAST_OF_TWO: usize = u16::MAX as usize;
+
 #[tactic(auto, unfolding(crate::specs::Faults::fault_line))]
 pub(crate) fn line(fault: Fault) -> LineText
-    requires { fault.line < 2 ^ 16 }
+    requires { fault.line < 2 ^ 32 }
     ensures { result ≡ fault_line fault.line (refusal_number fault.refusal) }
 {
-    let [high, low] = (fault.line as u16).to_be_bytes();
-    LineText::of(&[FAULT, high, low, fault.refusal.number()])
+    let [a, b, c, d] = (fault.line as u32).to_be_bytes();
+    let number = fault.refusal.number();
+    if fault.line <= LAST_OF_TWO {
+        LineText::of(&[FAULT, c, d, number])
+    } else {
+        LineText::of(&[FAULT, a, b, c, d, number])
+    }
 }

@@ -1,5 +1,5 @@
-// The shell of a desk program: an input is read up to its first faulty line, and that line's fault, or what the program
-// writes of a file without one, goes through a buffer to a sink, or into memory.
+// The shell of a desk program: an input is taken in whole, and the line of its fault, or what the program writes of a file without
+// one, goes through a buffer to a sink, or into memory.
 #![tactic(auto)]
 
 ghost use Rattle.std.specs.Prelude.{◌≡◌, ◌^◌, ◌<◌, ◌≤◌, ℕ, List, Some, Err, IfSome, IfNone, IfErr, IsOk, OnOk, OnErr, length, drop, take};
@@ -11,7 +11,8 @@ ghost use Rattle.shell.specs.Writes.{Saying, WritesOf};
 ghost use Rattle.shell.specs.Reports.{OneOf, Tells, TellsFound};
 ghost use Rattle.shell.specs.Message.{message_of};
 
-use reading::{Fault, File, read};
+use intake::read;
+use reading::{Fault, File};
 use std::{fmt, io};
 use streams::memory::{Bytes, Page};
 use streams::output::Gathered;
@@ -20,7 +21,7 @@ use streams::{Sink, Source, Taker};
 mod fault;
 pub mod theorems;
 
-// What a program writes of a file that was read whole.
+// What a program writes of a file that was found sound.
 pub trait Report {
     // The texts that it may write of some frames.
     ghost says: { Saying };
@@ -63,7 +64,7 @@ impl fmt::Display for ServeError {
     }
 }
 
-// What reading found, put: the line of the fault, or what the program says of the file.
+// What was found, put: the line of the fault, or what the program says of the file.
 fn put_found<R: Report, T: Taker>(
     report: &R,
     found: Result<(), Fault>,
@@ -72,7 +73,7 @@ fn put_found<R: Report, T: Taker>(
 ) -> io::Result<()>
     requires read { IsRead file.old }
     requires begun { OnOk found (0 < file.old.lines) }
-    requires line { IfErr found (λ fault. fault.line < 2 ^ 16) }
+    requires line { IfErr found (λ fault. fault.line < 2 ^ 32) }
     ensures ok { OnOk result
         (TellsFound R.says found file.old (λ out. T.takes to.old out to.new)) }
     ensures err { IfErr result (λ e.
@@ -93,7 +94,7 @@ fn put_to<R: Report, K: Sink>(
 ) -> io::Result<()>
     requires read { IsRead file.old }
     requires begun { OnOk found (0 < file.old.lines) }
-    requires line { IfErr found (λ fault. fault.line < 2 ^ 16) }
+    requires line { IfErr found (λ fault. fault.line < 2 ^ 32) }
     ensures ok { OnOk result (TellsFound R.says found file.old
         (Appends (K.contents sink.old) (K.contents sink.new))) }
     ensures err { OnErr result (TellsFound R.says found file.old
@@ -105,7 +106,7 @@ fn put_to<R: Report, K: Sink>(
     gathered.finish()
 }
 
-// What a source has left is read up to its first faulty line, and what the program writes of it is put to a sink.
+// What a source has left is taken in, and what the program writes of it is put to a sink.
 pub fn serve<S: Source + Drop, R: Report, K: Sink>(
     source: S,
     report: &R,
@@ -148,7 +149,7 @@ fn copy<R: Report>(
 ) -> Option<usize>
     requires read { IsRead file.old }
     requires begun { OnOk found (0 < file.old.lines) }
-    requires line { IfErr found (λ fault. fault.line < 2 ^ 16) }
+    requires line { IfErr found (λ fault. fault.line < 2 ^ 32) }
     ensures within { IfSome result (λ n. n ≤ length text.old) }
     ensures written { IfSome result (λ n.
         TellsFound R.says found file.old (λ out. take n text.new ≡ out)) }

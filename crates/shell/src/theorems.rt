@@ -3,7 +3,7 @@
 ghost use Rattle.shell.specs.Writes.{Saying};
 ghost use Rattle.shell.specs.Laws.{FaultsNear, FaultWritten, SaidWritten, StartWrites, WritesOnce, WrittenOnce, ServedOnce};
 
-// A type that names what is said of a file that is read whole: anything.
+// A type that names what is said of a file that is sound: anything.
 pub trait AnySaying {
     ghost says: { Saying };
 }

@@ -1,6 +1,5 @@
 pub mod Dedups
 pub mod Members
-pub mod Once
 pub mod Chunks
 pub mod TidyLaws
 pub mod SetLaws

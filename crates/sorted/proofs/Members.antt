@@ -1,6 +1,6 @@
 -- Membership by place, as the library says it, and by the sign that a reader expects.
 use Rattle.std.specs.Prelude.{◌≡◌, ◌⊎◌, List, [], ◌∷◌, ℕ, zero, suc, ◌<◌, length, slice_index_or}
-use Rattle.std.specs.List.{Contains, AllByRecursion}
+use Rattle.std.specs.List.{Contains}
 use Rattle.std.proofs.Common.{sym, inl, inr, arith}
 use mathlib.Core.List.Memᴰ
 use Rattle.laws.specs.Member.{◌∈◌}
@@ -21,12 +21,3 @@ module _ {X : Type 0} where
       side : (x ≡ y) ⊎ (x ∈ xs) → (x ∈ xs → Contains xs x) → Contains (y ∷ xs) x
       side (inl e) r = (0, omega arith, sym e)
       side (inr k) r = let w = r k in let h = w.1 in (suc w.0, omega arith, w.2)
-
-  -- what holds of every element holds of a member
-  pub all-out : (P : X → Type 0) (xs : List X) → AllByRecursion P xs → (x : X) → x ∈ xs → P x
-  all-out P [] h x m = absurd (Memᴰ.not-nil m)
-  all-out P (y ∷ xs) h x m = side (Memᴰ.cases_cons m) (all-out P xs h.1 x)
-    where
-      side : (x ≡ y) ⊎ (x ∈ xs) → (x ∈ xs → P x) → P x
-      side (inl e) r = rw e h.0
-      side (inr k) r = r k

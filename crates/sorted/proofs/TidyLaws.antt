@@ -8,7 +8,7 @@ use Rattle.std.proofs.Common.{sym, ap, ◌∙◌, subst}
 use Rattle.std.proofs.lemmas.Cmp.{nat_list_cmp_total}
 use Rattle.sorted.specs.Rows.{rows, flat, SameMembers, SameRecords, AreTidied, IsTidied}
 use Rattle.sorted.proofs.Members.{placed-in, contains-in, in-contains}
-use Rattle.sorted.proofs.Once.{strict-once}
+use Rattle.laws.specs.Rises.{strict-once}
 use Rattle.sorted.proofs.Chunks.{flat-rows}
 
 pub members-turned : {l m : List (List ℕ)} → SameMembers l m → SameMembers m l

@@ -1,12 +1,12 @@
 // The lines of an input, one after the other, through a fixed buffer: nothing is allocated, and no more of the
 // input is held than the buffer has room for.
-ghost use Rattle.std.specs.Prelude.{◌≡◌, ◌==◌, ◌+◌, ◌-◌, ◌<◌, ◌≤◌, ℕ, [], IfOk, IfErr, OnErr, IfSome, length, drop, take, position};
+ghost use Rattle.std.specs.Prelude.{◌≡◌, ◌==◌, ◌+◌, ◌-◌, ◌<◌, ◌≤◌, ℕ, [], IfOk, IfErr, OnOk, OnErr, IfSome, length, min, drop, take, position};
 ghost use Rattle.std.specs.Io.KnownBytes.{Keeps, prepend_known};
 ghost use Rattle.streams.specs.Gives.{Gives, ConsumesNext};
-ghost use Rattle.streams.specs.Input.{left_of};
+ghost use Rattle.streams.specs.Input.{left_of, IsFilled};
 
 use crate::window::Window;
-use crate::{LINE, Source};
+use crate::{BUFFER, LINE, Source};
 use std::io;
 use std::marker::Model;
 
@@ -144,6 +144,15 @@ impl<S: Source> Lines<S> {
     {
         let held = self.window.as_slice().len();
         self.window.consume(count.min(held));
+    }
+
+    // Reads on until so many bytes are held, or as many as there is room for, or nothing is left to be read.
+    pub fn fill(&mut self, count: usize) -> io::Result<()>
+        ensures left { Keeps (left_of self.old) (left_of self.new) }
+        ensures ok { OnOk result (IsFilled (min count BUFFER) self.new.held self.new.behind) }
+        ensures fails { IfErr result S.fails }
+    {
+        self.window.fill_from(&mut self.source, count.min(BUFFER))
     }
 
     // After an `Err` or a line that is too long, the bytes that are left are the same.

@@ -1,6 +1,7 @@
 // The bytes that are read and not yet taken, in a fixed buffer.
-ghost use Rattle.std.specs.Prelude.{◌≡◌, ◌+◌, ◌<◌, ◌≤◌, [], IfOk, IfErr, OnErr, length, drop};
+ghost use Rattle.std.specs.Prelude.{◌≡◌, ◌+◌, ◌<◌, ◌≤◌, [], IfOk, IfErr, OnOk, OnErr, length, drop};
 ghost use Rattle.std.specs.Io.KnownBytes.{Keeps, IsAtEnd, prepend_known};
+ghost use Rattle.streams.specs.Input.{IsFilled};
 
 use crate::{BUFFER, Source};
 use std::io;
@@ -68,5 +69,21 @@ impl Window {
         let n = source.read_some(&mut self.bytes[held..])?;
         self.to = held + n;
         Ok(n)
+    }
+
+    // Reads on until so many bytes are held, or nothing is left to be read.
+    pub(crate) fn fill_from<S: Source>(&mut self, source: &mut S, count: usize) -> io::Result<()>
+        requires { count ≤ BUFFER }
+        ensures left { Keeps (prepend_known self.old (S.remaining source.old))
+            (prepend_known self.new (S.remaining source.new)) }
+        ensures ok { OnOk result (IsFilled count self.new (S.remaining source.new)) }
+        ensures fails { IfErr result S.fails }
+    {
+        'reads: while self.as_slice().len() < count {
+            if self.read_from(source)? == 0 {
+                return Ok(());
+            }
+        }
+        Ok(())
     }
 }

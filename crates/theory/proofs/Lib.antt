@@ -8,3 +8,5 @@ pub mod Onward
 pub mod Tests
 pub mod OnwardTests
 pub mod MarksLaws
+pub mod ListingLaws
+pub mod ListedLaws

@@ -75,10 +75,10 @@ module _ (𝓚 : Kind) where
   nest x = (x.0, (x.1, x.2))
 
   -- every declared state, state and concept
-  unfoldable triples : List Triple
+  unfoldable pub triples : List Triple
   triples = map flat (pairs states (pairs states concepts))
 
-  triple-in : (s t : State) (B : Concept) → Markable 𝓚 s t B → ◌∈◌ {A = Triple} (s, t, B) triples
+  pub triple-in : (s t : State) (B : Concept) → Markable 𝓚 s t B → ◌∈◌ {A = Triple} (s, t, B) triples
   unfolding triples
   triple-in s t B p = map-in flat (pairs-in p.from (pairs-in p.to p.of))
 
@@ -95,7 +95,7 @@ module _ (𝓚 : Kind) where
         of = rw (ap (λ (x : Triple). x.2) e) v.1;
       }
 
-  triples-long : length triples ≡ length states * (length states * length concepts)
+  pub triples-long : length triples ≡ length states * (length states * length concepts)
   unfolding triples
   triples-long = rw (length-map, length_pairs, length_pairs) refl
 
@@ -119,7 +119,7 @@ module _ (𝓚 : Kind) where
     marked-is n = mark-out 𝓚 c.tests c.decide c.sane n
 
     -- what one more round marks stood before, or is added
-    split : (n : ℕ) (s t : State) (B : Concept) → Mark 𝓚 (suc n) s t B → Mark 𝓚 n s t B ⊎ Added 𝓚 n s t B
+    pub split : (n : ℕ) (s t : State) (B : Concept) → Mark 𝓚 (suc n) s t B → Mark 𝓚 n s t B ⊎ Added 𝓚 n s t B
     split n s t B m = look (marked n s t B) (marked-is n s t B (mark-markable 𝓚 (suc n) s t B m)) (is-marked n s t B)
       where
         look : (b : Bool) → (T b → Mark 𝓚 n s t B) → (Mark 𝓚 n s t B → T b) → Mark 𝓚 n s t B ⊎ Added 𝓚 n s t B

@@ -20,8 +20,7 @@ use Rattle.meaning.specs.Collection.{Collection, WellFormed}
 use Rattle.meaning.specs.Lite.{signed_roles, valid_concepts, declared_states, lite}
 use Rattle.theory.specs.Sheet.{Mark}
 use Rattle.theory.proofs.SheetLaws.{mark-markable}
-use Rattle.theory.proofs.Tests.{joins, hangs_to, hangs_from, hangs, round, Spot, places, spot_in, spot_out, at, table, work, after}
-use Rattle.meaning.proofs.LiteSheet.{lite_sheet, lite_after, lite-after, lite-mark-in, lite-mark-out}
+use Rattle.theory.proofs.Tests.{joins, hangs_to, hangs_from, hangs, round, places, spot_in, spot_out, table, work, after}
 use Rattle.meaning.proofs.LiteTests.{role_base, role_le, concept_base, concept_le, lite_tests}
 use Rattle.meaning.proofs.Reply.{declared_individuals, fact_types, end_types, is_typed, typed_to, individual_has, joins_by, fact_edge, follows, alive_by, alive_at, alive, clash_at, clash_under, concept_clash, clash_between, clash_below, role_clash, clash, marked, stride, walks, reaches_in, reaches, is_final, goes_on, out_from, leaves}
 use Rattle.theory.proofs.OnwardTests.{goes_round, goes_to, goes_down, further, nodes, kept, onward_work}
@@ -34,20 +33,15 @@ use Rattle.theory.specs.Marks.{Stands, Adds, RoundCounts}
 use Rattle.theory.proofs.MarksLaws.{counted-once, stands-there, adds-there, one-more}
 use Rattle.meaning.proofs.LiteMarks.{standing-once, lite-countable, sheet-standing}
 use Rattle.worked.specs.Cases.{Case, cases, lend, RoundsAdd, MarksStand, Says}
+use Rattle.worked.proofs.SheetComputed.{Spots, spot_marked, marked-in, marked-out}
 
 -- where the marks of the sheet after n rounds stand, in order
 module _ (𝓒 : Collection) where
-  abbrev Spots : Type 0
-  Spots = Spot (lite 𝓒) (lite_tests 𝓒)
-
-  abbrev spot_place : Spots → ℕ
+  abbrev spot_place : Spots 𝓒 → ℕ
   spot_place p = place p.0.0 p.0.1 p.1
 
-  abbrev spot_marked : ℕ → Spots → Bool
-  spot_marked n = at (lite 𝓒) (lite_tests 𝓒) (lite_after 𝓒 n)
-
   unfoldable stands_at : ℕ → List ℕ
-  stands_at n = map spot_place (select (places (lite 𝓒) (lite_tests 𝓒)) (spot_marked n))
+  stands_at n = map spot_place (select (places (lite 𝓒) (lite_tests 𝓒)) (spot_marked 𝓒 n))
 
   unfoldable list_ok : ℕ → ℕ → Bool
   list_ok n m = let b = eqb (length (stands_at n)) m in and (rises_from 0 (stands_at n)) b
@@ -143,19 +137,13 @@ row-computes k m =
 
 -- the list that is computed is that of the places that hold 1, in any area that holds the sheet
 module _ (𝓒 : Collection) (ok : WellFormed 𝓒) (n : ℕ) (x : List ℕ) (lays : Lays (Mark (lite 𝓒) n) x) where
-  marked-sheet : (q : Spots 𝓒) → T (spot_marked 𝓒 n q) → T (lite_sheet 𝓒 n q.0.0 q.0.1 q.1)
-  marked-sheet q h = rw (lite-after 𝓒 ok.numbers n) at h
-
-  sheet-marked : (q : Spots 𝓒) → T (lite_sheet 𝓒 n q.0.0 q.0.1 q.1) → T (spot_marked 𝓒 n q)
-  sheet-marked q h = rw (lite-after 𝓒 ok.numbers n) h
-
   stands-out : (p : ℕ) → p ∈ stands_at 𝓒 n → bit_in x p ≡ 1
   unfolding stands_at
   stands-out p m =
       let w = map-out (spot_place 𝓒) (select (places (lite 𝓒) (lite_tests 𝓒)) (spot_marked 𝓒 n)) m in
       let q = w.0 in
       let v = select-out (places (lite 𝓒) (lite_tests 𝓒)) (spot_marked 𝓒 n) w.1 in
-      let k = lite-mark-out 𝓒 ok.numbers n q.0.0 q.0.1 q.1 (spot_out (lite 𝓒) (lite_tests 𝓒) q v.0) (marked-sheet q v.1) in
+      let k = marked-out 𝓒 ok.numbers n q.0.0 q.0.1 q.1 (spot_out (lite 𝓒) (lite_tests 𝓒) q v.0) v.1 in
       (lays.marks p).1 (q.0.0, q.0.1, q.1, k, sym w.2)
 
   stands-in : (p : ℕ) → bit_in x p ≡ 1 → p ∈ stands_at 𝓒 n
@@ -164,7 +152,7 @@ module _ (𝓒 : Collection) (ok : WellFormed 𝓒) (n : ℕ) (x : List ℕ) (la
       let w = (lays.marks p).0 e in
       let q : Spots 𝓒 = ((w.0, w.1), w.2) in
       let i = spot_in (lite 𝓒) (lite_tests 𝓒) w.0 w.1 w.2 (mark-markable (lite 𝓒) n w.0 w.1 w.2 w.3) in
-      let h = sheet-marked q (lite-mark-in 𝓒 ok.numbers n w.0 w.1 w.2 w.3) in
+      let h = marked-in 𝓒 ok.numbers n w.0 w.1 w.2 w.3 in
       let m = map-in (spot_place 𝓒) (select_in (places (lite 𝓒) (lite_tests 𝓒)) (spot_marked 𝓒 n) {x = q} i h) in
       rw w.4 at m
 

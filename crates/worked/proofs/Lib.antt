@@ -1,2 +1,4 @@
--- That the cases hold: one test that the checker computes.
+-- That the cases hold, and the list of the base collection: tests that the checker computes.
+pub mod BaseListHolds
 pub mod CasesHold
+pub mod SheetComputed

@@ -51,10 +51,10 @@ holding cr ce rr re cf rf st fi = record {
 
 -- base collection B: Owner ≤ ∃signs, ∃(signs backward) ≤ Deed; signs, test Deed, signs backward,
 -- from 0 to 3
-abbrev base_rules : List ℕ
+abbrev pub base_rules : List ℕ
 base_rules = 0 ∷ 64 ∷ 65 ∷ 1 ∷ []
 
-abbrev base_steps : List ℕ
+abbrev pub base_steps : List ℕ
 base_steps = 0 ∷ 0 ∷ 0 ∷ 1 ∷ 1 ∷ 1 ∷ 1 ∷ 2 ∷ 0 ∷ 2 ∷ 1 ∷ 3 ∷ []
 
 -- the question of B in the last of 17 states: from 0 to 14
@@ -66,7 +66,7 @@ abbrev last_test : List ℕ
 last_test = 1 ∷ 31 ∷ 0 ∷ 16 ∷ []
 
 -- Owner(0), by no deed that is noted
-abbrev owner : List ℕ
+abbrev pub owner : List ℕ
 owner = 0 ∷ 0 ∷ 0 ∷ []
 
 -- Owner ≤ ∃signs, ∃(signs backward) ≤ ∃holds, ∃(holds backward) ≤ ∃signs; signs, holds, signs, from 0

@@ -1,2 +1,3 @@
+pub mod BaseList
 pub mod Cases
 pub mod Laws

@@ -13,6 +13,7 @@ use crate::ask::Ask;
 use crate::collection::Collection;
 use crate::desk::desk;
 use crate::library::{self, ask, ask_from, Call};
+use crate::listing::{listing, Entry};
 use crate::model::{known::Known, letter, Answer, Model, TooLarge};
 use std::collections::BTreeSet;
 
@@ -32,6 +33,8 @@ struct Said {
     closed: u8,
     /// How many marks each worked round added; none after a contradiction.
     added: Vec<u32>,
+    /// None after a contradiction.
+    listing: Option<Vec<Entry>>,
     depth: usize,
     /// The marks that search finds are those of the closed sheet.
     marks_agree: bool,
@@ -126,13 +129,14 @@ fn say(asked: &Asked, known: &Known, allowance: u32) -> Result<Said, TooLarge> {
     let answers = model.asked(&asked.asks)?.into_iter().map(answered).collect();
     let area = (!model.is_contradiction()).then(|| area::holding(sheets[worked].iter().copied()));
     let added = if area.is_some() { letter::added(&sheets[..=worked]) } else { Vec::new() };
+    let listing = area.is_some().then(|| letter::listing(&sheets));
     let closed = match &area {
         None => 2,
         Some(_) if needed > worked => 3,
         Some(_) => 0,
     };
     let marks_agree = *model.loops() == sheets[needed];
-    Ok(Said { answers, area, closed, added, depth: model.depth, marks_agree })
+    Ok(Said { answers, area, closed, added, listing, depth: model.depth, marks_agree })
 }
 
 /// What the model answers to these asks of a collection.
@@ -145,6 +149,10 @@ pub fn questioned(collection: &Collection, asks: &[Ask]) -> Result<Vec<Answer>, 
 fn library_agrees(asked: &Asked, allowance: u32, said: &Said) -> Result<(), (String, String)> {
     if !said.marks_agree {
         return Err(("the closed sheet to the letter".into(), "other loops by search".into()));
+    }
+    let listed = listing(&asked.collection);
+    if listed != said.listing {
+        return Err((format!("the list {:?} to the letter", said.listing), format!("{listed:?}")));
     }
     let before = (vec![0xAA; AREA], vec![0x55; AREA]);
     let after = said.area.clone().map_or(before.clone(), |sheet| (sheet, vec![0; AREA]));

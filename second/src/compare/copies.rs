@@ -78,7 +78,7 @@ pub fn copies_part(programs: &Programs, mut dice: Dice, tally: &mut Tally) -> Ou
 }
 
 /// The second program itself gives what it is to give.
-fn itself(input: &[u8], expected: &[u8], found: &[u8]) -> Outcome {
+pub fn itself(input: &[u8], expected: &[u8], found: &[u8]) -> Outcome {
     if found == expected {
         return Ok(());
     }
@@ -171,7 +171,7 @@ fn met(file: &File, frames: &[Vec<u8>], answers: &[u8]) -> Vec<&'static str> {
 }
 
 /// What a file says, whatever its order, its repeats and its asks are.
-fn said(file: &File) -> (Sets, Option<u32>) {
+pub fn said(file: &File) -> (Sets, Option<u32>) {
     (sets(&Call::of(&file.collection, 0)), file.allowance)
 }
 

@@ -1,4 +1,4 @@
-//! `second compare`: thousands of cases from a seed, eleven parts, a histogram of what was hit, and the count at the end.
+//! `second compare`: thousands of cases from a seed, fourteen parts, a histogram of what was hit, and the count at the end.
 
 mod built_out;
 mod calls;
@@ -6,10 +6,13 @@ mod child;
 mod copies;
 mod damage;
 mod deeds;
+mod departures;
 mod dice;
 pub mod expressions;
 mod generate;
 mod inputs;
+mod listings;
+mod lists;
 mod long;
 mod marks;
 mod moved;
@@ -41,12 +44,13 @@ pub struct Options {
     pub jobs: usize,
     pub desk: Option<String>,
     pub copyist: Option<String>,
+    pub lister: Option<String>,
     pub library: Option<String>,
 }
 
 impl Default for Options {
     fn default() -> Options {
-        Options { cases: 3_000, seed: 1, jobs: 1, desk: None, copyist: None, library: None }
+        Options { cases: 3_000, seed: 1, jobs: 1, desk: None, copyist: None, lister: None, library: None }
     }
 }
 
@@ -62,6 +66,9 @@ const MIXED: u64 = 8;
 const MOVED: u64 = 9;
 const COPIES: u64 = 10;
 const TWICE: u64 = 11;
+const LISTS: u64 = 12;
+const LISTED: u64 = 13;
+const DEPARTS: u64 = 14;
 const MOST_SHOWN: u64 = 5;
 
 /// What the desk program can answer with, in an answer or a refusal.
@@ -126,6 +133,17 @@ pub fn compare(options: &Options) -> (u64, u64) {
     copies(options, &mut total);
     println!("k. whether two collections are the same as sets, likewise through the C boundary");
     through_drivers(options, &mut total, (TWICE, wanted(&twice::NUMBERS, &twice::MET)), parts::twice_part);
+    println!(
+        "l. files with lists: the desk, the copyist, and the lister against module listing, byte for byte"
+    );
+    lists(options, &mut total);
+    println!("m. the list of a sheet through the C boundary, with the row it is put into");
+    let listed = wanted(&listings::LISTED_NUMBERS, &listings::LISTED_MET);
+    through_drivers(options, &mut total, (LISTED, listed), parts::listed_part);
+    println!("n. where a list departs from that of a sheet, likewise");
+    let met = listings::departs_met();
+    let departs = wanted(&listings::DEPARTS_NUMBERS, &met);
+    through_drivers(options, &mut total, (DEPARTS, departs), parts::departs_part);
     total
 }
 
@@ -140,6 +158,19 @@ fn copies(options: &Options, total: &mut (u64, u64)) {
     let work = || |dice, tally: &mut Tally| copies::copies_part(&programs, dice, tally);
     let wanted = Wanted { numbers: &copies::REFUSALS, wide: &[], met: &copies::copies_met() };
     judge(total, run(options, COPIES, work), &wanted);
+}
+
+/// The part of the lists, which all three programs read.
+fn lists(options: &Options, total: &mut (u64, u64)) {
+    let words = |command: &Option<String>| command.as_deref().and_then(Words::of);
+    let commands = [&options.desk, &options.copyist, &options.lister].map(words);
+    let [Some(desk), Some(copyist), Some(lister)] = commands else {
+        println!("  skipped: a --desk, a --copyist and a --lister command are needed");
+        return;
+    };
+    let programs = lists::Programs { desk, copyist, lister };
+    let work = || |dice, tally: &mut Tally| lists::lists_part(&programs, dice, tally);
+    judge(total, run(options, LISTS, work), &wanted(&lists::NUMBERS, &lists::lists_met()));
 }
 
 /// One case put to a library driver.

@@ -46,7 +46,8 @@ pub fn is_spent(output: &[u8]) -> bool {
 
 /// The line that an output calls faulty.
 pub fn faulty_line(output: &[u8]) -> Option<usize> {
-    output.starts_with(b"8F").then(|| field(&String::from_utf8_lossy(output), 2, 6))
+    let text = String::from_utf8_lossy(output);
+    text.starts_with("8F").then(|| field(&text, 2, number_at(text.trim_end())))
 }
 
 /// The numbers in an output's answers, or in its refusal.
@@ -62,8 +63,8 @@ pub fn count(output: &[u8], tally: &mut Tally) {
     let numbers: BTreeSet<usize> = others.iter().map(|line| number(line)).collect();
     numbers.iter().for_each(|number| tally.number(*number as u8));
     let Some(first) = others.first() else { return };
-    if first.starts_with("8F") {
-        return tally.faulty_line(field(first, 2, 6));
+    if let Some(line) = faulty_line(output) {
+        return tally.faulty_line(line);
     }
     // Answers 0 and 1 of one file all have the same count.
     if number(first) < 2 {
@@ -95,17 +96,17 @@ pub fn count(output: &[u8], tally: &mut Tally) {
     of_one.iter().for_each(|number| tally.met(FROM[*number]));
 }
 
-/// The number stands behind two bytes, but in 8E behind one.
+/// The number stands behind two bytes, but in 8E behind one, and at the end of 8F.
 fn number(line: &str) -> usize {
     let at = number_at(line);
     field(line, at, at + 2)
 }
 
 fn number_at(line: &str) -> usize {
-    if line.starts_with("8E") {
-        4
-    } else {
-        6
+    match &line[..2] {
+        "8E" => 4,
+        "8F" => line.len() - 2,
+        _ => 6,
     }
 }
 

@@ -8,6 +8,7 @@ use super::dice::Dice;
 use super::expressions::{self, expressed, MOST_MARKS};
 use super::generate::{broad, full, medium, over_a_thousand, small, Asked};
 use super::inputs;
+use super::listings::{departs, listed, Departs, Listed};
 use super::long::long;
 use super::moved::moved;
 use super::outputs;
@@ -22,7 +23,7 @@ use super::wide::{is_wide, joined, widened};
 use crate::collection::Collection;
 use crate::desk::read::{read, Fault};
 use crate::desk::{desk, fault_line};
-use crate::library::{ask, ask_from, marks, role_and_test_marks, SHAPES};
+use crate::library::{ask, ask_from, marks, role_and_test_marks, Call, SHAPES};
 use std::collections::BTreeSet;
 
 /// What differed, with the input that shows it.
@@ -329,6 +330,62 @@ pub fn twice_part(driver: &mut Driver, mut dice: Dice, tally: &mut Tally) -> Out
         });
     }
     replies(driver, request, &expected)
+}
+
+/// Part (m): the list of a sheet, likewise: the number, how many entries are told, the row and what lies behind it.
+pub fn listed_part(driver: &mut Driver, mut dice: Dice, tally: &mut Tally) -> Outcome {
+    let (listed, met) = listed(&mut dice);
+    tally.kind(listed.kind);
+    met.into_iter().for_each(|what| tally.met(what));
+    let (list, expected) = protocol::answer_listed(&listed);
+    let number = list.as_ref().err().copied().unwrap_or(0);
+    told(tally, number, &listed.call, &listed.planted);
+    let request = protocol::request_listed(&listed);
+    made_for(&request, listed.planted.iter().min().copied(), number)?;
+    replies(driver, request, &expected)?;
+    let Some(call) = lent_with_others(&mut dice, &listed.call) else { return Ok(()) };
+    tally.met(CHANGED);
+    replies(driver, protocol::request_listed(&Listed { call, ..listed }), &expected)
+}
+
+/// Part (n): where a list departs, likewise: the number and the place.
+pub fn departs_part(driver: &mut Driver, mut dice: Dice, tally: &mut Tally) -> Outcome {
+    let (departs, met, place) = departs(&mut dice);
+    tally.kind(departs.kind);
+    met.into_iter().for_each(|what| tally.met(what));
+    let (number, expected) = protocol::answer_departs(&departs);
+    told(tally, number, &departs.call, &departs.planted);
+    let request = protocol::request_departs(&departs);
+    made_for(&request, departs.planted.iter().min().copied(), number)?;
+    if let Some(place) = place.filter(|place| expected != format!("0F{place:08X}")) {
+        let found = format!("module library itself: {expected}");
+        return Err(Difference { input: request.into_bytes(), expected: format!("15 at {place}"), found });
+    }
+    replies(driver, request, &expected)?;
+    let Some(call) = lent_with_others(&mut dice, &departs.call) else { return Ok(()) };
+    tally.met(CHANGED);
+    replies(driver, protocol::request_departs(&Departs { call, ..departs }), &expected)
+}
+
+/// The number of a call, and what it was given before.
+fn told(tally: &mut Tally, number: u8, call: &Call, planted: &[u8]) {
+    tally.number(number);
+    if is_wide(call.counts[3]) {
+        tally.wide(number);
+    }
+    planted.iter().filter(|also| **also > number).for_each(|also| tally.order(number, *also));
+}
+
+/// The second program itself gives the refusal that the call was made for.
+fn made_for(request: &str, planted: Option<u8>, number: u8) -> Outcome {
+    match planted.filter(|planted| *planted != number) {
+        None => Ok(()),
+        Some(planted) => Err(Difference {
+            input: request.as_bytes().to_vec(),
+            expected: format!("number {planted}"),
+            found: format!("module library itself: {number}"),
+        }),
+    }
 }
 
 /// Part (g): likewise of how many marks each round makes, with how many rounds are told, the row of counts and what lies

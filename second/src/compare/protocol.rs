@@ -1,11 +1,16 @@
 //! The line protocol of PROTOCOL.md: one library call per line in hexadecimal, one line back.
 
 use super::calls::{Asks, CountRow, Lent, Row};
+use super::listings::{Departs, Listed};
 use super::moved::Moved;
 use super::twice::Twice;
 use super::typed::Typed;
 use crate::area::{from_16, to_16, AREA};
-use crate::library::{ask, ask_all, ask_from, ask_row, made_of, marks, same_records, Call, Made};
+use crate::library::{
+    ask, ask_all, ask_from, ask_row, departs, entry_numbers, list_of, made_of, marks, same_records, Call,
+    Made, LONGEST_LIST,
+};
+use crate::listing::Entry;
 
 /// Bytes behind each area that the call must not touch; they are filled with the complement of the area's fill. So it is
 /// behind the entries of a row.
@@ -22,6 +27,9 @@ pub const MOST_ROOM: usize = 2 << 16;
 
 /// The most numbers that are lent for steps, and for finals.
 pub const MOST_MADE: usize = 8_192;
+
+/// The most numbers that a row for a list has, or a list: some more than the longest list.
+pub const MOST_LIST: usize = LONGEST_LIST + 1_024;
 
 /// What stands before the call where a number is to be told, and where a count is.
 const UNTOLD: u16 = 0xFFFF;
@@ -49,6 +57,10 @@ const TO_16: char = 'T';
 /// Likewise a line that asks whether two collections are the same as sets.
 const TWICE: char = 'P';
 
+/// Likewise one that asks for the list of a sheet, and one that asks where a list departs from it.
+const LISTED: char = 'U';
+const DEPARTS: char = 'V';
+
 /// The reply line to any line.
 pub fn reply(line: &str) -> String {
     let replied = match line.chars().next() {
@@ -57,6 +69,8 @@ pub fn reply(line: &str) -> String {
             read_moved(kind == TO_16, &line[1..]).map(|moved| answer_moved(&moved).1)
         }
         Some(TWICE) => read_twice(&line[1..]).map(|calls| answer_twice(&calls).1),
+        Some(LISTED) => read_listed(&line[1..]).map(|listed| answer_listed(&listed).1),
+        Some(DEPARTS) => read_departs(&line[1..]).map(|departs| answer_departs(&departs).1),
         _ => read_request(line).map(|lent| answer(&lent).1),
     };
     replied.unwrap_or("!".to_string())
@@ -228,8 +242,7 @@ fn put_into(row: &CountRow, counts: Option<&[u32]>) -> (u32, String) {
         after[..counts.len()].copy_from_slice(counts);
         counts.len() as u32
     });
-    let after: Vec<u8> = after.iter().flat_map(|count| count.to_le_bytes()).collect();
-    (told, format!("{:016X}{:016X}", hash(&after), hash(&[!row.fill; GUARD])))
+    (told, format!("{:016X}{:016X}", hash_counts(&after), hash(&[!row.fill; GUARD])))
 }
 
 pub fn request_expression(typed: &Typed) -> String {
@@ -309,6 +322,61 @@ fn read_twice(mut digits: &str) -> Option<[Call; 2]> {
 pub fn answer_twice([one, other]: &[Call; 2]) -> (u8, String) {
     let number = same_records(one, other);
     (number, format!("{number:02X}"))
+}
+
+pub fn request_listed(listed: &Listed) -> String {
+    format!("{LISTED}{}{:08X}{:02X}", collection(&listed.call), listed.room, listed.fill)
+}
+
+/// What stands behind the letter; None when the line isn't a request.
+fn read_listed(mut digits: &str) -> Option<Listed> {
+    let call = take_collection(&mut digits)?;
+    let room = take(&mut digits, 8).filter(|room| *room <= MOST_LIST)?;
+    let fill = take(&mut digits, 2)? as u8;
+    digits.is_empty().then_some(Listed { kind: "", call, room, fill, planted: Vec::new() })
+}
+
+/// What module `library` gives, and the reply line. Without a list all is as it was before the call.
+pub fn answer_listed(listed: &Listed) -> (Result<Vec<Entry>, u8>, String) {
+    let list = list_of(&listed.call, listed.room);
+    let number = list.as_ref().err().copied().unwrap_or(0);
+    let mut row = vec![u32::from_le_bytes([listed.fill; 4]); listed.room];
+    let mut told = UNCOUNTED;
+    if let Ok(list) = &list {
+        let numbers: Vec<u32> = list.iter().flat_map(entry_numbers).collect();
+        row[..numbers.len()].copy_from_slice(&numbers);
+        told = list.len() as u32;
+    }
+    let (row, behind) = (hash_counts(&row), hash(&[!listed.fill; GUARD]));
+    (list, format!("{number:02X}{told:08X}{row:016X}{behind:016X}"))
+}
+
+pub fn request_departs(departs: &Departs) -> String {
+    let list: String = departs.list.iter().map(|number| format!("{number:08X}")).collect();
+    format!("{DEPARTS}{}{:08X}{list}", collection(&departs.call), departs.list.len())
+}
+
+/// What stands behind the letter; None when the line isn't a request.
+fn read_departs(mut digits: &str) -> Option<Departs> {
+    let call = take_collection(&mut digits)?;
+    let many = take(&mut digits, 8).filter(|many| *many <= MOST_LIST)?;
+    let list = (0..many).map(|_| Some(take(&mut digits, 8)? as u32)).collect::<Option<_>>()?;
+    digits.is_empty().then_some(Departs { kind: "", call, list, planted: Vec::new() })
+}
+
+/// The number that module `library` gives, and the reply line with the place where the list departs.
+pub fn answer_departs(asked: &Departs) -> (u8, String) {
+    let (number, place) = match departs(&asked.call, &asked.list) {
+        Err(number) => (number, UNCOUNTED),
+        Ok(None) => (0, UNCOUNTED),
+        Ok(Some(place)) => (15, place as u32),
+    };
+    (number, format!("{number:02X}{place:08X}"))
+}
+
+/// Each count as four bytes, the low one first.
+fn hash_counts(counts: &[u32]) -> u64 {
+    hash(&counts.iter().flat_map(|count| count.to_le_bytes()).collect::<Vec<u8>>())
 }
 
 /// Each number as two bytes, the low one first.

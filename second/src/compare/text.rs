@@ -61,7 +61,9 @@ fn question(asked: &Asked) -> Vec<Vec<u8>> {
 
 /// A frame's bytes as capital hexadecimal.
 pub fn line(bytes: &[u8]) -> Vec<u8> {
-    bytes.iter().flat_map(|byte| format!("{byte:02X}").into_bytes()).collect()
+    let mut line = crate::desk::written(bytes);
+    line.pop();
+    line
 }
 
 /// The whole input; a last line of one character or more may lack its end, and no line at all has none.

@@ -166,7 +166,7 @@ fn change_record(dice: &mut Dice, numbers: &mut Vec<u16>, (table, place): (usize
 }
 
 /// One to three refusals that this call can give, of which it gives the first.
-fn damage(dice: &mut Dice, call: &mut Call, pair: [u16; 2]) -> Vec<u8> {
+pub fn damage(dice: &mut Dice, call: &mut Call, pair: [u16; 2]) -> Vec<u8> {
     loop {
         let mut lent = lend(call.clone(), pair);
         plant(dice, &mut lent, &mut [4, 5, 6]);
@@ -178,7 +178,7 @@ fn damage(dice: &mut Dice, call: &mut Call, pair: [u16; 2]) -> Vec<u8> {
     }
 }
 
-fn lend(call: Call, pair: [u16; 2]) -> Lent {
+pub fn lend(call: Call, pair: [u16; 2]) -> Lent {
     Lent { kind: "", call, asks: Asks::Pair(pair), lengths: [AREA; 2], fills: [0; 2], planted: Vec::new() }
 }
 

@@ -38,6 +38,13 @@ pub enum Frame {
     Allowance(u32),
     /// The marks of an expression; no number of them is the wrong length.
     Expression(Vec<u8>),
+    /// An entry of the list: a mark of the sheet, and the round in which it first stands.
+    Entry {
+        round: u32,
+        from: u8,
+        to: u8,
+        concept: u8,
+    },
 }
 
 /// The most characters of a line, and of one that begins with the two characters 0D.
@@ -96,6 +103,9 @@ fn shaped(bytes: &[u8]) -> Option<Frame> {
         [0x0C, a, b, c, d] => Frame::Allowance(u32::from_be_bytes([a, b, c, d])),
         [0x0E, first] => Frame::AskFrom(first),
         [0x0D, ref marks @ ..] => Frame::Expression(marks.to_vec()),
+        [0x10, a, b, c, d, from, to, concept] => {
+            Frame::Entry { round: u32::from_be_bytes([a, b, c, d]), from, to, concept }
+        }
         _ => return None,
     })
 }

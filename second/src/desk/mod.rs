@@ -16,10 +16,12 @@ pub fn desk(input: &[u8]) -> Vec<u8> {
     }
 }
 
-/// 8F, line number (two bytes), number. No faulty line stands beyond 7,715: by then some table is over-full.
+/// 8F, line number (two bytes, or four where two can't hold it), number. No faulty line stands beyond 138,787: by then some
+/// table is over-full, or the list.
 pub fn fault_line(fault: Fault) -> Vec<u8> {
-    let [high, low] = (fault.line as u16).to_be_bytes();
-    written(&[0x8F, high, low, fault.number])
+    let line = (fault.line as u32).to_be_bytes();
+    let two = fault.line <= u16::MAX.into();
+    written(&[&[0x8F], &line[if two { 2 } else { 0 }..], &[fault.number]].concat())
 }
 
 /// A count as it is written, and a round's number: two bytes where at most 16 states are declared, else four.
@@ -62,10 +64,7 @@ fn answers(file: &File) -> Vec<u8> {
 
 /// Bytes as capital hexadecimal and the end of the line.
 pub fn written(bytes: &[u8]) -> Vec<u8> {
-    let mut line = Vec::new();
-    for byte in bytes {
-        line.extend(format!("{byte:02X}").bytes());
-    }
-    line.push(b'\n');
-    line
+    let digit = |value: u8| b"0123456789ABCDEF"[usize::from(value)];
+    let digits = bytes.iter().flat_map(|byte| [digit(byte >> 4), digit(byte & 15)]);
+    digits.chain([b'\n']).collect()
 }

@@ -4,10 +4,14 @@ use super::frame::{frame, Frame};
 use super::question::{expression, question, Typed};
 use crate::ask::Ask;
 use crate::collection::{Collection, ConceptFact, Counts, RoleFact};
+use crate::listing::{departure, listing, Entry};
 use crate::numbers::Deed;
+use crate::sheet::Mark;
 
 /// Of both kinds together.
 const MOST_ASKS: usize = 256;
+
+pub const MOST_LISTED: usize = 131_072;
 
 /// A file read without fault. `lines` tells the line of every record, for those who explain.
 pub struct File {
@@ -16,6 +20,8 @@ pub struct File {
     pub allowance: Option<u32>,
     /// Where the question is typed as an expression; its steps and finals are in the collection.
     pub expression: Option<Typed>,
+    /// The list that ends the file; where there is no frame 10 there is none.
+    pub list: Vec<Entry>,
     pub lines: Lines,
 }
 
@@ -31,6 +37,7 @@ pub struct Lines {
     pub steps: Vec<usize>,
     pub finals: Vec<usize>,
     pub asks: Vec<usize>,
+    pub list: Vec<usize>,
 }
 
 #[derive(Clone, Copy, Debug, PartialEq, Eq)]
@@ -55,7 +62,19 @@ pub fn lines(input: &[u8]) -> impl Iterator<Item = &[u8]> {
     any.into_iter().flatten()
 }
 
+/// A file without fault. Its list, where it has one, is that of its sheet, or there is a contradiction.
 pub fn read(input: &[u8]) -> Result<File, Fault> {
+    let file = read_lines(input)?;
+    let Some(first) = file.lines.list.first() else { return Ok(file) };
+    let departs = listing(&file.collection).and_then(|listing| departure(&file.list, &listing));
+    match departs {
+        Some(place) => Err(Fault { line: first + place, number: 15 }),
+        None => Ok(file),
+    }
+}
+
+/// A file without a faulty line; its list may be any.
+pub fn read_lines(input: &[u8]) -> Result<File, Fault> {
     let mut file: Option<File> = None;
     for (before, line) in lines(input).enumerate() {
         let at = before + 1;
@@ -74,13 +93,22 @@ fn begin(numbers: [u8; 5]) -> Result<File, u8> {
     let [names, roles, individuals, states, start] = numbers.map(u16::from);
     let counts = Counts::new(names, roles, individuals, states, start).ok_or(4)?;
     let collection = Collection::empty(counts);
-    let (asks, lines) = (Vec::new(), Lines::default());
-    Ok(File { collection, asks, allowance: None, expression: None, lines })
+    let (asks, list, lines) = (Vec::new(), Vec::new(), Lines::default());
+    Ok(File { collection, asks, allowance: None, expression: None, list, lines })
 }
 
 /// One frame after the first: 11, then 5, 6, 8, 13, 12, 14 as its kind can have them.
 fn take(file: &mut File, frame: Frame, at: usize) -> Result<(), u8> {
     match frame {
+        Frame::Entry { round, from, to, concept } => {
+            let counts = &file.collection.counts;
+            let ends = counts.state(from.into()).zip(counts.state(to.into()));
+            let mark = ends.zip(counts.basic_concept(concept.into()));
+            let entry = mark.map(|((from, to), concept)| Entry { round, mark: Mark { from, to, concept } });
+            put(&mut file.list, &mut file.lines.list, MOST_LISTED, at, entry)
+        }
+        // The list ends the file.
+        _ if !file.list.is_empty() => Err(11),
         Frame::Counts(_) => Err(11),
         Frame::Allowance(_) if file.allowance.is_some() => Err(11),
         Frame::Allowance(rounds) => {

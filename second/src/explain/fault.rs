@@ -2,13 +2,14 @@
 
 use crate::desk::frame::{frame, most_characters, Frame};
 use crate::desk::question::{MOST_FINALS, MOST_STEPS};
-use crate::desk::read::{lines, Fault};
+use crate::desk::read::{lines, read_lines, Fault, File, MOST_LISTED};
 use crate::expression::{read, Letter};
+use crate::listing::{listing, Entry};
 use crate::numbers::MOST_STATES;
 
 pub struct Faulty {
     pub fault: Fault,
-    /// The line as it stands in the file; None when the input is empty.
+    /// The line as it stands in the file; None when the input is empty, or the line is the one after a short list.
     pub line: Option<Vec<u8>>,
     pub reason: String,
 }
@@ -17,6 +18,7 @@ impl Faulty {
     pub fn of(input: &[u8], fault: Fault) -> Faulty {
         let line = lines(input).nth(fault.line - 1).map(<[u8]>::to_vec);
         let reason = match &line {
+            None if fault.number == 15 => departs(input, fault.line),
             None => "the input is empty, so frame 01 is missing from line 1".to_string(),
             Some(line) => reason(input, line, fault),
         };
@@ -28,13 +30,14 @@ fn reason(input: &[u8], line: &[u8], fault: Fault) -> String {
     match fault.number {
         9 => characters(line),
         10 => shape(line),
-        11 => place(line, fault.line),
+        11 => place(input, line, fault.line),
         4 => counts(line),
         5 => too_many(line),
         6 => undeclared(input, line),
         12 => no_expression(line),
         13 => too_deep(line),
         14 => other_states(input, line),
+        15 => departs(input, fault.line),
         _ => undeclared(input, line),
     }
 }
@@ -53,7 +56,7 @@ fn characters(line: &[u8]) -> String {
     }
 }
 
-/// The kinds of frame from 01 on: what they are called and how many bytes of fields they have.
+/// The kinds of frame from 01 to 0E: what they are called and how many bytes of fields they have.
 const KINDS: [(&str, &str); 14] = [
     ("the counts", "5"),
     ("a concept rule", "2"),
@@ -76,7 +79,10 @@ const KINDS: [(&str, &str); 14] = [
 fn kind(line: &[u8]) -> Option<(&'static str, &'static str)> {
     let text = std::str::from_utf8(line.get(..2)?).ok()?;
     let number = usize::from_str_radix(text, 16).ok()?;
-    KINDS.get(number.checked_sub(1)?).copied()
+    match number {
+        0x10 => Some(("an entry of the list", "7")),
+        _ => KINDS.get(number.checked_sub(1)?).copied(),
+    }
 }
 
 fn shape(line: &[u8]) -> String {
@@ -89,9 +95,12 @@ fn shape(line: &[u8]) -> String {
     }
 }
 
-fn place(line: &[u8], at: usize) -> String {
+fn place(input: &[u8], line: &[u8], at: usize) -> String {
     match (at, frame(line)) {
         (1, _) => "frame 01 is missing from line 1".to_string(),
+        _ if lines(input).nth(at - 2).is_some_and(|before| before.starts_with(b"10")) => {
+            "another frame after a frame 10; the list ends the file".to_string()
+        }
         (_, Ok(Frame::Counts(_))) => "frame 01 is given again".to_string(),
         (_, Ok(Frame::Allowance(_))) => "a second frame 0C".to_string(),
         (_, Ok(Frame::Expression(_))) => "a second frame 0D, or one after a frame 08, 09 or 0A".to_string(),
@@ -122,6 +131,7 @@ fn too_many(line: &[u8]) -> String {
         Ok(Frame::RoleFact { .. }) => ("role facts", 4_096),
         Ok(Frame::Final(_)) => ("finals", MOST_FINALS),
         Ok(Frame::Ask(..) | Frame::AskFrom(_)) => ("asks", 256),
+        Ok(Frame::Entry { .. }) => ("entries of the list", MOST_LISTED),
         _ => ("steps of both kinds", MOST_STEPS),
     };
     format!("one frame too many: there are already {most} {table}")
@@ -150,6 +160,7 @@ fn undeclared(input: &[u8], line: &[u8]) -> String {
         Ok(Frame::Final(a)) => vec![state(a)],
         Ok(Frame::Ask(first, second)) => vec![person(first), person(second)],
         Ok(Frame::AskFrom(first)) => vec![person(first)],
+        Ok(Frame::Entry { from, to, concept: a, .. }) => vec![state(from), state(to), concept(a)],
         Ok(Frame::Expression(marks)) => {
             let letters = marks.iter().filter_map(|mark| Letter::of(*mark));
             letters
@@ -191,4 +202,15 @@ fn other_states(input: &[u8], line: &[u8]) -> String {
     let marks = marks_of(line).into_iter().filter(|mark| Letter::of(*mark).is_some()).count();
     let needed = marks + 1;
     format!("of {marks} role and test marks there are {needed} states and the start is 0; line 1 has states {states}, start {start}")
+}
+
+/// What stands in the list of the sheet where the list of the file departs from it.
+fn departs(input: &[u8], at: usize) -> String {
+    let listed = |file: File| listing(&file.collection)?.get(at - file.lines.list.first()?).copied();
+    match read_lines(input).ok().and_then(listed) {
+        Some(Entry { round, mark }) => {
+            format!("the list is not the sheet: next is {mark}, which first stands in round {round}")
+        }
+        None => "the list is not the sheet, which has no further mark".to_string(),
+    }
 }

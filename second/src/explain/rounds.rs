@@ -46,9 +46,10 @@ impl Rounds {
             if next == rounds.closed {
                 return rounds;
             }
-            let added: Vec<(Mark, Reason)> = new_marks(file, &rounds.closed, &next)
-                .map(|mark| (mark, finder.reason(&rounds.closed, mark)))
-                .collect();
+            let mut marks: Vec<Mark> = next.marks_beyond(&rounds.closed).collect();
+            marks.sort();
+            let reason = |mark| (mark, finder.reason(&rounds.closed, mark));
+            let added: Vec<(Mark, Reason)> = marks.into_iter().map(reason).collect();
             rounds.added.push(added);
             let number = rounds.added.len();
             let latest = &rounds.added[number - 1];
@@ -65,19 +66,6 @@ impl Rounds {
     pub fn reason(&self, mark: Mark) -> Option<Reason> {
         self.reasons.get(&mark).map(|(_, reason)| *reason)
     }
-}
-
-fn new_marks<'a>(file: &'a File, before: &'a Sheet, after: &'a Sheet) -> impl Iterator<Item = Mark> + 'a {
-    let counts = &file.collection.counts;
-    let mut marks = Vec::new();
-    for from in counts.all_states() {
-        for concept in counts.all_concepts() {
-            let new = after.loops(concept)[from.at()] & !before.loops(concept)[from.at()];
-            marks.extend(marked(new.into()).map(|to| Mark { from, to: State(to), concept }));
-        }
-    }
-    marks.sort();
-    marks.into_iter()
 }
 
 struct Finder<'a> {

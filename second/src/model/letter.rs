@@ -3,6 +3,7 @@
 use super::known::Known;
 use super::Marks;
 use crate::collection::Step;
+use crate::listing::Entry;
 use crate::numbers::{Concept, Role};
 use crate::sheet::Mark;
 
@@ -71,6 +72,15 @@ fn trips(known: &Known, concept: Concept, role: Role, before: &Marks, after: &mu
 /// For each sheet after the first, how many marks stand in it and not in the one before.
 pub fn added(sheets: &[Marks]) -> Vec<u32> {
     sheets.windows(2).map(|pair| pair[1].difference(&pair[0]).count() as u32).collect()
+}
+
+/// The list of the last of these sheets: each of its marks with the first sheet that has it.
+pub fn listing(sheets: &[Marks]) -> Vec<Entry> {
+    let first = |mark: &Mark| sheets.iter().position(|sheet| sheet.contains(mark));
+    let entry = |mark: &Mark| first(mark).map(|round| Entry { round: round as u32, mark: *mark });
+    let mut list: Vec<Entry> = sheets.last().into_iter().flatten().filter_map(entry).collect();
+    list.sort_by_key(|entry| (entry.round, entry.mark.from.0, entry.mark.to.0, entry.mark.concept.0));
+    list
 }
 
 /// The sheets of round 0, 1, 2 … up to the first that one more round leaves unchanged.

@@ -5,7 +5,7 @@ use super::{asks, exclusions, orders, question, records, rounds, tree, ways};
 use crate::explain::Explanation;
 
 /// Every form with its title, in the order of the work.
-pub const FORMS: [(&str, &str); 16] = [
+pub const FORMS: [(&str, &str); 17] = [
     ("records", "Step 1: the file"),
     ("numbers", "Step 1: the numbers"),
     ("orders", "Step 2: the orders"),
@@ -22,6 +22,7 @@ pub const FORMS: [(&str, &str); 16] = [
     ("behind", "Step 8: the path"),
     ("answers", "Step 8: the answers"),
     ("copy", "The fair copy"),
+    ("list", "The list of the sheet"),
 ];
 
 /// The empty form of a block; None where it has none.
@@ -29,6 +30,7 @@ pub fn form(block: &str, input: &[u8], explained: &Explanation, words: &Words) -
     Some(match block {
         "records" => records::records_form(input),
         "copy" => records::copy_form(input),
+        "list" => records::list_form(input),
         "marks" => question::marks_form(explained),
         "places" => question::places_form(explained),
         "automaton" => question::automaton_form(explained),

@@ -25,6 +25,7 @@ pub fn block(name: &str, input: &[u8], explained: &Explanation, words: &Words) -
     Some(match name {
         "records" => records::records(input, words),
         "copy" => records::copy(input, words),
+        "list" => records::list(input, words),
         "marks" => question::marks(explained, words),
         "places" => question::places(explained, words),
         "automaton" => question::automaton(explained, words),

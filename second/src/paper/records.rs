@@ -39,6 +39,26 @@ pub fn copy_form(input: &[u8]) -> String {
     Table::form(&COPY, lines(&copied).map(|_| Vec::new())).text()
 }
 
+const LIST: [&str; 2] = ["Written", "In words"];
+
+/// The list of a sound file's closed sheet: each entry with its words.
+pub fn list(input: &[u8], words: &Words) -> String {
+    let mut table = Table::new(&LIST);
+    for line in lines(&crate::listing::list(input)).filter(|line| is_entry(line)) {
+        table.row([typed(line), in_words(line, words)]);
+    }
+    table.text()
+}
+
+pub fn list_form(input: &[u8]) -> String {
+    let listed = crate::listing::list(input);
+    Table::form(&LIST, lines(&listed).filter(|line| is_entry(line)).map(|_| Vec::new())).text()
+}
+
+fn is_entry(line: &[u8]) -> bool {
+    line.starts_with(b"10")
+}
+
 /// The lines of the file that say the same frame; those of an expression's automaton come from the line of the expression.
 fn from(written: &[u8], input: &[u8]) -> String {
     let places = |is: &dyn Fn(&[u8]) -> bool| -> Vec<String> {
@@ -113,6 +133,9 @@ fn in_words(line: &[u8], words: &Words) -> String {
         Ok(Frame::AskFrom(first)) => format!("ask {}", ask(Ask::From(Individual(first)))),
         Ok(Frame::Allowance(rounds)) => format!("allowance of rounds {rounds}"),
         Ok(Frame::Expression(marks)) => format!("expression {}", words.expression(&marks)),
+        Ok(Frame::Entry { round, from, to, concept: has }) => {
+            format!("mark ({from}, {to}, {}) of round {round}", concept(has))
+        }
         Err(number) => format!("faulty, number {number}"),
     }
 }
@@ -137,6 +160,14 @@ mod tests {
         assert!(text.contains("| `0C00000007` | allowance of rounds 7 | 4 |"), "{text}");
         let text = copy(b"010201010300\n0D0041\n", &words);
         assert!(text.contains("| `0A02` | state 2 is final | 2 |"), "{text}");
+    }
+
+    #[test]
+    fn a_list_has_its_marks_in_words() {
+        let words = Words::read("Owner,Deed/signs");
+        let text = list(b"010101010200\n09000001\n0A01\n", &words);
+        assert!(text.contains("| `1000000000000000` | mark (0, 0, Owner) of round 0 |"), "{text}");
+        assert!(text.contains("| `1000000001000100` | mark (0, 1, Owner) of round 1 |"), "{text}");
     }
 
     #[test]

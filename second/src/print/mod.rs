@@ -78,7 +78,13 @@ fn collection(explained: &Explanation) -> String {
     }
     let finals = &explained.file.collection.finals;
     let finals: Vec<String> = finals.iter().map(|state| state.to_string()).collect();
-    text + &format!("  finals: {}\n", if finals.is_empty() { "none".into() } else { finals.join(", ") })
+    text += &format!("  finals: {}\n", if finals.is_empty() { "none".into() } else { finals.join(", ") });
+    let list = &explained.file.lines.list;
+    if let (Some(first), Some(last)) = (list.first(), list.last()) {
+        let is = if explained.clash.is_none() { "it is the sheet" } else { "it is not looked at" };
+        text += &format!("  a list of {} entries (lines {first} to {last}): {is}\n", list.len());
+    }
+    text
 }
 
 fn orders(explained: &Explanation) -> String {

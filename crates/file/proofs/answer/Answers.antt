@@ -3,6 +3,7 @@ use Rattle.file.proofs.WritesLaws.{writes-once, writes-length}
 use Rattle.file.proofs.Told.{listed, text-long, text-lines, fault-told}
 use Rattle.file.proofs.DeedLaws.{writes-without-deeds}
 use Rattle.file.proofs.FormerLaws.{writes-as-it-did}
+use Rattle.file.proofs.LeftOut.{list-changes-nothing}
 use Rattle.file.proofs.Default.{never-spent}
 use Rattle.file.proofs.answer.Goals as goal
 
@@ -33,3 +34,6 @@ returns-clause-deeds c = λ other s. (writes-without-deeds _ other s _).0 c.in-S
 
 pub returns-clause-former : goal.returns-clause-former
 returns-clause-former c = λ fs s. (writes-as-it-did _ fs s _).0 c.in-Some.ensures.written
+
+pub returns-clause-list_left_out : goal.returns-clause-list_left_out
+returns-clause-list_left_out c = λ other l fs s. (list-changes-nothing _ other l fs s _).0 c.in-Some.ensures.written

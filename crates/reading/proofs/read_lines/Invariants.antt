@@ -1,12 +1,11 @@
--- The lines read so far, and how many more a file may have.
-use Rattle.std.proofs.Common.{◌-◌}
+-- The lines read so far, none of them an entry of a list, and how many more there is room for.
 use Rattle.streams.specs.Input.{left_of}
-use Rattle.reading.proofs.Bounds.{most_lines}
-use Rattle.reading.proofs.GoingOn.{Begun}
+use Rattle.reading.specs.Room.{room_left}
+use Rattle.reading.proofs.UpToList.{HalfBegun}
 use Rattle.reading.proofs.read_lines.Given as goal
 
 abbrev pub invariant-lines : goal.invariant-lines
-invariant-lines g l = Begun (g.S.Source.remaining l.fn.source) (left_of l.lines) l.file
+invariant-lines g l = HalfBegun (left_of l.fn.input) (left_of l.input) l.file
 
 abbrev pub decreases-lines : goal.decreases-lines
-decreases-lines g l = most_lines - l.file.lines
+decreases-lines g l = room_left l.file

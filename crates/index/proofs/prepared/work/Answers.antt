@@ -1,9 +1,9 @@
 -- `work`: a collection that passed its tests, with areas of the right length; else its refusal.
 use Rattle.std.specs.Prelude.{refl, []}
-use Rattle.kinds.specs.Told.{none}
-use Rattle.sheet.proofs.Counts.{passed_on}
+use Rattle.sheet.specs.Told.{none}
+use Rattle.sheet.proofs.TellingLaws.{passed_on}
 use Rattle.index.proofs.Areas.{left-found, left-refused}
-use Rattle.index.proofs.Counted.{told-found, told-refused, begun}
+use Rattle.index.proofs.Heard.{told-found, told-refused, begun}
 use Rattle.index.proofs.Outcomes.{passes, has_areas}
 use Rattle.index.proofs.prepared.work.Goals as goal
 

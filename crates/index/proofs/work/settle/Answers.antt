@@ -2,9 +2,9 @@
 use Rattle.std.specs.Prelude.{[]}
 use Rattle.std.proofs.Common.{refl, sym}
 use Rattle.std.proofs.lemmas.Bool.{false≢true}
-use Rattle.kinds.specs.Told.{none}
-use Rattle.sheet.proofs.Counts.{passed_on}
-use Rattle.index.proofs.Counted.{counts_of, begins_of}
+use Rattle.sheet.specs.Told.{none}
+use Rattle.sheet.proofs.TellingLaws.{passed_on}
+use Rattle.index.proofs.Heard.{by_round, begins_of}
 use Rattle.index.proofs.Joined.{needed_of, more_of, holds_of, closed_of}
 use Rattle.index.proofs.work.settle.Goals as goal
 
@@ -34,7 +34,7 @@ returns-in-Spent-clause-first g c a =
 pub returns-in-Spent-clause-told : goal.returns-in-Spent-clause-told
 returns-in-Spent-clause-told g c =
     let w = rw c.in-Spent.is at c.in_ok-ran.ensures.told in
-    (w.0, counts_of c.args.checked.now.lent c.args.checked.now.passes _ (rw c.new-ground.ensures at c.lay_out.ensures) _ w.0 w.1, w.2)
+    (w.0, by_round c.args.checked.now.lent c.args.checked.now.passes _ (rw c.new-ground.ensures at c.lay_out.ensures) _ w.0 w.1, w.2)
 
 pub paths-paths-requires-clause-sheet : goal.paths-paths-requires-clause-sheet
 paths-paths-requires-clause-sheet g c =
@@ -57,7 +57,7 @@ returns-in-Needed-clause-first g c a =
 pub returns-in-Needed-clause-told : goal.returns-in-Needed-clause-told
 returns-in-Needed-clause-told g c =
     let w = rw c.in-Needed.is at c.in_ok-ran.ensures.told in
-    (w.0, counts_of c.args.checked.now.lent c.args.checked.now.passes _ (rw c.new-ground.ensures at c.lay_out.ensures) _ w.0 w.1, w.2)
+    (w.0, by_round c.args.checked.now.lent c.args.checked.now.passes _ (rw c.new-ground.ensures at c.lay_out.ensures) _ w.0 w.1, w.2)
 
 pub returns-in_err-ran-clause-failed : goal.returns-in_err-ran-clause-failed
 returns-in_err-ran-clause-failed g c =

@@ -6,6 +6,7 @@ use Rattle.lampsaffron.proofs.AreasLaws.{moving-once, moving-back-once}
 use Rattle.lampsaffron.proofs.Made.{made-once, tables-once}
 use Rattle.lampsaffron.proofs.Rounds.{marks-once}
 use Rattle.lampsaffron.proofs.SameLaws.{same-once}
+use Rattle.lampsaffron.proofs.ListOnce.{giving-once, departing-once}
 use Rattle.lampsaffron.proofs.theorems.unique.Goals as goal
 
 pub returns-clause-one_call : goal.returns-clause-one_call
@@ -34,6 +35,12 @@ returns-clause-one_moving c = moving-once
 
 pub returns-clause-one_moving_back : goal.returns-clause-one_moving_back
 returns-clause-one_moving_back c = moving-back-once
+
+pub returns-clause-one_giving : goal.returns-clause-one_giving
+returns-clause-one_giving c = giving-once
+
+pub returns-clause-one_departing : goal.returns-clause-one_departing
+returns-clause-one_departing c = departing-once
 
 pub returns-clause-one_comparing : goal.returns-clause-one_comparing
 returns-clause-one_comparing c = same-once

@@ -1,10 +1,10 @@
 -- A frame of another kind than an expression passes the tests of one.
 use Rattle.reading.proofs.Rows.{passes}
-use Rattle.reading.proofs.File.keep.Goals.{in-Declared, in-ConceptRule, in-ConceptExclusion, in-RoleRule, in-RoleExclusion, in-ConceptFact, in-RoleFact, in-RoleStep, in-TestStep, in-Final, in-Ask, in-AskFrom, in-Allowance, in-Expression+in_ok-express-in-Expression}
+use Rattle.reading.proofs.File.keep.Goals.{in-Declared, in-ConceptRule, in-ConceptExclusion, in-RoleRule, in-RoleExclusion, in-ConceptFact, in-RoleFact, in-RoleStep, in-TestStep, in-Final, in-Ask, in-AskFrom, in-Allowance, in-ListedMark, in-Expression+in_ok-express-in-Expression}
 use Rattle.reading.proofs.File.keep.Goals as goal
 
 pub returns-clause-judged : goal.returns-clause-judged
-returns-clause-judged c =
+returns-clause-judged c few =
     elim c.match-frame.branch [
       | in-Declared w ↦ rw w.in-Declared.is passes
       | in-ConceptRule w ↦ rw w.in-ConceptRule.is passes
@@ -19,5 +19,6 @@ returns-clause-judged c =
       | in-Ask w ↦ rw w.in-Ask.is passes
       | in-AskFrom w ↦ rw w.in-AskFrom.is passes
       | in-Allowance w ↦ rw w.in-Allowance.is passes
+      | in-ListedMark w ↦ rw w.in-ListedMark.is passes
       | in-Expression+in_ok-express-in-Expression w ↦ rw w.in-Expression.is w.in_ok-express-in-Expression.ensures.taken
     ]

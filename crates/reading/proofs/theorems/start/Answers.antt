@@ -6,6 +6,6 @@ pub returns : goal.returns
 returns c = record {
   within = taken-within;
   bounded = bounded-lines;
-  alike = λ input r n h. lines-alike r input n h;
+  alike = lines-alike;
   decides = λ input n h v. (reading-whole input n h v, reading-start input n h v);
 }

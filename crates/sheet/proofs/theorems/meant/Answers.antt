@@ -1,6 +1,6 @@
 -- What a round adds, and what the sheet says.
 use Rattle.sheet.proofs.Theory.{adds_by_new}
-use Rattle.sheet.proofs.Mean.{same_needed, same_lays, same_counts}
+use Rattle.sheet.proofs.Mean.{same_needed, same_lays, same_counts, same_marks}
 use Rattle.sheet.proofs.theorems.meant.Goals as goal
 
 pub returns-clause-adds_by_new : goal.returns-clause-adds_by_new
@@ -14,3 +14,6 @@ returns-clause-area_means g c 𝓒 rows fit r = same_lays 𝓒 fit rows r
 
 pub returns-clause-counts_mean : goal.returns-clause-counts_mean
 returns-clause-counts_mean g c 𝓒 rows fit r = same_counts 𝓒 fit rows r
+
+pub returns-clause-marks_mean : goal.returns-clause-marks_mean
+returns-clause-marks_mean g c 𝓒 rows fit r = same_marks 𝓒 fit rows r

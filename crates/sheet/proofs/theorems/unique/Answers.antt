@@ -1,16 +1,14 @@
 -- Each contract leaves one value.
-use Rattle.theory.specs.Marks.{Added}
 use Rattle.theory.specs.Sheet.{Mark}
-use Rattle.theory.proofs.MarksLaws.{counted-once}
 use Rattle.rules.specs.Rows.{kind_of}
-use Rattle.sheet.proofs.Once.{round_once, ended_once, lays_once, rows_lay_once, runs_once}
+use Rattle.sheet.proofs.Once.{round_once, told_once, ended_once, lays_once, rows_lay_once, runs_once}
 use Rattle.sheet.proofs.theorems.unique.Goals as goal
 
 pub returns-clause-one_round : goal.returns-clause-one_round
 returns-clause-one_round c = round_once
 
-pub returns-clause-one_number : goal.returns-clause-one_number
-returns-clause-one_number c rows n = counted-once (kind_of rows) (Added (kind_of rows) n)
+pub returns-clause-one_telling : goal.returns-clause-one_telling
+returns-clause-one_telling c = told_once
 
 pub returns-clause-one_end : goal.returns-clause-one_end
 returns-clause-one_end c rows allowance r q = ended_once rows allowance

@@ -1,9 +1,9 @@
 -- `prepare_telling` of what passed its tests: what was found is that of two areas of their length, and what was told is to be told.
 use Rattle.std.specs.Prelude.{refl}
-use Rattle.sheet.proofs.Counts.{passed_on}
+use Rattle.sheet.proofs.TellingLaws.{passed_on}
 use Rattle.meaning.specs.Layout.{area_length}
 use Rattle.index.specs.Works.{HasAreas}
-use Rattle.index.proofs.Counted.{told-found, begun}
+use Rattle.index.proofs.Heard.{told-found, begun}
 use Rattle.index.proofs.Deeds.{told-whatever}
 use Rattle.index.proofs.checked.Checked.prepare_telling.Goals as goal
 

@@ -1,5 +1,5 @@
--- `prepare_telling`: the counts that were told make the marks that stand, and with other deed numbers all is the same.
-use Rattle.sheet.proofs.Counts.{passed_on}
+-- `prepare_telling`: how many marks were told make those that stand, and with other deed numbers all is the same.
+use Rattle.sheet.proofs.TellingLaws.{passed_on}
 use Rattle.index.proofs.Deeds.{left-whatever, told-whatever}
 use Rattle.index.proofs.ToldOnce.{told-stand}
 use Rattle.index.proofs.lent.Lent.prepare_telling.Goals as goal

@@ -1,0 +1,12 @@
+pub mod NextLaws
+pub mod EntryLaws
+pub mod ToldLaws
+pub mod ComparedLaws
+pub mod EndingLaws
+pub mod TakenIn
+pub mod EntriesFit
+pub mod CutLaws
+pub mod FileSheet
+pub mod Comparing
+pub mod Taking
+pub mod VerdictLaws
