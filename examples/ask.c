@@ -58,5 +58,31 @@ int main(void) {
     uint8_t number = lampsaffron_ask(2, 2, 2, states, 0, rules, 4, none, 0, none, 0, none, 0,
         facts, 3, none, 0, made_steps, steps_used, made_finals, finals_used, 0, 0, 64, area, sizeof area, spare, sizeof spare, &count);
     printf("(0, 0) by an expression of %d states: number %d, count %u\n", states, number, (unsigned)count);
+    /* The list of the closed sheet, four numbers an entry; and that list held against the sheet, as it is and without its last entry. */
+    static uint32_t list[LAMPSAFFRON_LIST];
+    uint32_t entries, entry;
+    if (lampsaffron_listing(2, 2, 2, 4, 0, rules, 4, none, 0, none, 0, none, 0,
+            facts, 3, none, 0, steps, 12, finals, 1, list, LAMPSAFFRON_LIST, &entries)) return 1;
+    const uint32_t *last = list + 4 * (entries - 1);
+    printf("the list of the sheet: %u entries, the last (%u, %u, %u, %u)\n",
+        (unsigned)entries, (unsigned)last[0], (unsigned)last[1], (unsigned)last[2], (unsigned)last[3]);
+    uint8_t held = lampsaffron_departs(2, 2, 2, 4, 0, rules, 4, none, 0, none, 0, none, 0,
+        facts, 3, none, 0, steps, 12, finals, 1, list, 4 * entries, &entry);
+    printf("the list held against the sheet: number %d\n", held);
+    uint8_t cut = lampsaffron_departs(2, 2, 2, 4, 0, rules, 4, none, 0, none, 0, none, 0,
+        facts, 3, none, 0, steps, 12, finals, 1, list, 4 * (entries - 1), &entry);
+    printf("without its last entry: number %d, departs at entry %u\n", cut, (unsigned)entry);
+    /* Facts that clash, where nobody is both Owner and Deed: Owner(0) and signs(1, 0), for whom somebody signs is a Deed. Of these
+       the one that is typed first is kept; Deed(1) is kept in any order. */
+    static const uint16_t apart[] = {0, 1}, names_typed[] = {0, 0, 4711, 1, 1, 0}, roles_typed[] = {0, 1, 0, 4712};
+    static const uint16_t orders[2][3] = {{0, 0, 1}, {1, 0, 0}};
+    for (int k = 0; k < 2; k++) {
+        uint8_t kept[3];
+        if (lampsaffron_salvage(2, 2, 2, 4, 0, rules, 4, apart, 2, none, 0, none, 0,
+                names_typed, 6, roles_typed, 4, steps, 12, finals, 1, orders[k], 3, kept, 3)) return 1;
+        for (int i = 0; i < 3; i++)
+            printf("%s%s fact %s", i ? ", " : "salvage: ", orders[k][i] ? "role" : "concept", kept[i] ? "kept" : "dropped");
+        puts("");
+    }
     return 0;
 }

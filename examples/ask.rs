@@ -56,6 +56,45 @@ extern "C" {
         finals: *mut u16, finals_len: usize,
         states: *mut u16, steps_used: *mut u16, finals_used: *mut u16,
     ) -> u8;
+    fn lampsaffron_listing(
+        names: u16, roles: u16, individuals: u16, states: u16, start: u16,
+        concept_rules: *const u16, concept_rules_len: usize,
+        concept_exclusions: *const u16, concept_exclusions_len: usize,
+        role_rules: *const u16, role_rules_len: usize,
+        role_exclusions: *const u16, role_exclusions_len: usize,
+        concept_facts: *const u16, concept_facts_len: usize,
+        role_facts: *const u16, role_facts_len: usize,
+        steps: *const u16, steps_len: usize,
+        finals: *const u16, finals_len: usize,
+        list: *mut u32, list_len: usize,
+        entries: *mut u32,
+    ) -> u8;
+    fn lampsaffron_departs(
+        names: u16, roles: u16, individuals: u16, states: u16, start: u16,
+        concept_rules: *const u16, concept_rules_len: usize,
+        concept_exclusions: *const u16, concept_exclusions_len: usize,
+        role_rules: *const u16, role_rules_len: usize,
+        role_exclusions: *const u16, role_exclusions_len: usize,
+        concept_facts: *const u16, concept_facts_len: usize,
+        role_facts: *const u16, role_facts_len: usize,
+        steps: *const u16, steps_len: usize,
+        finals: *const u16, finals_len: usize,
+        list: *const u32, list_len: usize,
+        entry: *mut u32,
+    ) -> u8;
+    fn lampsaffron_salvage(
+        names: u16, roles: u16, individuals: u16, states: u16, start: u16,
+        concept_rules: *const u16, concept_rules_len: usize,
+        concept_exclusions: *const u16, concept_exclusions_len: usize,
+        role_rules: *const u16, role_rules_len: usize,
+        role_exclusions: *const u16, role_exclusions_len: usize,
+        concept_facts: *const u16, concept_facts_len: usize,
+        role_facts: *const u16, role_facts_len: usize,
+        steps: *const u16, steps_len: usize,
+        finals: *const u16, finals_len: usize,
+        order: *const u16, order_len: usize,
+        kept: *mut u8, kept_len: usize,
+    ) -> u8;
     fn lampsaffron_area_from_16(stored: *const u8, stored_len: usize, area: *mut u8, area_len: usize) -> u8;
     fn lampsaffron_area_to_16(area: *const u8, area_len: usize, stored: *mut u8, stored_len: usize) -> u8;
 }
@@ -67,6 +106,9 @@ const AREA_OF_16: usize = 4096;
 /// The numbers of the most steps and of the most final states.
 const STEPS: usize = 4096;
 const FINALS: usize = 32;
+
+/// The numbers of the longest list, four for each entry.
+const LIST: usize = 524_288;
 
 /// Whether the mark (s, t, B) stands in the first area.
 fn stands(area: &[u8], s: usize, t: usize, concept: usize) -> bool {
@@ -204,4 +246,81 @@ fn main() {
         )
     };
     println!("(0, 0) by an expression of {states} states: number {number}, count {count}");
+    // The list of the closed sheet, four numbers an entry.
+    let mut list = vec![0u32; LIST];
+    let mut entries = 0u32;
+    // As above; the list and the number are apart from each other.
+    let number = unsafe {
+        lampsaffron_listing(
+            2, 2, 2, 4, 0,
+            rules.as_ptr(), rules.len(),
+            none.as_ptr(), 0,
+            none.as_ptr(), 0,
+            none.as_ptr(), 0,
+            facts.as_ptr(), facts.len(),
+            none.as_ptr(), 0,
+            steps.as_ptr(), steps.len(),
+            finals.as_ptr(), finals.len(),
+            list.as_mut_ptr(), list.len(),
+            &mut entries,
+        )
+    };
+    assert_eq!(number, 0);
+    list.truncate(4 * entries as usize);
+    let last = &list[list.len() - 4..];
+    println!("the list of the sheet: {entries} entries, the last ({}, {}, {}, {})", last[0], last[1], last[2], last[3]);
+    // That list held against the sheet, as it is and without its last entry.
+    let departs = |list: &[u32]| {
+        let mut entry = 0u32;
+        // As above.
+        let number = unsafe {
+            lampsaffron_departs(
+                2, 2, 2, 4, 0,
+                rules.as_ptr(), rules.len(),
+                none.as_ptr(), 0,
+                none.as_ptr(), 0,
+                none.as_ptr(), 0,
+                facts.as_ptr(), facts.len(),
+                none.as_ptr(), 0,
+                steps.as_ptr(), steps.len(),
+                finals.as_ptr(), finals.len(),
+                list.as_ptr(), list.len(),
+                &mut entry,
+            )
+        };
+        (number, entry)
+    };
+    let (number, _) = departs(&list);
+    println!("the list held against the sheet: number {number}");
+    let (number, entry) = departs(&list[..list.len() - 4]);
+    println!("without its last entry: number {number}, departs at entry {entry}");
+    // Facts that clash, where nobody is both Owner and Deed: Owner(0) and signs(1, 0), for whom somebody signs is a Deed. Of these
+    // the one that is typed first is kept; Deed(1) is kept in any order.
+    let apart: [u16; 2] = [0, 1];
+    let names_typed: [u16; 6] = [0, 0, 4711, 1, 1, 0];
+    let roles_typed: [u16; 4] = [0, 1, 0, 4712];
+    for order in [[0u16, 0, 1], [1, 0, 0]] {
+        let mut kept = [0u8; 3];
+        // As above; the row of marks is apart from all else.
+        let number = unsafe {
+            lampsaffron_salvage(
+                2, 2, 2, 4, 0,
+                rules.as_ptr(), rules.len(),
+                apart.as_ptr(), apart.len(),
+                none.as_ptr(), 0,
+                none.as_ptr(), 0,
+                names_typed.as_ptr(), names_typed.len(),
+                roles_typed.as_ptr(), roles_typed.len(),
+                steps.as_ptr(), steps.len(),
+                finals.as_ptr(), finals.len(),
+                order.as_ptr(), order.len(),
+                kept.as_mut_ptr(), kept.len(),
+            )
+        };
+        assert_eq!(number, 0);
+        let told = |(kind, mark)| {
+            format!("{} fact {}", if kind == 1 { "role" } else { "concept" }, if mark == 1 { "kept" } else { "dropped" })
+        };
+        println!("salvage: {}", order.into_iter().zip(kept).map(told).collect::<Vec<_>>().join(", "));
+    }
 }

@@ -1,6 +1,6 @@
 /* The library's calls for C: one pair of individuals asked of a collection, one individual, a row of pairs, or a row of both; how many marks each round of its loop sheet
-   makes; the tables of a question from an expression; two collections compared; and a stored area of 16 states moved to the places of today, and back. docs/RULES.md, section 10,
-   says what each takes and gives, and docs/LINKING.md how to link it. */
+   makes; the tables of a question from an expression; two collections compared; the list of a closed sheet, and where another list departs from it; which facts salvage
+   keeps; and a stored area of 16 states moved to the places of today, and back. docs/RULES.md, section 10, says what each takes and gives, and docs/LINKING.md how to link it. */
 #ifndef LAMPSAFFRON_H
 #define LAMPSAFFRON_H
 
@@ -218,6 +218,25 @@ uint8_t lampsaffron_departs(
     const uint16_t *finals, size_t finals_len,
     const uint32_t *list, size_t list_len,
     uint32_t *entry);
+
+/* Which facts of a collection salvage keeps. They are taken in the order typed, concept facts and role facts together, and each is kept unless, with those kept before it and all
+   rules and exclusions, it makes a contradiction; else it is dropped. The collection is lent as for lampsaffron_listing. order has a number for each fact in the order typed, 0 for a
+   concept fact and 1 for a role fact; those of one kind come in the order of their table. kept is a row of bytes with a place for each fact, and more are left alone.
+   Returns 4, 5 or 6 as the tests do, and 5 as well where order has not as many 0s as there are concept facts, as many 1s as there are role facts and nothing else, or where kept_len
+   is below order_len; else 0. 2 is not given: the kept facts make no contradiction. After 0 kept[k] is 1 where fact k of the order is kept, and 0 where it is dropped.
+   After all else nothing is written. */
+uint8_t lampsaffron_salvage(
+    uint16_t names, uint16_t roles, uint16_t individuals, uint16_t states, uint16_t start,
+    const uint16_t *concept_rules, size_t concept_rules_len,
+    const uint16_t *concept_exclusions, size_t concept_exclusions_len,
+    const uint16_t *role_rules, size_t role_rules_len,
+    const uint16_t *role_exclusions, size_t role_exclusions_len,
+    const uint16_t *concept_facts, size_t concept_facts_len,
+    const uint16_t *role_facts, size_t role_facts_len,
+    const uint16_t *steps, size_t steps_len,
+    const uint16_t *finals, size_t finals_len,
+    const uint16_t *order, size_t order_len,
+    uint8_t *kept, size_t kept_len);
 
 /* An area that was stored while there were at most 16 states, moved to the places of today. After 0 area has 1 at the place of each mark that stands in stored, and 0
    everywhere else: it is the area of the same collection's sheet after the same round.

@@ -1,15 +1,15 @@
 /* The library driver of PROTOCOL.md: reads a call per line, asks lampsaffron_ask, lampsaffron_ask_from, lampsaffron_ask_all,
    lampsaffron_ask_row, lampsaffron_marks, lampsaffron_expression, lampsaffron_area_from_16, lampsaffron_area_to_16,
-   lampsaffron_same_records, lampsaffron_listing or lampsaffron_departs, writes what they gave and hashes.
+   lampsaffron_same_records, lampsaffron_listing, lampsaffron_departs or lampsaffron_salvage, writes what they gave and hashes.
    No stdio and no heap: only read and write, declared by hand, and static buffers. */
 #include "lampsaffron.h"
 
 extern long read(int from, void *bytes, size_t most);
 extern long write(int to, const void *bytes, size_t length);
 
-enum { TABLES = 8, MOST_NUMBERS = 65535, MOST_AREA = 131072, MOST_ENTRIES = 1024, MOST_ROOM = 131072, MOST_MADE = 8192, MOST_LIST = 525312, GUARD = 64 };
+enum { TABLES = 8, MOST_NUMBERS = 65535, MOST_AREA = 131072, MOST_ENTRIES = 1024, MOST_ROOM = 131072, MOST_MADE = 8192, MOST_LIST = 525312, MOST_KEPT = 8192, GUARD = 64 };
 
-/* The tables, those of a second collection, and after them the pairs or the asks of a row. */
+/* The tables, those of a second collection, and after them the pairs or the asks of a row, or the order of facts. */
 enum { OTHER = TABLES, ASKED = 2 * TABLES };
 static uint16_t tables[ASKED + 1][MOST_NUMBERS + 1];
 static size_t lengths[ASKED + 1];
@@ -25,13 +25,16 @@ static uint32_t round_marks[MOST_ROOM + GUARD / 4];
 /* A row that a list is put into, with GUARD bytes behind it, or a list that is held against a sheet. */
 static uint32_t list[MOST_LIST + GUARD / 4];
 
+/* A row for the marks of facts, and GUARD bytes behind it. */
+static uint8_t kept[MOST_KEPT + GUARD];
+
 /* A row of marks, and the rows for the steps and finals that are made of it, with GUARD bytes behind each. */
 static uint8_t marks[MOST_NUMBERS];
 static size_t marks_length;
 static uint16_t made[2][MOST_MADE + GUARD / 2];
 
 /* The letters that a request of another kind than a pair begins with; none is a digit. */
-enum { ROW = 'R', MIXED = 'Q', ONE = 'L', ROUNDS = 'N', EXPRESSION = 'M', FROM_16 = 'S', TO_16 = 'T', TWICE = 'P', LISTED = 'U', DEPARTS = 'V' };
+enum { ROW = 'R', MIXED = 'Q', ONE = 'L', ROUNDS = 'N', EXPRESSION = 'M', FROM_16 = 'S', TO_16 = 'T', TWICE = 'P', LISTED = 'U', DEPARTS = 'V', SALVAGE = 'W' };
 
 /* What a request says beside the tables and marks; one individual stands first in the pair. */
 struct request {
@@ -268,10 +271,18 @@ static void answer_departs(const struct request *asked) {
     put(entry, 8);
 }
 
+static void answer_salvage(const struct request *asked) {
+    fill_lent(kept, asked->room, asked->fill);
+    put(lampsaffron_salvage(COLLECTION(asked->counts, 0), tables[ASKED], lengths[ASKED], kept, asked->room), 2);
+    put(hash(kept, asked->room), 16);
+    put(hash(kept + asked->room, GUARD), 16);
+}
+
 static void answer(const struct request *asked) {
     if (asked->kind == EXPRESSION) answer_expression(asked);
     else if (asked->kind == LISTED) answer_listed(asked);
     else if (asked->kind == DEPARTS) answer_departs(asked);
+    else if (asked->kind == SALVAGE) answer_salvage(asked);
     else if (asked->kind == TWICE) answer_twice(asked);
     else if (moves(asked->kind)) answer_moved(asked);
     else answer_with_areas(asked);
@@ -302,6 +313,13 @@ static void read_entries(struct request *asked, size_t most) {
 /* The room of a row of counts or for a list, and the byte that fills it. */
 static void read_room(struct request *asked, size_t most) {
     asked->room = length_within(8, most);
+    asked->fill = (uint8_t)number(2);
+}
+
+/* The order of facts, and the room of the row for their marks and the byte that fills it. */
+static void read_order(struct request *asked) {
+    read_table(ASKED);
+    asked->room = length_within(4, MOST_KEPT);
     asked->fill = (uint8_t)number(2);
 }
 
@@ -356,6 +374,9 @@ static struct request read_request(void) {
     } else if (asked.kind == DEPARTS) {
         read_collection(asked.counts, 0);
         read_list(&asked);
+    } else if (asked.kind == SALVAGE) {
+        read_collection(asked.counts, 0);
+        read_order(&asked);
     } else if (moves(asked.kind)) {
         read_moved(&asked);
     } else {

@@ -13,7 +13,7 @@ pub fn copy(input: &[u8]) -> Vec<u8> {
     }
 }
 
-/// The frames of the copy, bytes and no numbers. A set of rows of bytes goes by the first byte that differs, which is the copy's
+/// The frames of the copy, bytes and no numbers. Salvage is not copied, and drops no fact here. A set of rows of bytes goes by the first byte that differs, which is the copy's
 /// order: the kind stands in front, then the fields, of which longer ones have their high byte first.
 pub fn frames(file: &File) -> BTreeSet<Vec<u8>> {
     let collection = &file.collection;

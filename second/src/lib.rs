@@ -21,5 +21,6 @@ pub mod people;
 pub mod picture;
 pub mod prepared;
 pub mod print;
+pub mod salvage;
 pub mod sheet;
 pub mod walk;

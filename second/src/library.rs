@@ -1,5 +1,6 @@
 //! The library's calls: over lent tables, with both areas (docs/RULES.md, sections 3 and 7); what each round adds (section 6);
-//! from marks to tables (section 8); the list of a sheet, and where a list departs from it (section 12).
+//! from marks to tables (section 8); the list of a sheet, and where a list departs from it (section 12); which facts are kept
+//! (section 13).
 
 use crate::area::AREA;
 use crate::ask::Ask;
@@ -11,6 +12,7 @@ use crate::expression::Letter;
 use crate::listing::{self, Entry};
 use crate::numbers::{Concept, Deed, Role, State, MOST_STATES};
 use crate::prepared::{Prepared, ALLOWANCE_SPENT, CONTRADICTION};
+use crate::salvage::{kept, Fact};
 use crate::sheet::Mark;
 use std::collections::BTreeSet;
 
@@ -209,6 +211,32 @@ pub fn departs(call: &Call, list: &[u32]) -> Result<Option<usize>, u8> {
         entries.map(|numbers| entry(&collection.counts, numbers)).collect::<Option<Vec<Entry>>>().ok_or(6)?;
     let listed = listing::listing(&collection).ok_or(CONTRADICTION)?;
     Ok(listing::departure(&typed, &listed))
+}
+
+/// What stands in an order for a fact of either table.
+pub const CONCEPT_FACT: u16 = 0;
+pub const ROLE_FACT: u16 = 1;
+
+/// Whether each fact is kept, in the order that says from which table the next one comes, for a row that has so much room: 4,
+/// then 5 where the order does not name each fact of both tables once, or the row has no place for each, 5 and 6.
+pub fn salvage(call: &Call, order: &[u16], room: usize) -> Result<Vec<bool>, u8> {
+    let many = |table: usize| call.tables[table].len() / SHAPES[table].0;
+    let named = |number: u16| order.iter().filter(|one| **one == number).count();
+    let (concepts, roles) = (many(CONCEPT_FACTS), many(ROLE_FACTS));
+    let names_all =
+        [named(CONCEPT_FACT), named(ROLE_FACT), order.len()] == [concepts, roles, concepts + roles];
+    let collection = match checked(call, AREA, AREA) {
+        Err(4) => return Err(4),
+        _ if !names_all || room < order.len() => return Err(5),
+        checked => checked?,
+    };
+    let (mut concepts, mut roles) = (collection.concept_facts.iter(), collection.role_facts.iter());
+    let next = |kind: &u16| match *kind {
+        CONCEPT_FACT => concepts.next().map(|fact| Fact::Concept(*fact)),
+        _ => roles.next().map(|fact| Fact::Role(*fact)),
+    };
+    let facts: Vec<Fact> = order.iter().filter_map(next).collect();
+    Ok(kept(&collection, &facts))
 }
 
 /// None where a state or the concept is not declared; no round is refused.

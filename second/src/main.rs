@@ -13,7 +13,7 @@ second list                  the lister: standard input to standard output
 second explain FILE          what stands behind the desk's answers to a file, as readable text
 second paper BLOCK FILE [WORDS]
                              a block about a file, for a page: records, marks, places, automaton, numbers, orders, people, model,
-                             ends, pairs, exclusions, ways, sheets, rounds, walks, below, behind or answers; empty-records and so on for
+                             ends, pairs, exclusions, ways, sheets, rounds, walks, below, behind, answers or salvage; empty-records and so on for
                              the empty form; forms for all the empty forms; or figures, for a script
 second changes FILE OTHER [WORDS]
                              the lines in which a file differs from another, in words
@@ -31,7 +31,8 @@ second compare [OPTIONS]     the comparison
     --lister CMD  the lister to compare, likewise; --desk and --copyist are needed too
     --library CMD the library driver to compare, likewise; PROTOCOL.md says what it reads and writes
 second answer                the second program's own library behind that protocol
-second sample KIND SEED      a file for the desk: small, medium, full (256 asks), rounds (1,954 are needed), damaged or long";
+second sample KIND SEED      a file for the desk: small, medium, full (256 asks), rounds (1,954 are needed), damaged, long, or
+                             clashing (with 0F)";
 
 fn main() -> ExitCode {
     let words: Vec<String> = std::env::args().skip(1).collect();

@@ -50,7 +50,8 @@ fn every_line_of_a_round_is_counted_to_the_letter() {
     let mut lines = 0;
     for (path, input, output) in cases() {
         let written: Vec<&str> = output.lines().filter(|line| line.starts_with("8A")).collect();
-        assert!(output.starts_with(&written.join("\n")), "{}", path.display());
+        let after_dropped: Vec<&str> = output.lines().filter(|line| !line.starts_with("92")).collect();
+        assert!(after_dropped.starts_with(&written), "{}", path.display());
         let Ok(file) = read(&input) else {
             assert!(written.is_empty(), "{}", path.display());
             continue;

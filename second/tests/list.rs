@@ -108,7 +108,9 @@ fn a_departure_comes_after_the_faults_of_lines() {
         ("10000000020003", "0A"),
         ("100000000200030000", "0A"),
         ("10", "0A"),
-        ("0F", "0A"),
+        ("11", "0A"),
+        ("0F00", "0A"),
+        ("0F", "0B"),
         ("0B0000", "0B"),
         ("0B00FF", "0B"),
         ("020000", "0B"),
@@ -187,7 +189,9 @@ fn a_full_list_and_lines_above_65535() {
     assert_eq!(of(desk, &with(&whole[..64_411])), "8FFFFF0F");
     assert_eq!(of(desk, &with(&whole[..64_412])), "8F000100000F");
     let and = |list: &[String], line: &str| with(&[list, &[line.to_string()]].concat());
-    for (line, number) in [("0F", "0A"), ("100", "09"), ("0B0000", "0B"), ("1000000001202000", "06")] {
+    for (line, number) in
+        [("11", "0A"), ("0F", "0B"), ("100", "09"), ("0B0000", "0B"), ("1000000001202000", "06")]
+    {
         assert_eq!(of(desk, &and(&whole[..64_411], line)), format!("8FFFFF{number}"));
         assert_eq!(of(desk, &and(&whole[..64_412], line)), format!("8F00010000{number}"));
     }

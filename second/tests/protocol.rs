@@ -1,15 +1,16 @@
-//! PROTOCOL.md's nine examples, read and answered as it is written there.
+//! PROTOCOL.md's ten examples, read and answered as it is written there.
 
 use second::area::{AREA, STORED};
 use second::compare::protocol::{answer, hash, read_request, reply, request};
 use second::library::ask;
 
 /// The lines of the document's code blocks, for a pair, a row, marks, one individual, the marks of rounds, an area moved, two
-/// collections, the list of a sheet and where one departs: the request, broken over several, and the reply.
-fn examples() -> [(String, String); 9] {
+/// collections, the list of a sheet, where one departs and which facts are kept: the request, broken over several, and the
+/// reply.
+fn examples() -> [(String, String); 10] {
     let document = include_str!("../PROTOCOL.md");
     let blocks: Vec<&str> = document.split("```").collect();
-    [1, 5, 9, 13, 17, 21, 25, 29, 33]
+    [1, 5, 9, 13, 17, 21, 25, 29, 33, 37]
         .map(|at| (blocks[at].replace('\n', ""), blocks[at + 2].replace('\n', "")))
 }
 
@@ -163,7 +164,8 @@ fn a_row_that_does_not_fit_leaves_all_as_it_was() {
 
 #[test]
 fn what_is_no_request() {
-    let [line, row, marks, one, rounds, moved, twice, listed, departs] = examples().map(|(line, _)| line);
+    let lines = examples().map(|(line, _)| line);
+    let [line, row, marks, one, rounds, moved, twice, listed, departs, sifted] = lines;
     assert!(read_request("").is_none());
     assert!(read_request("R").is_none());
     let cut = &marks[..marks.len() - 1];
@@ -224,6 +226,9 @@ fn what_is_no_request() {
         departs.replacen("00000004", "00080401", 1),
         listed.replacen('U', "V", 1),
         departs.replacen('V', "U", 1),
+        sifted[..sifted.len() - 2].to_string(),
+        sifted.replacen('W', "U", 1),
+        format!("{sifted}0"),
     ] {
         assert_eq!(reply(&other), "!", "{other}");
     }
@@ -339,4 +344,24 @@ fn a_list_departs_or_is_refused() {
 fn the_hash_is_fnv_1a() {
     assert_eq!(hash(b""), 0xCBF2_9CE4_8422_2325);
     assert_eq!(hash(b"a"), 0xAF63_DC4C_8601_EC8C);
+}
+
+#[test]
+fn the_marks_of_facts_stand_in_front_of_a_row() {
+    let (line, _) = examples()[9].clone();
+    let asked =
+        |from: &str, to: &str| line.strip_suffix(from).map(|front| format!("{front}{to}")).expect("its end");
+    let behind = format!("{:016X}", hash(&[0x55; 64]));
+    let told = |number: &str, row: &[u8]| format!("{number}{:016X}{behind}", hash(row));
+    let order = "00030000000100000003AA";
+    assert_eq!(reply(&asked("0003AA", "0005AA")), told("00", &[1, 0, 0, 0xAA, 0xAA]));
+    // The role fact first: it clashes with the rules alone.
+    assert_eq!(reply(&asked(order, "00030001000000000003AA")), told("00", &[0, 1, 0]));
+    // Too little room, a fact less, a fact more, another kind, and another number.
+    assert_eq!(reply(&asked("0003AA", "0002AA")), told("05", &[0xAA; 2]));
+    assert_eq!(reply(&asked(order, "0002000000010003AA")), told("05", &[0xAA; 3]));
+    assert_eq!(reply(&asked(order, "000400000001000000000004AA")), told("05", &[0xAA; 4]));
+    assert_eq!(reply(&asked(order, "00030000000100010003AA")), told("05", &[0xAA; 3]));
+    assert_eq!(reply(&asked(order, "00030000000100020003AA")), told("05", &[0xAA; 3]));
+    assert_eq!(reply(&asked("0003AA", "2001AA")), "!");
 }

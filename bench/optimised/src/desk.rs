@@ -7,6 +7,7 @@ use crate::leave::leaving;
 use crate::list::Held;
 use crate::order::Orders;
 use crate::read::{begin, go_on, read, Fault, File, Question, ANY, NARROW};
+use crate::salvage::{facts, salvage};
 use crate::sheet::{along, close, marks as marks_of};
 use crate::walk::Map;
 
@@ -59,11 +60,20 @@ fn worked<S: States>(input: Vec<u8>, end: usize, file: &mut File) -> Vec<u8> {
     if let Err(fault) = go_on(&input, end, file, &mut question) {
         return refused(fault);
     }
+    let dropped = if file.salvages { salvage(file, facts(&input, end)) } else { Vec::new() };
     drop(input);
-    if file.asks.is_empty() && file.list.is_empty() {
+    let lines = dropped.len() + file.asks.len();
+    if lines == 0 && file.list.is_empty() {
         return Vec::new();
     }
-    let mut output = Vec::with_capacity(LONGEST * (file.asks.len() + ROUNDS));
+    let mut output = Vec::with_capacity(LONGEST * (lines + ROUNDS));
+    for line in dropped {
+        let [high, low] = line.to_be_bytes();
+        put_line::<S, 3, 0>(&mut output, [0x92, high, low], []);
+    }
+    if file.asks.is_empty() && file.list.is_empty() {
+        return output;
+    }
     match outcome::<S>(file, &question, &mut output) {
         Outcome::Departs(fault) => return refused(fault),
         Outcome::Same(number, count) => {

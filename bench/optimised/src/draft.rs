@@ -63,6 +63,11 @@ impl Draft {
         self.tables.entry(table).or_default().push(frame);
     }
 
+    /// The frames of a table, which has none any more.
+    pub fn take(&mut self, table: u8) -> Vec<Vec<u8>> {
+        self.tables.remove(&table).unwrap_or_default()
+    }
+
     pub fn lines(&self) -> usize {
         1 + self.tables.values().map(Vec::len).sum::<usize>()
     }

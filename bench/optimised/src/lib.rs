@@ -3,6 +3,7 @@
 pub mod answer;
 pub mod bits;
 pub mod clash;
+pub mod clashes;
 pub mod copies;
 pub mod desk;
 pub mod draft;
@@ -16,6 +17,7 @@ pub mod order;
 pub mod parts;
 pub mod plot;
 pub mod read;
+pub mod salvage;
 pub mod sheet;
 pub mod spread;
 pub mod strip;

@@ -4,9 +4,9 @@ use crate::bits::{Relation, States};
 use crate::expression;
 use crate::list::entry;
 
-/// No line beyond the 7,715th is reached but those of a list, and a line is decided by its first 65 characters, or by its first
+/// No line beyond the 7,716th is reached but those of a list, and a line is decided by its first 65 characters, or by its first
 /// 131 where it begins with 0D; no more than two of these are reached.
-pub const MOST_READ: usize = 7_715 * 65 + MOST_LISTED * (ENTRY + 1) + 2 * 66;
+pub const MOST_READ: usize = 7_716 * 65 + MOST_LISTED * (ENTRY + 1) + 2 * 66;
 
 /// The most entries of a list, and the characters of one.
 const MOST_LISTED: usize = 131_072;
@@ -31,6 +31,13 @@ pub struct Fact {
     pub role: u8,
     pub first: u8,
     pub second: u8,
+}
+
+/// A fact of either kind.
+#[derive(Clone, Copy)]
+pub enum Typed {
+    Name { name: u8, who: u8 },
+    Role(Fact),
 }
 
 /// A whole file but its question. Rows are direct here; nothing is closed yet.
@@ -62,6 +69,8 @@ pub struct File {
     pub listed_from: u32,
     /// Whether there is any exclusion of roles.
     pub excludes_roles: bool,
+    /// Whether the file chooses salvage.
+    pub salvages: bool,
 }
 
 impl File {
@@ -85,6 +94,28 @@ impl File {
             list: Vec::new(),
             listed_from: 0,
             excludes_roles: false,
+            salvages: false,
+        }
+    }
+
+    /// No fact is typed any more.
+    pub fn without_facts(&mut self) {
+        (self.typed_names, self.typed_roles, self.degrees) = ([0; 256], [0; 256], [0; 256]);
+        self.facts.clear();
+    }
+
+    #[inline(always)]
+    pub fn put_fact(&mut self, fact: Typed) {
+        match fact {
+            Typed::Name { name, who } => self.typed_names[usize::from(who)] |= 1 << (name & 63),
+            Typed::Role(fact) => {
+                let Fact { role, first, second } = fact;
+                self.typed_roles[usize::from(first)] |= 1 << (role & 63);
+                self.typed_roles[usize::from(second)] |= 2 << (role & 63);
+                self.degrees[usize::from(first)] += 1;
+                self.degrees[usize::from(second)] += 1;
+                self.facts.push(fact);
+            }
         }
     }
 
@@ -154,6 +185,7 @@ const LENGTHS: [u8; 256] = {
         kind += 1;
     }
     lengths[14] = 4;
+    lengths[15] = 2;
     lengths
 };
 
@@ -256,7 +288,7 @@ fn broken_line(from_here: &[u8]) -> u8 {
         [b'0', low @ b'2'..=b'9'] => LENGTHS[usize::from(low - b'0')],
         // Any number of marks.
         [b'0', b'D'] => line.len() as u8,
-        [b'0', low @ b'A'..=b'E'] => LENGTHS[usize::from(low - b'A' + 10)],
+        [b'0', low @ b'A'..=b'F'] => LENGTHS[usize::from(low - b'A' + 10)],
         [b'1', b'0'] => ENTRY as u8,
         _ => 0,
     };
@@ -353,7 +385,7 @@ fn other_lines<S: States>(
             }
             6 => {
                 put(&mut concept_facts, 1_024, x < names && y < individuals)?;
-                file.typed_names[usize::from(y)] |= 1 << (x & 63);
+                file.put_fact(Typed::Name { name: x, who: y });
             }
             7 => {
                 if file.facts.len() == 4_096 {
@@ -363,12 +395,7 @@ fn other_lines<S: States>(
                 if x >= signed / 2 || y >= individuals || z >= individuals {
                     return Err(6);
                 }
-                let role = 2 * x;
-                file.typed_roles[usize::from(y)] |= 1 << (role & 63);
-                file.typed_roles[usize::from(z)] |= 2 << (role & 63);
-                file.degrees[usize::from(y)] += 1;
-                file.degrees[usize::from(z)] += 1;
-                file.facts.push(Fact { role, first: y, second: z });
+                file.put_fact(Typed::Role(Fact { role: 2 * x, first: y, second: z }));
             }
             8..=10 if expressed => return Err(11),
             8 => {
@@ -392,6 +419,8 @@ fn other_lines<S: States>(
                 }
                 file.asks.push((x, if kind == 11 { y } else { ANY }));
             }
+            15 if file.salvages => return Err(11),
+            15 => file.salvages = true,
             _ => {
                 if file.allowance.is_some() {
                     return Err(11);

@@ -1,5 +1,6 @@
 //! The benchmark's files measure what they are meant to measure.
 
+use optimised::clashes;
 use optimised::copies;
 use optimised::desk::desk;
 use optimised::lists;
@@ -181,6 +182,34 @@ fn the_files_with_lists_are_accepted_depart_at_once_or_are_contradictions() {
         assert_eq!(String::from_utf8(desk(file)).expect("text"), expected, "{kind}");
     }
     assert!(lists::make("more").is_none());
+}
+
+#[test]
+fn of_two_facts_that_clash_the_first_is_kept() {
+    for kind in clashes::KINDS {
+        let file = clashes::make(kind).expect("a kind");
+        let text = String::from_utf8(file.clone()).expect("text");
+        let facts = text.lines().filter(|line| line.starts_with("06") || line.starts_with("07")).count();
+        assert_eq!(facts, 5_120, "{kind}");
+        let output = String::from_utf8(desk(file)).expect("text");
+        let dropped: Vec<usize> = output
+            .lines()
+            .filter(|line| line.starts_with("92"))
+            .map(|line| usize::from_str_radix(&line[2..], 16).expect("a line"))
+            .collect();
+        assert!(dropped.is_sorted(), "{kind}");
+        assert_eq!(dropped.len(), if kind == "salvage" { 2_560 } else { 0 }, "{kind}");
+        assert_eq!(output.ends_with("020000\n"), kind == "contradiction", "{kind}");
+        for line in dropped {
+            let lines: Vec<&str> = text.lines().take(line).collect();
+            let gone = lines[line - 1];
+            // The names and roles of two that clash differ in the last bit alone.
+            let number = u8::from_str_radix(&gone[2..4], 16).expect("a name or a role") ^ 1;
+            let other = format!("{}{number:02X}{}", &gone[..2], &gone[4..]);
+            assert!(lines.contains(&&other[..]), "{gone} on line {line}");
+        }
+    }
+    assert!(clashes::make("more").is_none());
 }
 
 #[test]

@@ -75,6 +75,27 @@ fn case_7_holds_both_ways() {
 }
 
 #[test]
+fn salvage_names_the_facts_that_clash() {
+    // Owner excludes Deed, and what 0 signs is a deed.
+    let clashing = "010202020400 020040 024101 030001 0F 060000 060100 07000001 060001";
+    let question = "08000001 09010102 08020103 0A03";
+    let answers = "920007\n920009\n8A00010002\n8A00020002\n8B0000010002\n";
+    assert_eq!(output(&format!("{clashing} {question} 0B0000")), answers);
+    assert_eq!(output(&format!("{clashing} {question}")), "920007\n920009\n");
+    assert_eq!(output(&format!("{clashing} {question} 0B0000").replace(" 0F", "")), "8B0000020000\n");
+    assert_eq!(output(&format!("{clashing} 0F")), "8F000A0B\n");
+    assert_eq!(output(&format!("{clashing} 0F00")), "8F000A0A\n");
+    assert_eq!(output("0F"), "8F00010B\n");
+    // To itself by a role that excludes its inverse; then a pair there and back; then an unnamed child that nobody may be.
+    let roles = "010102030100 0F 050001 034242 020041 07000000 07000001 07000100 060002 07010001";
+    assert_eq!(output(roles), "920006\n920008\n92000A\n");
+    // A list is held against the sheet, whatever the facts are.
+    let listed = "010100010100 030000 060000 0F 1000000000000000";
+    assert_eq!(output(listed), "920003\n");
+    assert_eq!(output(&listed.replace("1000000000000000", "1000000001000000")), "8F00050F\n");
+}
+
+#[test]
 fn case_8_start_state_final() {
     asked("010202020400 0A00", (0, 0), (1, 0), &[]);
     asked("010202020400 0A00", (0, 1), (0, 0), &[]);

@@ -16,6 +16,7 @@ use edges::FactEdges;
 use elements::Elements;
 use orders::{ConceptOrder, RoleOrder};
 use roles::RoleConflicts;
+pub use roles::{RoleRelation, excluded_from};
 use sets::RoleSet;
 use tables::{ConceptPair, RolePair, Table};
 

@@ -13,8 +13,8 @@ use orders::RoleOrder;
 use sets::RoleSet;
 use tables::{RolePair, Table};
 
-// For each signed role the set of those that it is related to.
-type RoleRelation = [RoleSet; SignedRole::NUMBERS];
+/// For each signed role the set of those that it is related to.
+pub type RoleRelation = [RoleSet; SignedRole::NUMBERS];
 
 // The exclusions of a table, over the order of the roles: for each role those that are excluded from a role that follows from it.
 #[derive(Clone, Copy)]
@@ -101,9 +101,9 @@ pub(crate) fn concerned(exclusions: Table<RolePair>, roles: &RoleOrder) -> RoleS
     concerned
 }
 
-// For each role those that are excluded from a role that follows from it.
+/// For each role those that are excluded from a role that follows from it.
 #[tactic(auto, using(crate::proofs::RoleLaws::excludes))]
-fn excluded_from(exclusions: Table<RolePair>, roles: &RoleOrder) -> RoleRelation
+pub fn excluded_from(exclusions: Table<RolePair>, roles: &RoleOrder) -> RoleRelation
     ensures { Excludes exclusions.entry.numbers.now (role_marks roles.now.above)
         (role_marks result) }
 {

@@ -1,5 +1,5 @@
 -- What the desk answers to the copy with the asks of the file behind it is what it answers to the file.
-use Rattle.std.specs.Prelude.{◌≡◌, refl, ◌↔◌, ℕ, zero, suc, List, ◌++◌}
+use Rattle.std.specs.Prelude.{◌≡◌, refl, ◌↔◌, false, ℕ, zero, suc, List, ◌++◌}
 use Rattle.std.proofs.Common.{sym, ap, ◌∙◌, subst}
 use Rattle.kinds.specs.declared.Counts.{Counts}
 use Rattle.meaning.specs.Collection.{WellFormed}
@@ -12,7 +12,7 @@ use Rattle.sorted.proofs.SetLaws.{same-to-the-library, answered-alike}
 use Rattle.expression.specs.Listed.{Listed}
 use Rattle.frames.specs.declared.Frame.{Frame}
 use Rattle.reading.specs.declared.Refusal.{Refusal}
-use Rattle.reading.specs.Tables.{asks, entries, table, declared_by, rounds_allowed}
+use Rattle.reading.specs.Tables.{asks, entries, table, declared_by, salvages, rounds_allowed}
 use Rattle.reading.specs.File.{file_of, tables_of, asked}
 use Rattle.reading.proofs.Accepted.{tables-ok}
 use Rattle.reading.proofs.Questions.{question-once}
@@ -22,13 +22,14 @@ use Rattle.shell.specs.Writes.{IsSound, IsFaulty}
 use Rattle.shell.proofs.WritesLaws.{fault-written, said-written}
 use Rattle.file.specs.Text.{count_width}
 use Rattle.file.specs.Rounds.{round_lines, RoundsTold, no-ask, contradiction, rounds}
-use Rattle.file.specs.Writes.{Answers, Answered, FileRounds, frames_width, RepliesTo, Writes, IsAsking}
-use Rattle.fair_copy.specs.Copy.{IsCopyOf, frames_text, Copies, WritesCopy}
+use Rattle.file.specs.Writes.{Answers, Answered, FileRounds, frames_width, RepliesTo, Reports, Writes}
+use Rattle.file.proofs.Decided.{plain-reports}
+use Rattle.fair_copy.specs.Copy.{IsReadAs, IsCopyOf, frames_text, Copies, WritesCopy}
 use Rattle.fair_copy.specs.Asking.{asks_of}
 use Rattle.fair_copy.specs.Laws.{SameCollection}
 use Rattle.fair_copy.proofs.Copied.{typed_by}
 use Rattle.fair_copy.proofs.Inputs.{the_whole, the_copy, its-question}
-use Rattle.fair_copy.proofs.Asked.{behind, behind-asks, behind-many, behind-declared, behind-allowed, behind-whole, behind-tables, behind-read}
+use Rattle.fair_copy.proofs.Asked.{behind, behind-asks, behind-many, behind-declared, behind-allowed, behind-plain, behind-whole, behind-tables, behind-read}
 use Rattle.fair_copy.proofs.Rounds.{needed-same, counts-same}
 use Rattle.fair_copy.proofs.Same.{same-turned, copy-same}
 use Rattle.fair_copy.proofs.Stands.{AreWhole}
@@ -126,24 +127,26 @@ module _ (fs : List Frame) (q : Listed) (w : AreWhole fs q) (copy : List Frame) 
   )
 
 -- THEOREM: the desk writes of the copy, with the asks of the file behind it, what it writes of the file
-module _ (input out : List ℕ) (wrote : WritesCopy input out) (fs : List Frame) (h : IsSound input fs) where
+module _ (input out : List ℕ) (wrote : WritesCopy input out) (fs : List Frame) (h : IsSound input fs) (none : salvages fs ≡ false) where
   pub copy-answers : (text : List ℕ) → Writes (out ++ frames_text (asks_of fs)) text ↔ Writes input text
   copy-answers text =
       let q = (its-question input out wrote fs h).0 in
-      let asking : IsAsking input fs q = record { sound = h; question = (its-question input out wrote fs h).1 } in
+      let asking : IsReadAs input fs q = record { sound = h; question = (its-question input out wrote fs h).1 } in
       let w = the_whole input out wrote fs q asking in
       let c = the_copy input out wrote fs q asking in
       let gs = behind fs q w c.copy c.fair in
       let read = subst (λ (x : List ℕ). IsSound (x ++ frames_text (asks_of fs)) gs) (sym c.written) (behind-read fs q w c.copy c.fair) in
-      let to = said-written (RepliesTo frames_width) (out ++ frames_text (asks_of fs)) gs read text in
-      let from = said-written (RepliesTo frames_width) input fs h text in
+      let to = said-written (Reports frames_width) (out ++ frames_text (asks_of fs)) gs read text in
+      let from = said-written (Reports frames_width) input fs h text in
       let same = behind-replies fs q w c.copy c.fair text in
-      (λ x. from.1 (same.0 (to.0 x)), λ x. to.1 (same.1 (from.0 x)))
+      let a = plain-reports {width = frames_width} {fs = gs} {text = text} (behind-plain fs q w c.copy c.fair) in
+      let b = plain-reports {width = frames_width} {fs = fs} {text = text} none in
+      (λ x. from.1 (b.1 (same.0 (a.0 (to.0 x)))), λ x. to.1 (a.1 (same.1 (b.0 (from.0 x)))))
 
 -- THEOREM: of a faulty input the copyist writes what the desk writes
 pub faulty-alike : (input : List ℕ) (before : List Frame) (r : Refusal) → IsFaulty input before r → (text : List ℕ)
     → WritesCopy input text ↔ Writes input text
 faulty-alike input before r h text =
     let a = fault-written Copies input before r h text in
-    let b = fault-written (RepliesTo frames_width) input before r h text in
+    let b = fault-written (Reports frames_width) input before r h text in
     (λ x. b.1 (a.0 x), λ x. a.1 (b.0 x))

@@ -12,7 +12,7 @@ use Rattle.frames.specs.Text.{text}
 use Rattle.frames.specs.Written.{FitsLine, frame_bytes}
 use Rattle.frames.specs.declared.Frame.{Frame}
 use Rattle.frames.specs.declared.Frame.TheVariants.{Declared, Ask, AskFrom, Allowance}
-use Rattle.reading.specs.Tables.{Kind, concept_rules, concept_exclusions, role_rules, role_exclusions, concept_facts, role_facts, steps, finals, asks, listed, record_in, most, entries, table, list_in, declared_by, allowance_given, expression_given}
+use Rattle.reading.specs.Tables.{Kind, concept_rules, concept_exclusions, role_rules, role_exclusions, concept_facts, role_facts, steps, finals, asks, listed, record_in, most, entries, table, list_in, declared_by, allowance_given, expression_given, salvages}
 use Rattle.reading.specs.File.{tables_of}
 use Rattle.reading.specs.Reading.{Taken}
 use Rattle.reading.proofs.Bounds.{few}
@@ -26,7 +26,7 @@ use Rattle.fair_copy.specs.Copy.{IsCopied, IsCopyOf, frames_text}
 use Rattle.fair_copy.proofs.Stands.{AreWhole}
 use Rattle.fair_copy.proofs.Copied.{stands-copied, headed, orderly, typed_by, copy-fits}
 use Rattle.fair_copy.proofs.Fits.{AllFit}
-use Rattle.fair_copy.proofs.Orderly.{IsFine, IsOrderly, no-expression, none-listed, orderly-taken, text-read}
+use Rattle.fair_copy.proofs.Orderly.{IsFine, IsOrderly, no-expression, none-listed, no-salvage, orderly-taken, text-read}
 
 -- the tables to which no ask adds a record
 abbrev HasNoAsk : Kind → Type 0
@@ -241,6 +241,14 @@ module _ (fs : List Frame) (q : Listed) (w : AreWhole fs q) (copy : List Frame) 
   behind-unlisted =
       ap list_in behind-is
       ∙ none-listed (declared_by fs) ((headed fs q w copy k).rest ++ asks_of fs)
+      (behind-orderly (asks_of fs) asking (declared_by fs) (headed fs q w copy k).rest (orderly fs q w copy k)
+      (λ f m. all-declared fs w.are.taken f (filter-out is_ask fs m).0) rest-many).fine
+
+  -- and salvage is not chosen
+  pub behind-plain : salvages behind ≡ false
+  behind-plain =
+      ap salvages behind-is
+      ∙ no-salvage (declared_by fs) ((headed fs q w copy k).rest ++ asks_of fs)
       (behind-orderly (asks_of fs) asking (declared_by fs) (headed fs q w copy k).rest (orderly fs q w copy k)
       (λ f m. all-declared fs w.are.taken f (filter-out is_ask fs m).0) rest-many).fine
 

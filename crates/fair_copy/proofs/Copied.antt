@@ -1,5 +1,5 @@
 -- The copy of frames that were read whole: line 1 stands first in it, and it is whole itself.
-use Rattle.std.specs.Prelude.{◌≡◌, ◌≢◌, refl, ◌⊎◌, ℕ, ◌/◌, ◌≤◌, None, Some, Option, length}
+use Rattle.std.specs.Prelude.{◌≡◌, ◌≢◌, refl, ◌⊎◌, false, ℕ, ◌/◌, ◌≤◌, None, Some, Option, length}
 use Rattle.std.specs.List.Sorted.{IsStrictlySortedBy}
 use Rattle.std.specs.declared.cmp.Ordering.TheVariants.{Less}
 use Rattle.std.proofs.Common.{sym, ap, ◌∙◌, inl, inr, arith}
@@ -13,8 +13,8 @@ use Rattle.sorted.specs.Rows.{rows}
 use Rattle.sorted.proofs.Chunks.{length-chunks}
 use Rattle.expression.specs.Listed.{Listed}
 use Rattle.frames.specs.declared.Frame.{Frame}
-use Rattle.frames.specs.declared.Frame.TheVariants.{Declared, Allowance, Expression, ListedMark}
-use Rattle.reading.specs.Tables.{Kind, concept_rules, concept_exclusions, role_rules, role_exclusions, concept_facts, role_facts, steps, finals, asks, listed, width, most, entries, table, list_in, declared_by, allowance_given, expression_given}
+use Rattle.frames.specs.declared.Frame.TheVariants.{Declared, Allowance, Expression, Salvage, ListedMark}
+use Rattle.reading.specs.Tables.{Kind, concept_rules, concept_exclusions, role_rules, role_exclusions, concept_facts, role_facts, steps, finals, asks, listed, width, most, entries, table, list_in, declared_by, allowance_given, expression_given, salvages}
 use Rattle.reading.specs.File.{IsQuestionOf}
 use Rattle.reading.specs.Reading.{Taken}
 use Rattle.reading.proofs.Turns.{fitting}
@@ -29,7 +29,7 @@ use Rattle.fair_copy.proofs.Records.{records_of, records-out, length-records, di
 use Rattle.fair_copy.proofs.Taken.{IsDeclared, all-declared, line-1-there, allowance-there, given-allowance}
 use Rattle.fair_copy.proofs.Stands.{AreWhole, table_of, stands-row, fitting-tables}
 use Rattle.fair_copy.proofs.Fits.{AllFit, stands-fits}
-use Rattle.fair_copy.proofs.Orderly.{IsFine, IsOrderly, no-expression, none-listed, orderly-taken, text-read}
+use Rattle.fair_copy.proofs.Orderly.{IsFine, IsOrderly, no-expression, none-listed, no-salvage, orderly-taken, text-read}
 
 -- the question that some frames type
 abbrev pub typed_by : List Frame → Listed
@@ -43,6 +43,7 @@ before-line-1 c f e = absurd cc
 fine-of : (c : Counts) (f : Frame) → IsDeclared c f → IsCopied f → ((d : Counts) → f ≡ Declared d → ⊥) → IsFine c f
 fine-of c (Declared d) h k n = n d refl
 fine-of c (Expression row) h k n = k
+fine-of c Salvage h k n = k
 fine-of c (ListedMark m s t B) h k n = k
 fine-of c f h k n = h
 
@@ -191,6 +192,10 @@ module _ (fs : List Frame) (q : Listed) (w : AreWhole fs q) where
     pub copy-unlisted : list_in copy ≡ []
     unfolding list_in
     copy-unlisted = ap list_in headed.is ∙ none-listed (declared_by fs) headed.rest orderly.fine
+
+    -- nor is salvage chosen,
+    pub copy-plain : salvages copy ≡ false
+    copy-plain = ap salvages headed.is ∙ no-salvage (declared_by fs) headed.rest orderly.fine
 
     pub copy-whole : AreWhole copy (typed_by copy)
     copy-whole = record { are = record { taken = copy-taken; begun = copy-begun; asks = copy-asks }; lined = copy-fits }

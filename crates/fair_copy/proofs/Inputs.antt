@@ -13,15 +13,14 @@ use Rattle.intake.proofs.VerdictLaws.{verdict-once}
 use Rattle.reading.proofs.Questions.{question-once}
 use Rattle.shell.specs.Writes.{fault, said, IsSound}
 use Rattle.shell.proofs.WritesLaws.{said-written, writes-once}
-use Rattle.file.specs.Writes.{IsAsking}
 use Rattle.file.proofs.Widths.{fault-few}
-use Rattle.fair_copy.specs.Copy.{IsCopyOf, frames_text, Copies, WritesCopy}
+use Rattle.fair_copy.specs.Copy.{IsReadAs, IsCopyOf, frames_text, Copies, WritesCopy}
 use Rattle.fair_copy.specs.Laws.{most_copy, SameCollection, ReadsAsCopy}
 use Rattle.fair_copy.proofs.Order.{copy-once}
 use Rattle.fair_copy.proofs.Lengths.{text-few}
 use Rattle.fair_copy.proofs.Stands.{AreWhole}
 use Rattle.fair_copy.proofs.Fits.{are-whole}
-use Rattle.fair_copy.proofs.Copied.{typed_by, stands-copied, copy-asks, copy-taken, copy-read}
+use Rattle.fair_copy.proofs.Copied.{typed_by, stands-copied, copy-asks, copy-taken, copy-plain, copy-read}
 use Rattle.fair_copy.proofs.Same.{same-turned, same-then, copy-same, same-copied, copy-again}
 
 -- frames have one copy, so one text
@@ -36,7 +35,7 @@ pub input-once : (input text out : List ℕ) → WritesCopy input text → Write
 input-once = writes-once Copies (λ fs t. copies-once fs)
 
 -- what is written of a sound input is the text of its copy
-module _ (input out : List ℕ) (wrote : WritesCopy input out) (fs : List Frame) (q : Listed) (h : IsAsking input fs q) where
+module _ (input out : List ℕ) (wrote : WritesCopy input out) (fs : List Frame) (q : Listed) (h : IsReadAs input fs q) where
   pub the_whole : AreWhole fs q
   the_whole = are-whole input fs q h.sound h.question
 
@@ -65,6 +64,7 @@ module _ (input out : List ℕ) (wrote : WritesCopy input out) (fs : List Frame)
     copy = the_copy.copy;
     fair = the_copy.fair;
     sound = copy-sound;
+    plain = copy-plain fs q the_whole the_copy.copy the_copy.fair;
     question = typed_by the_copy.copy;
     asks = copy-asks fs q the_whole the_copy.copy the_copy.fair;
     same = copy-same fs q the_whole the_copy.copy the_copy.fair;
@@ -92,7 +92,7 @@ module _ (input out : List ℕ) (wrote : WritesCopy input out) (fs : List Frame)
 
 -- THEOREM: two sound inputs have the same copy exactly where they are the same collection
 module _ (input out other text : List ℕ) (wrote : WritesCopy input out) (wrote' : WritesCopy other text)
-    (fs : List Frame) (q : Listed) (h : IsAsking input fs q) (gs : List Frame) (r : Listed) (k : IsAsking other gs r) where
+    (fs : List Frame) (q : Listed) (h : IsReadAs input fs q) (gs : List Frame) (r : Listed) (k : IsReadAs other gs r) where
   alike-from : SameCollection fs q gs r → out ≡ text
   alike-from s =
       let c = the_copy input out wrote fs q h in

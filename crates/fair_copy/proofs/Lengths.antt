@@ -7,7 +7,7 @@ use Rattle.laws.specs.Member.{◌∈◌}
 use Rattle.frames.specs.Text.{text}
 use Rattle.frames.specs.Written.{frame_bytes}
 use Rattle.frames.specs.declared.Frame.{Frame}
-use Rattle.frames.specs.declared.Frame.TheVariants.{Declared, ConceptRule, ConceptExclusion, RoleRule, RoleExclusion, ConceptFact, RoleFact, RoleStep, TestStep, Final, Ask, AskFrom, Allowance, Expression, ListedMark}
+use Rattle.frames.specs.declared.Frame.TheVariants.{Declared, ConceptRule, ConceptExclusion, RoleRule, RoleExclusion, ConceptFact, RoleFact, RoleStep, TestStep, Final, Ask, AskFrom, Allowance, Expression, Salvage, ListedMark}
 use Rattle.reading.specs.Tables.{concept_rules, concept_exclusions, role_rules, role_exclusions, concept_facts, role_facts, steps, finals, entries, is_declared, is_allowance}
 use Rattle.reading.specs.Laws.{Within}
 use Rattle.reading.proofs.TableLaws.{added, entries-cons}
@@ -37,6 +37,7 @@ line-long (Ask a b) h = absurd h
 line-long (AskFrom a) h = absurd h
 line-long (Allowance n) h = refl
 line-long (Expression row) h = absurd h
+line-long Salvage h = absurd h
 line-long (ListedMark n s t B) h = absurd h
 
 -- of some frames

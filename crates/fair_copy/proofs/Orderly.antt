@@ -1,6 +1,6 @@
--- Frames in any order behind line 1, each declared and none an expression or an entry of a list, are taken one after the other where
--- tables have room for them and one allowance is given at most; and then their lines are read as them.
-use Rattle.std.specs.Prelude.{◌≡◌, ◌≢◌, refl, ℕ, ◌+◌, ◌≤◌, None, IsSome, Ok, map}
+-- Frames in any order behind line 1, each declared and none an expression, a choice of salvage or an entry of a list, are taken one
+-- after the other where tables have room for them and one allowance is given at most; and then their lines are read as them.
+use Rattle.std.specs.Prelude.{◌≡◌, ◌≢◌, refl, ℕ, ◌+◌, ◌≤◌, false, None, IsSome, Ok, map}
 use Rattle.std.proofs.Common.{sym, ap, ◌∙◌, subst, append_assoc, append-nil, arith}
 use mathlib.Core.List.Memᴰ
 use mathlib.Core.List.{List, [], ◌∷◌, ◌++◌}
@@ -11,8 +11,8 @@ use Rattle.kinds.specs.Kinds.{CountsFit}
 use Rattle.streams.specs.Lines.{lines}
 use Rattle.frames.specs.Written.{line_of}
 use Rattle.frames.specs.declared.Frame.{Frame}
-use Rattle.frames.specs.declared.Frame.TheVariants.{Declared, RoleStep, TestStep, Final, Allowance, Expression, ListedMark}
-use Rattle.reading.specs.Tables.{Kind, asks, listed, record_in, most, entries, list_in, declared_by, allowance_given, expression_given}
+use Rattle.frames.specs.declared.Frame.TheVariants.{Declared, RoleStep, TestStep, Final, Allowance, Expression, Salvage, ListedMark}
+use Rattle.reading.specs.Tables.{Kind, asks, listed, record_in, most, entries, list_in, declared_by, allowance_given, expression_given, salvages}
 use Rattle.reading.specs.Judged.{IsOpen, HasRoom, NumbersOk, AskOk, Judged}
 use Rattle.reading.specs.Reading.{Finds, taken, Verdict, sound, Reading, whole, onward, Taken, none, more}
 use Rattle.reading.proofs.TableLaws.{added, entries-append, entries-cons}
@@ -22,10 +22,11 @@ use Rattle.frames.proofs.ReadBack.{line-is_read}
 use Rattle.frames.proofs.Ends.{line-ends}
 use Rattle.fair_copy.proofs.Fits.{AllFit}
 
--- a frame of a later line, declared, and no expression and no entry of a list
+-- a frame of a later line, declared, and no expression, no choice of salvage and no entry of a list
 abbrev pub IsFine : Counts → Frame → Type 0
 IsFine c (Declared d) = ⊥
 IsFine c (Expression row) = ⊥
+IsFine c Salvage = ⊥
 IsFine c (ListedMark n s t B) = ⊥
 IsFine c f = NumbersOk c f × AskOk c f
 
@@ -51,6 +52,11 @@ none-listed c [] h = refl
 none-listed c (ListedMark n s t B ∷ fs) h = absurd (h (ListedMark n s t B) (Memᴰ.head refl))
 none-listed c (f ∷ fs) h = none-listed c fs (λ g m. h g (Memᴰ.tail m))
 
+pub no-salvage : (c : Counts) (fs : List Frame) → ((f : Frame) → f ∈ fs → IsFine c f) → salvages fs ≡ false
+no-salvage c [] h = refl
+no-salvage c (Salvage ∷ fs) h = absurd (h Salvage (Memᴰ.head refl))
+no-salvage c (f ∷ fs) h = no-salvage c fs (λ g m. h g (Memᴰ.tail m))
+
 none-listed-yet : (c : Counts) (before : List Frame) → ((f : Frame) → f ∈ before → IsFine c f) → list_in (Declared c ∷ before) ≡ []
 unfolding list_in
 none-listed-yet c before h = none-listed c before h
@@ -71,6 +77,7 @@ module _ (c : Counts) where
       → ((n : ℕ) → f ≡ Allowance n → allowance_given before ≡ None) → expression_given before ≡ None → HasRoom before f → Passed before f
   passed_by before (Declared d) n e h a x room = absurd h
   passed_by before (Expression row) n e h a x room = absurd h
+  passed_by before Salvage n e h a x room = absurd h
   passed_by before (ListedMark m s t B) n e h a x room = absurd h
   passed_by before (Allowance k) n e h a x room = record {
     in_place = (n, a k refl);

@@ -13,7 +13,7 @@ use Rattle.expression.specs.Listed.{Listed, steps_of, finals_of, step_numbers}
 use Rattle.expression.specs.Fits.{FitsTables}
 use Rattle.frames.specs.Written.{FitsLine}
 use Rattle.frames.specs.declared.Frame.{Frame}
-use Rattle.frames.specs.declared.Frame.TheVariants.{Declared, ConceptRule, ConceptExclusion, RoleRule, RoleExclusion, ConceptFact, RoleFact, RoleStep, TestStep, Final, Ask, AskFrom, Allowance, Expression, ListedMark}
+use Rattle.frames.specs.declared.Frame.TheVariants.{Declared, ConceptRule, ConceptExclusion, RoleRule, RoleExclusion, ConceptFact, RoleFact, RoleStep, TestStep, Final, Ask, AskFrom, Allowance, Expression, Salvage, ListedMark}
 use Rattle.reading.specs.Tables.{Kind, concept_rules, concept_exclusions, role_rules, role_exclusions, concept_facts, role_facts, steps, finals, asks, listed, record_in, width, table, expression_given}
 use Rattle.reading.specs.File.{IsQuestionOf}
 use Rattle.reading.specs.Reading.{Taken}
@@ -66,6 +66,7 @@ sort_of (Final s) h = adds finals _ tt refl
 sort_of (Ask a b) h = absurd h
 sort_of (AskFrom a) h = absurd h
 sort_of (Expression row) h = absurd h
+sort_of Salvage h = absurd h
 sort_of (ListedMark n s t B) h = absurd h
 
 -- a frame that adds such a record is copied
@@ -75,6 +76,7 @@ adds-copied listed f k h = absurd k
 adds-copied kind (Ask a b) k h = absurd cc
 adds-copied kind (AskFrom a) k h = absurd cc
 adds-copied kind (Expression row) k h = absurd cc
+adds-copied kind Salvage k h = absurd cc
 adds-copied kind (ListedMark n s t B) k h = absurd cc
 adds-copied kind f k h = tt
 

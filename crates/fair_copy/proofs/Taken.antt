@@ -6,7 +6,7 @@ use mathlib.Core.List.{List, [], ◌∷◌, ◌++◌}
 use Rattle.laws.specs.Member.{◌∈◌}
 use Rattle.kinds.specs.declared.Counts.{Counts}
 use Rattle.frames.specs.declared.Frame.{Frame}
-use Rattle.frames.specs.declared.Frame.TheVariants.{Declared, RoleStep, TestStep, Final, Allowance, Expression, ListedMark}
+use Rattle.frames.specs.declared.Frame.TheVariants.{Declared, RoleStep, TestStep, Final, Allowance, Expression, Salvage, ListedMark}
 use Rattle.reading.specs.Tables.{steps, finals, table, declared_by, allowance_given, expression_given}
 use Rattle.reading.specs.Judged.{InPlace, NumbersOk, AskOk}
 use Rattle.reading.specs.Reading.{Taken}
@@ -27,6 +27,7 @@ place-of before (RoleStep s R t) h = later h.0.begun
 place-of before (TestStep s A t) h = later h.0.begun
 place-of before (Final s) h = later h.0.begun
 place-of before (Expression row) h = later h.0.begun
+place-of before Salvage h = later h.0.begun
 place-of before (ListedMark n s t B) h = later h
 place-of before f h = later h.begun
 

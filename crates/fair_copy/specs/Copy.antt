@@ -1,4 +1,5 @@
--- The fair copy of a collection (docs/RULES.md, section 11): its frames in one order, each once.
+-- The fair copy of a collection (docs/RULES.md, sections 11 and 13): its frames in one order, each
+-- once.
 use Rattle.std.specs.Prelude.{ℕ, ◌↔◌, ◌≡◌, ⊤, List}
 use Rattle.std.specs.List.{flat_map}
 use Rattle.std.specs.List.Sorted.{IsStrictlySortedBy}
@@ -12,17 +13,18 @@ use Rattle.expression.specs.Listed.{Listed, steps_of, finals_of}
 use Rattle.frames.specs.Text.{text}
 use Rattle.frames.specs.Written.{numbers_of, frame_bytes}
 use Rattle.frames.specs.declared.Frame.{Frame}
-use Rattle.frames.specs.declared.Frame.TheVariants.{RoleStep, TestStep, Final, Ask, AskFrom, Expression, ListedMark}
+use Rattle.frames.specs.declared.Frame.TheVariants.{RoleStep, TestStep, Final, Ask, AskFrom, Expression, Salvage, ListedMark}
 use Rattle.reading.specs.File.{IsQuestionOf}
-use Rattle.shell.specs.Writes.{WritesOf}
+use Rattle.shell.specs.Writes.{IsSound, WritesOf}
 
--- Every frame of a file is copied unchanged, with two exceptions: the copy has no asks and no list,
--- and in place of an expression it has the steps and the final states of the question that the
--- expression asks.
+-- Every frame of a file is copied unchanged, with two exceptions: the copy has no asks and no list and
+-- chooses no salvage, and in place of an expression it has the steps and the final states of the
+-- question that the expression asks. So it has every fact, whether salvage drops it or not.
 abbrev pub IsCopied : Frame → Type 0
 IsCopied (Ask a b) = ⊥
 IsCopied (AskFrom a) = ⊥
 IsCopied (Expression row) = ⊥
+IsCopied Salvage = ⊥
 IsCopied (ListedMark n s t B) = ⊥
 IsCopied other = ⊤
 
@@ -50,6 +52,11 @@ pub record IsCopyOf (fs : List Frame) (q : Listed) (copy : List Frame) : Type 0 
 -- the text of some frames, a line each
 unfoldable pub frames_text : List Frame → List ℕ
 frames_text fs = flat_map (λ f. text (frame_bytes f)) fs
+
+-- an input is read whole, as these frames, and they ask this question
+pub record IsReadAs (input : List ℕ) (fs : List Frame) (q : Listed) : Type 0 where
+  pub sound : IsSound input fs
+  pub question : IsQuestionOf fs q
 
 -- what is written of a file that is read whole, as these frames
 pub record Copies (fs : List Frame) (out : List ℕ) : Type 0 where

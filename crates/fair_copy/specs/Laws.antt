@@ -1,16 +1,16 @@
--- Laws of the fair copy of an input (docs/RULES.md, section 11).
-use Rattle.std.specs.Prelude.{ℕ, ◌+◌, ◌*◌, ◌≤◌, ◌≡◌, ◌↔◌, List, ◌++◌, length, take}
+-- Laws of the fair copy of an input (docs/RULES.md, sections 11 and 13).
+use Rattle.std.specs.Prelude.{ℕ, ◌+◌, ◌*◌, ◌≤◌, ◌≡◌, ◌↔◌, false, List, ◌++◌, length, take}
 use Rattle.sorted.specs.Same.{SameTables}
 use Rattle.expression.specs.Listed.{Listed}
 use Rattle.frames.specs.declared.Frame.{Frame}
 use Rattle.frames.specs.declared.kind.Kind.TheVariants.{Declared, ConceptRule, RoleRule, ConceptFact, RoleFact, RoleStep, Final, Allowance}
 use Rattle.frames.specs.Kinds.{frame_length}
 use Rattle.reading.specs.declared.Refusal.{Refusal}
-use Rattle.reading.specs.Tables.{concept_rules, concept_exclusions, role_rules, role_exclusions, concept_facts, role_facts, steps, finals, most, declared_by, allowance_given}
+use Rattle.reading.specs.Tables.{concept_rules, concept_exclusions, role_rules, role_exclusions, concept_facts, role_facts, steps, finals, most, declared_by, allowance_given, salvages}
 use Rattle.reading.specs.File.{IsQuestionOf, tables_of}
 use Rattle.shell.specs.Writes.{IsSound, IsFaulty}
-use Rattle.file.specs.Writes.{IsAsking, Writes}
-use Rattle.fair_copy.specs.Copy.{IsCopyOf, frames_text, WritesCopy}
+use Rattle.file.specs.Writes.{Writes}
+use Rattle.fair_copy.specs.Copy.{IsReadAs, IsCopyOf, frames_text, WritesCopy}
 use Rattle.fair_copy.specs.Asking.{asks_of}
 
 -- frames that ask a question have one copy,
@@ -22,9 +22,9 @@ OneCopy = (fs : List Frame) (q : Listed) (copy other : List Frame)
 abbrev pub CopyOnce : Type 0
 CopyOnce = (input text out : List ℕ) → WritesCopy input text → WritesCopy input out → text ≡ out
 
--- the first 3,238,889 bytes of an input, or more of them, have the copy of the whole
+-- the first 3,239,020 bytes of an input, or more of them, have the copy of the whole
 abbrev pub StartCopied : Type 0
-StartCopied = (input : List ℕ) (n : ℕ) → 3238889 ≤ n → (text : List ℕ)
+StartCopied = (input : List ℕ) (n : ℕ) → 3239020 ≤ n → (text : List ℕ)
     → WritesCopy (take n input) text ↔ WritesCopy input text
 
 -- the characters of a line of so many bytes, with its end
@@ -55,18 +55,19 @@ pub record SameCollection
   pub allowance : allowance_given fs ≡ allowance_given gs
   pub records : SameTables (tables_of fs q) (tables_of gs r)
 
--- the copy of a sound input is itself sound, and the same collection
+-- the copy of a sound input is itself sound, chooses no salvage, and is the same collection
 pub record ReadsAsCopy (fs : List Frame) (q : Listed) (out : List ℕ) : Type 0 where
   pub copy : List Frame
   pub fair : IsCopyOf fs q copy
   pub sound : IsSound out copy
+  pub plain : salvages copy ≡ false
   pub question : Listed
   pub asks : IsQuestionOf copy question
   pub same : SameCollection fs q copy question
 
 abbrev pub CopyIsRead : Type 0
 CopyIsRead = (input out : List ℕ) → WritesCopy input out
-    → (fs : List Frame) (q : Listed) → IsAsking input fs q → ReadsAsCopy fs q out
+    → (fs : List Frame) (q : Listed) → IsReadAs input fs q → ReadsAsCopy fs q out
 
 -- its copy is the copy itself
 abbrev pub CopyAgain : Type 0
@@ -76,14 +77,15 @@ CopyAgain = (input out : List ℕ) → WritesCopy input out
 -- two sound inputs have the same copy exactly when they are the same collection
 abbrev pub SameCopy : Type 0
 SameCopy = (input out other text : List ℕ) → WritesCopy input out → WritesCopy other text
-    → (fs : List Frame) (q : Listed) → IsAsking input fs q
-    → (gs : List Frame) (r : Listed) → IsAsking other gs r
+    → (fs : List Frame) (q : Listed) → IsReadAs input fs q
+    → (gs : List Frame) (r : Listed) → IsReadAs other gs r
     → (out ≡ text) ↔ SameCollection fs q gs r
 
--- of the copy, with the asks of the file behind it, the desk writes what it writes of the file
+-- of the copy, with the asks of the file behind it, the desk writes what it writes of the file, where
+-- that chooses no salvage
 abbrev pub CopyAnswers : Type 0
 CopyAnswers = (input out : List ℕ) → WritesCopy input out
-    → (fs : List Frame) → IsSound input fs
+    → (fs : List Frame) → IsSound input fs → salvages fs ≡ false
     → (text : List ℕ) → Writes (out ++ frames_text (asks_of fs)) text ↔ Writes input text
 
 -- of a faulty input the copyist writes what the desk writes

@@ -2,7 +2,7 @@
 // frames in one order, each once.
 #![tactic(auto)]
 
-ghost use Rattle.std.specs.Prelude.{◌≡◌, ◌↔◌, ◌≤◌, ◌++◌, ℕ, List, Err, IfSome, IsOk, IsTrue, OnOk, length, drop, take};
+ghost use Rattle.std.specs.Prelude.{◌≡◌, ◌↔◌, ◌≤◌, ◌++◌, ℕ, false, List, Err, IfSome, IsOk, IsTrue, OnOk, length, drop, take};
 ghost use Rattle.std.specs.Io.KnownBytes.{Keeps, Appends};
 ghost use Rattle.std.specs.declared.io.Error.{Error};
 ghost use Rattle.streams.specs.Takes.{TakesStart};
@@ -11,9 +11,10 @@ ghost use Rattle.frames.specs.declared.Frame.{Frame};
 ghost use Rattle.reading.specs.declared.Refusal.{Refusal};
 ghost use Rattle.shell.specs.Reports.{OneOf};
 ghost use Rattle.shell.specs.Writes.{IsSound, IsFaulty};
-ghost use Rattle.file.specs.Writes.{IsAsking, Writes};
+ghost use Rattle.reading.specs.Tables.{salvages};
+ghost use Rattle.file.specs.Writes.{Writes};
 ghost use Rattle.fair_copy.specs.Asking.{asks_of};
-ghost use Rattle.fair_copy.specs.Copy.{frames_text, WritesCopy};
+ghost use Rattle.fair_copy.specs.Copy.{IsReadAs, frames_text, WritesCopy};
 ghost use Rattle.fair_copy.specs.Laws.{SameCollection, ReadsAsCopy};
 ghost use Rattle.fair_copy.specs.Kept.{IsFairCopy};
 
@@ -43,20 +44,20 @@ pub fn copy(input: &[u8], text: &mut [u8; MOST_TEXT]) -> usize
         → Writes input.now (take result text.new) }
 
     // The copy of a sound input is sound and the same collection, and its copy is itself.
-    ensures reads { (fs : List Frame) (q : Listed) → IsAsking input.now fs q
+    ensures reads { (fs : List Frame) (q : Listed) → IsReadAs input.now fs q
         → ReadsAsCopy fs q (take result text.new) }
     ensures again { let out = take result text.new in
         (fs : List Frame) → IsSound input.now fs → WritesCopy out out }
 
     // Another sound input has the same copy exactly when it is the same collection.
-    ensures same { (fs : List Frame) (q : Listed) → IsAsking input.now fs q
+    ensures same { (fs : List Frame) (q : Listed) → IsReadAs input.now fs q
         → (other out : List ℕ) → WritesCopy other out
-        → (gs : List Frame) (r : Listed) → IsAsking other gs r
+        → (gs : List Frame) (r : Listed) → IsReadAs other gs r
         → (take result text.new ≡ out) ↔ SameCollection fs q gs r }
 
-    // The desk answers the copy, with the asks of the input behind it, as it answers the input.
+    // The desk answers the copy, with the asks of the input behind it, as it answers the input, where that chooses no salvage.
     ensures answered { let out = take result text.new in
-        (fs : List Frame) → IsSound input.now fs → (answers : List ℕ)
+        (fs : List Frame) → IsSound input.now fs → salvages fs ≡ false → (answers : List ℕ)
         → Writes (out ++ frames_text (asks_of fs)) answers ↔ Writes input.now answers }
 {
     match shell::answer(input, &FairCopy, text) {

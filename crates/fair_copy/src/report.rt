@@ -104,7 +104,7 @@ fn put_part<T: Taker>(to: &mut T, file: &File, part: Part) -> io::Result<()>
     }
 }
 
-// The lines of all that is held but asks and an expression.
+// The lines of all that is held but asks, an expression and the choice of salvage.
 fn put_file<T: Taker>(to: &mut T, file: &File) -> io::Result<()>
     ensures ok { OnOk result (T.takes to.old (frames_text (typed_out file.now)) to.new) }
     ensures err { IfErr result (λ e.

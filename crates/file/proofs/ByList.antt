@@ -14,13 +14,12 @@ use Rattle.theory.proofs.ListingLaws.{counts-listed}
 use Rattle.theory.proofs.MarksLaws.{round-counts-once}
 use Rattle.reading.specs.Tables.{list_in, rounds_allowed}
 use Rattle.reading.specs.File.{asked}
-use Rattle.reading.proofs.Accepted.{whole-accepted}
 use Rattle.intake.specs.Verdicts.{collection_read}
 use Rattle.file.specs.Writes.{frames_width}
-use Rattle.file.specs.Told.{line_in, IsRoundLine}
+use Rattle.file.specs.Told.{round_at, IsRoundLine}
 use Rattle.file.specs.ByList.{LinesSayByList, entries_in, rounds_listed, RoundsToldByList}
 use Rattle.file.proofs.Demanded.{lines-say-as-model}
-use Rattle.file.proofs.Sound.{sound-read, sound-accepted, its-listing}
+use Rattle.file.proofs.Decided.{asking-sound, asking-listing}
 use Rattle.file.proofs.Told.{rounds-are-told}
 
 -- THEOREM: with enough rounds each line is yes exactly where a walk by the list leads to what is asked for
@@ -28,12 +27,12 @@ pub lines-say-by-list : LinesSayByList
 lines-say-by-list input text w fs q s given k h enough =
     let call = asked fs q k in
     let 𝓒 = collection_read fs q in
-    let sound : Sound call = whole-accepted input fs (sound-read s.sound) q s.question k h in
+    let sound : Sound call = asking-sound s k h in
     let m = lines-say-as-model input text w fs q s k h enough in
     let by : (Contradiction 𝓒 → ⊥) → Spelled call ↔ IsYesBy 𝓒 (list_in fs) call.ask =
     λ sane.
     let a = ask↔word 𝓒 call.ask in
-    let b = ask↔list 𝓒 (sound-well-formed call sound) (list_in fs) (its-listing fs q s.question (sound-accepted s.sound) given sane)
+    let b = ask↔list 𝓒 (sound-well-formed call sound) (list_in fs) (asking-listing s given sane)
     call.ask sound.ask in
     (λ p. b.0 (a.1 p), λ p. a.0 (b.1 p)) in
     record {
@@ -46,8 +45,8 @@ lines-say-by-list input text w fs q s given k h enough =
 pub rounds-told-by-list : RoundsToldByList
 rounds-told-by-list input text w fs q s given some sane =
     let 𝓒 = collection_read fs q in
-    let ok = sound-well-formed (asked fs q 0) (whole-accepted input fs (sound-read s.sound) q s.question 0 some) in
-    let l = its-listing fs q s.question (sound-accepted s.sound) given sane in
+    let ok = sound-well-formed (asked fs q 0) (asking-sound s 0 some) in
+    let l = asking-listing s given sane in
     let t = rounds-are-told w fs q s some sane (rounds_listed fs q) ((lite-last 𝓒 ok (list_in fs) l (rounds_listed fs q)).1 refl) in
     let n = min (rounds_listed fs q) (rounds_allowed fs) in
     let same =
@@ -60,5 +59,5 @@ rounds-told-by-list input text w fs q s given some sane =
           let c : slice_index t.counts k ≡ entries_in (list_in fs) (k + 1) =
           ap (λ (counts : List ℕ). slice_index counts k) same
           ∙ get_d_numbered (λ k. entries_in (list_in fs) (suc k)) n k 0 h ∙ ap (entries_in (list_in fs)) e in
-          subst (λ (m : ℕ). IsRoundLine (frames_width fs) (k + 1) m (line_in text k)) c (t.each k h);
+          subst (λ (m : ℕ). IsRoundLine (frames_width fs) (k + 1) m (round_at text k)) c (t.each k h);
     }

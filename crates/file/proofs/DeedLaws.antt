@@ -1,7 +1,7 @@
 -- Two inputs whose lines differ only in the deed numbers of their facts write the same text.
 use Rattle.std.specs.Prelude.{ℕ, zero, suc, ◌+◌, ◌≡◌, refl, ◌↔◌, Option, List, [], ◌++◌, length, take}
 use Rattle.std.specs.List.{cons_option}
-use Rattle.std.proofs.Common.{sym, ap, ap₂, ◌∙◌, subst, length-take, arith}
+use Rattle.std.proofs.Common.{sym, ap, ap₂, ◌∙◌, subst, inl, inr, ⊎_elim, length-take, arith}
 use Rattle.meaning.specs.Lent.{Call}
 use Rattle.meaning.specs.Deeds.{lent_with}
 use Rattle.meaning.proofs.DeedLaws.{one-collection, deeds-decide-nothing}
@@ -16,7 +16,8 @@ use Rattle.reading.specs.File.{tables_of, asked}
 use Rattle.reading.specs.Reading.{Verdict, faulty, sound, Reading}
 use Rattle.reading.specs.Deeds.{SameButDeed, same, concept, role, SameLine, same-line, same-facts, InStep, ended, next}
 use Rattle.reading.specs.Deeds.{SameVerdict, both-faulty, both-sound}
-use Rattle.reading.proofs.DeedLaws.{Alike, alike-length, entries-same, table-same, declared-same, allowance-same}
+use Rattle.reading.proofs.SalvageLaws.{decides-without_deeds}
+use Rattle.reading.proofs.DeedLaws.{Alike, alike-length, entries-same, table-same, declared-same, allowance-same, choice-same}
 use Rattle.reading.proofs.DeedLaws.{question-same, tables-alike, reads-without-deeds}
 use Rattle.shell.specs.Faults.{fault_line}
 use Rattle.shell.specs.Writes.{fault, said}
@@ -25,7 +26,8 @@ use Rattle.file.proofs.Sound.{sound-read, sound-accepted}
 use Rattle.file.specs.Rounds.{round_lines}
 use Rattle.meaning.specs.Collection.{Collection}
 use Rattle.intake.specs.Verdicts.{collection_read, IsListing, Accepted, no-list, contradiction, listing, Departs, before_list, Verdicts, by-line, by-list, accepted}
-use Rattle.file.specs.Writes.{Answers, Answered, frames_width, FileRounds, RepliesTo, Writes}
+use Rattle.file.specs.Writes.{Answers, Answered, frames_width, FileRounds, RepliesTo, Reports, Writes}
+use Rattle.file.proofs.Decided.{reports-of}
 
 -- it works both ways
 frame_turned : {f g : Frame} → SameButDeed f g → SameButDeed g f
@@ -68,7 +70,7 @@ module _ {fs gs : List Frame} (s : Alike fs gs) (q : Listed) where
   rounds-same : (counts : List ℕ) → FileRounds fs q counts → FileRounds gs q counts
   rounds-same counts t = rw (read-same, allowance-same s, declared-same s, entries-same asks s) at t
 
--- and so is what is written of them
+-- and what is written of them
 replies-same : {fs gs : List Frame} → Alike fs gs → {x : List ℕ} → RepliesTo frames_width fs x → RepliesTo frames_width gs x
 replies-same {fs} s r =
     let q = r.question in
@@ -82,6 +84,13 @@ replies-same {fs} s r =
       answered = rw (entries-same asks s, e) at (answered-same s q (frames_width fs) (entries asks fs) r.out r.answered);
       whole = r.whole ∙ ap (λ (n : ℕ). round_lines n 0 r.counts ++ r.out) e;
     }
+
+reports-same : {fs gs : List Frame} → Alike fs gs → {x : List ℕ} → Reports frames_width fs x → Reports frames_width gs x
+reports-same {fs} {gs} s {x} r =
+    let q = r.replies.question in
+    let d = decides-without_deeds fs gs s q r.dropped r.over r.decided in
+    subst (λ (l : List ℕ). Reports frames_width gs l) (sym r.whole)
+    (reports-of d.2 (question-same d.1 q r.replies.is) (replies-same d.1 r.replies))
 
 -- their lists are the same
 entry-same : {f g : Frame} → SameButDeed f g → entry_in f ≡ entry_in g
@@ -97,7 +106,8 @@ list-same (next {xs = fs} d s) = ap₂ (λ (o : Option Entry) (l : List Entry). 
 module _ {fs gs : List Frame} (s : Alike fs gs) where
   accepted-same : Accepted fs → Accepted gs
   accepted-same (no-list e) = no-list (sym (list-same s) ∙ e)
-  accepted-same (contradiction q is c) = contradiction q (question-same s q is) (rw (read-same s q) at c)
+  accepted-same (contradiction q is p c) =
+      contradiction q (question-same s q is) (sym (choice-same s) ∙ p) (rw (read-same s q) at c)
   accepted-same (listing q is l) =
       listing q (question-same s q is)
       (subst (IsListing (collection_read gs q)) (list-same s) (subst (λ (c : Collection). IsListing c (list_in fs)) (read-same s q) l))
@@ -109,7 +119,7 @@ module _ {fs gs : List Frame} (s : Alike fs gs) where
         given = λ e. d.given (list-same s ∙ e);
         question = q;
         is = question-same s q d.is;
-        sane = rw (read-same s q) at d.sane;
+        sane = ⊎_elim (λ p. inl (sym (choice-same s) ∙ p)) (λ n. inr (λ c. n (rw (← read-same s q) at c))) d.sane;
         listing = d.listing;
         lists = subst (λ (c : Collection). IsListing c d.listing) (read-same s q) d.lists;
         at = rw (list-same s) at d.at;
@@ -156,7 +166,7 @@ module _ (input other : List ℕ) (s : InStep SameLine (lines input) (lines othe
   writes-same (said fs x h r) =
       let w = reads-without-deeds (lines input) (lines other) s (sound fs) (sound-read h) in
       let v = sound-same w.1 w.2 fs refl in
-      said v.0 x (accepted v.0 v.2 (accepted-same v.1 (sound-accepted h))) (replies-same v.1 r)
+      said v.0 x (accepted v.0 v.2 (accepted-same v.1 (sound-accepted h))) (reports-same v.1 r)
 
 -- THEOREM: what is written does not depend on deed numbers
 pub writes-without-deeds : (input other : List ℕ) → InStep SameLine (lines input) (lines other) → (text : List ℕ)

@@ -1,19 +1,21 @@
 -- A file that gives no allowance: the rounds needed are allowed, so that each line is decided and every round is told of.
 use Rattle.std.specs.Prelude.{ℕ, ◌≡◌, List, Option, None, min, unwrap_or}
-use Rattle.std.proofs.Common.{ap, subst, arith}
+use Rattle.std.proofs.Common.{ap, ◌∙◌, subst, arith}
 use Rattle.meaning.specs.Lite.{lite}
 use Rattle.meaning.specs.Lent.{Call}
 use Rattle.meaning.specs.Outcome.{Breaks}
-use Rattle.meaning.specs.Demands.{most_rounds}
+use Rattle.meaning.specs.Demands.{most_rounds, Spelled}
 use Rattle.theory.proofs.SheetLaws.{rounds-unique}
 use Rattle.frames.specs.declared.Frame.{Frame}
 use Rattle.reading.specs.Tables.{declared_by, allowance_given, rounds_allowed}
+use Rattle.reading.specs.File.{asked}
 use Rattle.intake.specs.Verdicts.{collection_read}
-use Rattle.file.specs.Told.{number_on}
+use Rattle.file.specs.Told.{number_on, line_at}
 use Rattle.file.specs.Laws.{TellsRounds}
 use Rattle.file.specs.Demands.{IsAsModelSays}
 use Rattle.file.specs.Default.{DefaultSuffices, NeverSpent, DefaultSaysAsModel, DefaultTellsAll}
-use Rattle.file.proofs.Told.{replies, asking, rounds-are-told}
+use Rattle.file.proofs.Decided.{allowance-over}
+use Rattle.file.proofs.Told.{over, question, asking, same-asks, rounds-are-told}
 use Rattle.file.proofs.Demanded.{lines-say-as-model, rounds-enough}
 
 allowed : (fs : List Frame) → allowance_given fs ≡ None → rounds_allowed fs ≡ most_rounds (declared_by fs)
@@ -41,7 +43,12 @@ module _ (call : Call) (Found : Type 0) (line : List ℕ) (m : IsAsModelSays cal
 -- THEOREM: and never the allowance spent
 pub never-spent : NeverSpent
 never-spent input text w fs s none k h =
-    decided _ _ _ (default-model input text w fs (replies w fs s).question (asking w fs s) none k h)
+    let gs = over w fs s in
+    let q = question w fs s in
+    let its = asking w fs s in
+    let same = same-asks w fs s in
+    let m = default-model input text w gs q its (allowance-over its.decided ∙ none) k (omega (arith, same)) in
+    decided _ _ _ (subst (λ (n : ℕ). IsAsModelSays (asked gs q k) (Spelled (asked gs q k)) (line_at n text k)) same m)
 
 -- THEOREM: the rounds that are told of are those needed
 pub default-rounds : DefaultTellsAll

@@ -18,10 +18,8 @@ use Rattle.expression.proofs.Clauses.{it-asks}
 use Rattle.frames.specs.declared.Frame.{Frame}
 use Rattle.reading.specs.Tables.{expression_given}
 use Rattle.reading.specs.File.{asked}
-use Rattle.reading.specs.Reading as read
-use Rattle.reading.proofs.Accepted.{whole-accepted, reading-taken}
 use Rattle.reading.proofs.Questions.{row-taken}
-use Rattle.file.proofs.Sound.{sound-read}
+use Rattle.file.proofs.Decided.{asking-taken, asking-sound}
 use Rattle.file.specs.Text.{count_width, answer_line}
 use Rattle.file.specs.Writes.{IsAsking, frames_width}
 use Rattle.file.specs.Demands.{LinesSayAsModel, LinesSayOfExpression, SameAsk, SpellsWordOf, LinesGrow, LinesReturn, RoundsSuffice}
@@ -32,7 +30,7 @@ use Rattle.file.specs.Told.{Names}
 pub lines-say-as-model : LinesSayAsModel
 lines-say-as-model input text w fs q s k h enough =
     let a = line-answers w fs q s k h in
-    let m = says-what-the-model-says (asked fs q k) (whole-accepted input fs (sound-read s.sound) q s.question k h) enough a.outcome.2 in
+    let m = says-what-the-model-says (asked fs q k) (asking-sound s k h) enough a.outcome.2 in
     let n = number-of a in
     record { contradiction = rw n m.contradiction; yes = rw n m.yes; no = rw n m.no }
 
@@ -44,7 +42,7 @@ module _ (input : List ℕ) (fs : List Frame) (q : Listed) (s : IsAsking input f
 
   asks-by : (k : ℕ) → AsksBy (collection_of (asked fs q k)) q
   asks-by k =
-      let r = row-taken fs (reading-taken (sound-read s.sound) read.none) row given in
+      let r = row-taken fs (asking-taken s) row given in
       record { start = r.shaped.3; steps = refl; finals = refl }
 
   spells-it : (e : Tree) (m : ℕ) → IsExpression row e m → (k : ℕ) → Spelled (asked fs q k) ↔ SpellsWordOf e (asked fs q k)
@@ -73,8 +71,8 @@ pub lines-grow : LinesGrow
 lines-grow input other text out w v fs gs q r s t j k h i g p =
     let a = line-answers w fs q s j h in
     let b = line-answers v gs r t k i in
-    let sound = whole-accepted input fs (sound-read s.sound) q s.question j h in
-    let sound' = whole-accepted other gs (sound-read t.sound) r t.question k i in
+    let sound = asking-sound s j h in
+    let sound' = asking-sound t k i in
     let same = same-ask _ _ _ _ (names-of a sound) (names-of b sound') p in
     let z = grows (asked fs q j) (asked gs r k) g.larger same sound sound' g.enough g.enough' a.outcome.2 b.outcome.2 in
     let n = number-of a in
@@ -96,4 +94,4 @@ lines-return input other text out w v fs gs q r s t j k h i m n =
 
 -- THEOREM: concepts × states × (states − 1) rounds always suffice
 pub rounds-enough : RoundsSuffice
-rounds-enough input fs q s k some h = most-enough (asked fs q k) (whole-accepted input fs (sound-read s.sound) q s.question k some) h
+rounds-enough input fs q s k some h = most-enough (asked fs q k) (asking-sound s k some) h

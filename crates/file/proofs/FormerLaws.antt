@@ -21,6 +21,7 @@ use Rattle.file.specs.Writes.{Answered, frames_width, RepliesTo, Writes}
 use Rattle.file.specs.Former.{FormerWrites, WasSound, TellsFormerFault}
 use Rattle.file.proofs.Widths.{width-few}
 use Rattle.file.proofs.WritesLaws.{replies-once}
+use Rattle.file.proofs.Decided.{plain-reports}
 
 -- THEOREM: an input wrote one text
 pub former-writes-once : {input x y : List ℕ} → FormerWrites input x → FormerWrites input y → x ≡ y
@@ -55,14 +56,14 @@ module _ (input : List ℕ) (fs : List Frame) (s : WasSound input fs) where
   as-it-did (said gs x h r) =
       let e = verdict-once (lines input) (sound gs) (sound fs) h still-sound in
       let d : gs ≡ fs = cc in
-      said fs x s (as-wide narrow (rw d at r))
+      said fs x s (as-wide narrow ((plain-reports still.1.no_choice).0 (rw d at r)))
 
   as-it-does : {text : List ℕ} → FormerWrites input text → Writes input text
   as-it-does (fault before r h) = let e = former-once h s in absurd cc
   as-it-does (said gs x h r) =
       let e = former-once h s in
       let d : gs ≡ fs = cc in
-      said fs x still-sound (as-wide (sym narrow) (rw d at r))
+      said fs x still-sound ((plain-reports still.1.no_choice).1 (as-wide (sym narrow) (rw d at r)))
 
   -- THEOREM: an input that was read whole writes what it wrote
   pub writes-as-it-did : (text : List ℕ) → Writes input text ↔ FormerWrites input text

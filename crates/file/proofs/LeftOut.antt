@@ -1,7 +1,8 @@
 -- An accepted list changes nothing that is written.
-use Rattle.std.specs.Prelude.{ℕ, ◌+◌, ◌/◌, ◌≤◌, ◌≡◌, ◌≢◌, refl, ◌↔◌, Option, None, Some, IsSome, Ok, length, take}
-use Rattle.std.proofs.Common.{sym, ap, ◌∙◌, subst, append_assoc, append-nil, length-append, length-take, arith}
-use Rattle.std.proofs.lemmas.List.{length-map}
+use Rattle.std.specs.Prelude.{ℕ, zero, suc, ◌+◌, ◌/◌, ◌≤◌, ◌≡◌, ◌≢◌, refl, ◌↔◌, Bool, true, false, Option, None, Some, IsSome, Ok, length, take}
+use Rattle.std.specs.List.{range_with_len}
+use Rattle.std.proofs.Common.{sym, ap, ◌∙◌, subst, ⊎_elim, append_assoc, append-nil, length-append, length-take, arith}
+use Rattle.std.proofs.lemmas.List.{length-map, map-append}
 use Rattle.std.proofs.Math.Decide.{dec_lt}
 use Rattle.std.proofs.lemmas.Option.{slice_get_past}
 use Rattle.laws.specs.Departs.{DepartsAt}
@@ -9,7 +10,14 @@ use Rattle.tables.specs.Asks.{ask_width}
 use mathlib.Core.List.Memᴰ
 use mathlib.Core.List.{List, [], ◌∷◌, ◌++◌, map}
 use Rattle.laws.specs.Member.{◌∈◌}
+use Rattle.meaning.specs.Collection.{Collection, Each}
 use Rattle.meaning.specs.Lent.{collection}
+use Rattle.salvage.specs.Facts.{Fact, Clashing, IsSalvage}
+use Rattle.salvage.specs.Salvages.{marked}
+use Rattle.salvage.specs.declared.Typed.{Typed}
+use Rattle.salvage.proofs.SalvageLaws.{marks_each}
+use Rattle.salvage.proofs.SalvagedLaws.{others_after}
+use Rattle.expression.specs.Listed.{Listed}
 use Rattle.streams.specs.Lines.{lines}
 use Rattle.frames.specs.Frames.{FrameOf}
 use Rattle.frames.specs.declared.Frame.{Frame}
@@ -17,35 +25,42 @@ use Rattle.frames.specs.declared.Frame.TheVariants.{ListedMark}
 use Rattle.frames.proofs.Once.{frame-once}
 use Rattle.reading.specs.declared.File.{File}
 use Rattle.reading.specs.declared.Refusal.TheVariants.{NotTheSheet}
-use Rattle.reading.specs.Tables.{asks, listed, entries, Entry, entry_in, frame_of, list_in, rounds_allowed}
-use Rattle.reading.specs.File.{file_of, IsQuestion, lent_tables, allowance_in, asked, held_call}
+use Rattle.reading.specs.Tables.{asks, listed, entries, Entry, entry_in, frame_of, list_in, rounds_allowed, salvages, typed_lines}
+use Rattle.reading.specs.File.{file_of, IsQuestion, IsQuestionOf, lent_tables, allowance_in, asked, held_call}
+use Rattle.reading.specs.Salvage.{fact_in, kept_frames, dropped_lines, Decides, plain, sifted}
 use Rattle.reading.specs.Judged.{InPlace}
-use Rattle.reading.specs.Reading.{Finds, taken, Verdict, sound, Reading, empty, whole, onward, none}
+use Rattle.reading.specs.Reading.{Finds, taken, Taken, Verdict, sound, Reading, empty, whole, onward, none}
 use Rattle.reading.proofs.Accepted.{reading-taken}
 use Rattle.reading.proofs.ListEnds.{list-last, entries-held}
 use Rattle.reading.proofs.ListLaws.{list-none, list-same}
 use Rattle.reading.proofs.Passed.{passed, judged_ok}
+use Rattle.reading.proofs.SalvageLaws.{decides-once, decides-some}
 use Rattle.intake.specs.Verdicts.{collection_read, before_list, by-list, accepted, no-list}
 use Rattle.shell.specs.Writes.{IsSound}
 use Rattle.shell.proofs.WritesLaws.{said-written}
-use Rattle.file.specs.Text.{count_width}
+use Rattle.file.specs.Text.{count_width, dropped_text}
 use Rattle.file.specs.Rounds.{round_lines, RoundsTold}
-use Rattle.file.specs.Writes.{Answered, frames_width, RepliesTo, Writes}
+use Rattle.file.specs.Writes.{Answered, frames_width, RepliesTo, Reports, Writes}
+use Rattle.file.proofs.Decided.{begun-over, question-over, reports-of}
 use Rattle.file.specs.LeftOut.{IsEntryLine, LeavesOutList, ListRefused}
 use Rattle.file.specs.Told.{IsFaultLine}
 use Rattle.file.proofs.Asks.{ask_entries}
 use Rattle.file.proofs.Sound.{sound-read}
 use Rattle.file.proofs.Told.{fault-told}
 
--- ---- what is said of frames goes by what is held of them, but for how many lines and entries they are
+-- ---- what is written of frames that are answered goes by what is held of them, but for how many lines and entries they are, what
+-- these type, and whether they choose salvage
+abbrev pub with_lines : File → ℕ → ℕ → Bool → List Typed → File
+with_lines file n m chosen typed = record file { lines = n; listed = m; salvages = chosen; typed = typed }
+
 abbrev with_counts : File → ℕ → ℕ → File
 with_counts file n m = record file { lines = n; listed = m }
 
-module _ (fs gs : List Frame) (n m : ℕ) (same : file_of fs ≡ with_counts (file_of gs) n m) where
+module _ (fs gs : List Frame) (n m : ℕ) (b : Bool) (typed : List Typed) (same : file_of fs ≡ with_lines (file_of gs) n m b typed) where
   many : entries asks fs ≡ entries asks gs
   many = sym (ask_entries fs) ∙ ap (λ (f : File). length f.asks / ask_width) same ∙ ask_entries gs
 
-  replies-kept : (text : List ℕ) → RepliesTo frames_width fs text → RepliesTo frames_width gs text
+  pub replies-kept : (text : List ℕ) → RepliesTo frames_width fs text → RepliesTo frames_width gs text
   replies-kept text r =
       let q = r.question in
       record {
@@ -76,9 +91,107 @@ module _ (gs : List Frame) (begun : gs ≢ []) (list : List Entry) where
   -- THEOREM: with entries of a list behind them the same is said of frames
   pub replies-with : (text : List ℕ) → RepliesTo frames_width with_list text ↔ RepliesTo frames_width gs text
   replies-with text = (
-    replies-kept with_list gs (length gs + length list) (entries listed gs + length list) held-with text,
-    replies-kept gs with_list (length gs) (entries listed gs) held-without text,
+    replies-kept with_list gs (length gs + length list) (entries listed gs + length list) (salvages gs) (typed_lines gs) held-with text,
+    replies-kept gs with_list (length gs) (entries listed gs) (salvages with_list) (typed_lines with_list) held-without text,
   )
+
+-- with entries of a list behind them frames decide the same, and are answered with them
+module _ {F : Type 0} where
+  marks-behind : (l m : List F) (marks : List Bool) → length marks ≡ length l
+      → (marked true (l ++ m) (marks ++ map (λ x. true) m) ≡ marked true l marks ++ m)
+      × (marked false (l ++ m) (marks ++ map (λ x. true) m) ≡ marked false l marks)
+  marks-behind [] m [] e = all m
+    where
+      all : (m : List F) → (marked true m (map (λ x. true) m) ≡ m) × (marked false m (map (λ x. true) m) ≡ [])
+      all [] = (refl, refl)
+      all (x ∷ m) = let w = all m in (ap (λ (k : List F). x ∷ k) w.0, w.1)
+  marks-behind [] m (b ∷ marks) e = absurd (omega arith)
+  marks-behind (x ∷ l) m [] e = absurd (omega arith)
+  marks-behind (x ∷ l) m (true ∷ marks) e =
+      let w = marks-behind l m marks (omega arith) in (ap (λ (k : List F). x ∷ k) w.0, w.1)
+  marks-behind (x ∷ l) m (false ∷ marks) e =
+      let w = marks-behind l m marks (omega arith) in (w.0, ap (λ (k : List F). x ∷ k) w.1)
+
+  -- marks go by places
+  marks-fit : {G : Type 0} (l : List F) (m : List G) → length l ≡ length m → map (λ x. true) l ≡ map (λ x. true) m
+  marks-fit [] [] e = refl
+  marks-fit [] (y ∷ m) e = absurd (omega arith)
+  marks-fit (x ∷ l) [] e = absurd (omega arith)
+  marks-fit (x ∷ l) (y ∷ m) e = ap (λ (k : List Bool). true ∷ k) (marks-fit l m (omega arith))
+
+range-append : (a n m : ℕ) → range_with_len a (n + m) ≡ range_with_len a n ++ range_with_len (a + n) m
+range-append a zero m = let e : 0 + m ≡ m = omega arith in let d : a + 0 ≡ a = omega arith in rw (e, d) refl
+range-append a (suc n) m =
+    let e : suc n + m ≡ suc (n + m) = omega arith in
+    let d : a + 1 + n ≡ a + suc n = omega arith in
+    rw e (ap (λ (l : List ℕ). a ∷ l) (rw d at (range-append (a + 1) n m)))
+
+range-long : (a n : ℕ) → length (range_with_len a n) ≡ n
+range-long a zero = refl
+range-long a (suc n) = omega (arith, range-long (a + 1) n)
+
+-- entries type no fact
+no-facts : (list : List Entry) → Each (map fact_in (map frame_of list)) (λ x. x ≡ None)
+no-facts [] x m = absurd (Memᴰ.not-nil m)
+no-facts (e ∷ list) x m = ⊎_elim (λ h. h) (λ k. no-facts list x k) (Memᴰ.cases_cons m)
+
+module _ (gs : List Frame) (begun : gs ≢ []) (list : List Entry) where
+  collection-with : (q : Listed) → collection_read gs q ≡ collection_read (with_list gs begun list) q
+  collection-with q = sym (ap (λ (f : File). collection f.counts (lent_tables f q)) (held-with gs begun list))
+
+  choice-with : salvages (with_list gs begun list) ≡ salvages gs
+  choice-with = ap (λ (f : File). f.salvages) (held-with gs begun list)
+
+  pub decides-with : {q : Listed} {dropped : List ℕ} {over : List Frame} → Decides gs q dropped over
+      → Decides (gs ++ map frame_of list) q dropped (over ++ map frame_of list)
+  decides-with (plain p) = plain (choice-with ∙ p)
+  decides-with {q} (sifted marks p h) =
+      let tail = map frame_of list in
+      let behind = map (λ (x : Option Fact). true) (map fact_in tail) in
+      let all = marks ++ behind in
+      let long : length marks ≡ length gs = marks_each (Clashing (collection_read gs q)) h ∙ length-map gs fact_in in
+      let fit : behind ≡ map (λ (f : Frame). true) tail = marks-fit (map fact_in tail) tail (length-map tail fact_in) in
+      let salvage : IsSalvage (collection_read (gs ++ tail) q) (map fact_in (gs ++ tail)) all =
+      subst (λ (l : List (Option Fact)). IsSalvage (collection_read (gs ++ tail) q) l all) (sym (map-append fact_in gs tail))
+      (subst (λ (c : Collection). IsSalvage c (map fact_in gs ++ map fact_in tail) all) (collection-with q)
+      (others_after (collection_read gs q) (map fact_in tail) (map fact_in gs) marks (no-facts list) h)) in
+      let kept : kept_frames (gs ++ tail) all ≡ kept_frames gs marks ++ tail =
+      ap (λ (m : List Bool). marked true (gs ++ tail) (marks ++ m)) fit ∙ (marks-behind gs tail marks long).0 in
+      let more = range_with_len (1 + length gs) (length tail) in
+      let fit' : behind ≡ map (λ (n : ℕ). true) more = marks-fit (map fact_in tail) more (length-map tail fact_in ∙ sym (range-long (1 + length gs) (length tail))) in
+      let lines-are : dropped_lines (gs ++ tail) all ≡ dropped_lines gs marks =
+      ap (λ (n : ℕ). marked false (range_with_len 1 n) all) (length-append gs tail)
+      ∙ ap (λ (l : List ℕ). marked false l all) (range-append 1 (length gs) (length tail))
+      ∙ ap (λ (m : List Bool). marked false (range_with_len 1 (length gs) ++ more) (marks ++ m)) fit'
+      ∙ (marks-behind (range_with_len 1 (length gs)) more marks (long ∙ sym (range-long 1 (length gs)))).1 in
+      subst (λ (d : List ℕ). Decides (gs ++ tail) q d (kept_frames gs marks ++ tail)) lines-are
+      (subst (λ (hs : List Frame). Decides (gs ++ tail) q (dropped_lines (gs ++ tail) all) hs) kept
+      (sifted all (choice-with ∙ p) salvage))
+
+-- THEOREM: so what is written of them is the same
+module _ (gs : List Frame) (begun : gs ≢ []) (taken : Taken gs) (list : List Entry) (all-taken : Taken (gs ++ map frame_of list)) where
+  pub reports-with : (text : List ℕ) → Reports frames_width (gs ++ map frame_of list) text ↔ Reports frames_width gs text
+  reports-with text = (to, from)
+    where
+      from : Reports frames_width gs text → Reports frames_width (gs ++ map frame_of list) text
+      from r =
+          let some = begun-over r.decided begun taken in
+          let replies = (replies-with r.over some list r.out).1 r.replies in
+          let is = subst (λ (f : File). IsQuestion f r.replies.question) (sym (held-with r.over some list)) r.replies.is in
+          subst (λ (l : List ℕ). Reports frames_width (gs ++ map frame_of list) l) (sym r.whole)
+          (reports-of (decides-with gs begun list r.decided) is replies)
+
+      to : Reports frames_width (gs ++ map frame_of list) text → Reports frames_width gs text
+      to r =
+          let q = r.replies.question in
+          let asks-q = subst (λ (f : File). IsQuestion f q) (held-with gs begun list) ((question-over r.decided all-taken q).0 r.replies.is) in
+          let d = decides-some gs taken q asks-q in
+          let some = begun-over d.2 begun taken in
+          let e = decides-once _ q r.dropped d.0 r.over _ r.decided (decides-with gs begun list d.2) in
+          let replies = (replies-with d.1 some list r.out).0 (subst (λ (hs : List Frame). RepliesTo frames_width hs r.out) e.1 r.replies) in
+          let is = subst (λ (f : File). IsQuestion f q) (held-with d.1 some list) (subst (λ (hs : List Frame). IsQuestionOf hs q) e.1 r.replies.is) in
+          let text-is : dropped_text d.0 ++ r.out ≡ text = ap (λ (l : List ℕ). dropped_text l ++ r.out) (sym e.0) ∙ sym r.whole in
+          subst (λ (l : List ℕ). Reports frames_width gs l) text-is (reports-of d.2 is replies)
 
 -- ---- the frames of an input, line by line
 
@@ -190,11 +303,13 @@ module _ (input other : List ℕ) (left : LeavesOutList input other) (fs : List 
   pub list-changes-nothing : (text : List ℕ) → Writes input text ↔ Writes other text
   list-changes-nothing text =
       let l = list-behind gs left.list fs whole-read.rest left.listed in
-      let a = said-written (RepliesTo frames_width) input fs s text in
-      let b = said-written (RepliesTo frames_width) other gs other-sound text in
+      let a = said-written (Reports frames_width) input fs s text in
+      let b = said-written (Reports frames_width) other gs other-sound text in
+      let taken = reading-taken (sound-read other-sound) none in
+      let all-taken = subst Taken l.1 (reading-taken (sound-read s) none) in
       let same =
-      subst (λ (hs : List Frame). RepliesTo frames_width hs text ↔ RepliesTo frames_width gs text) (sym l.1)
-      (replies-with gs some l.0 text) in
+      subst (λ (hs : List Frame). Reports frames_width hs text ↔ Reports frames_width gs text) (sym l.1)
+      (reports-with gs some taken l.0 all-taken text) in
       (λ w. b.1 (same.0 (a.0 w)), λ w. a.1 (same.1 (b.0 w)))
 
 -- ---- a list that departs

@@ -9,8 +9,14 @@ pub mod Demanded
 pub mod Default
 pub mod LeftOut
 pub mod ByList
+pub mod Salvaged
+pub mod Without
 -- Laws that the functions' proofs cite.
 pub mod Widths
+pub mod Bytes
+pub mod Dropped
+pub mod Places
+pub mod Decided
 pub mod Sound
 pub mod Asks
 pub mod Rounds
@@ -19,3 +25,5 @@ pub mod Turns
 pub mod Each
 pub mod Answering
 pub mod Served
+pub mod RoundsThere
+pub mod Settling

@@ -49,7 +49,7 @@ pub record IsLine (line : List ℕ) : Type 0 where
   pub is : front ++ 0x0A ∷ [] ≡ line
   pub first : (rest : List ℕ) → lines (line ++ rest) ≡ front ∷ lines rest
 
-text_line : (bytes : List ℕ) → IsLine (text bytes)
+pub text_line : (bytes : List ℕ) → IsLine (text bytes)
 unfolding text
 text_line bytes = record {
   front = flat_map characters bytes;
@@ -80,7 +80,11 @@ lone : {line : List ℕ} (l : IsLine line) → lines line ≡ l.front ∷ []
 unfolding lines
 lone {line} l = ap lines (sym (append-nil line)) ∙ l.first []
 
-one_line : {line : List ℕ} → IsLine line → AreLines line 1
+pub lone-text : (bytes : List ℕ) → lines (text bytes) ≡ flat_map characters bytes ∷ []
+unfolding text lines
+lone-text bytes = bytes_first bytes []
+
+pub one_line : {line : List ℕ} → IsLine line → AreLines line 1
 one_line l = record {
   many = ap (λ (ls : List (List ℕ)). length ls) (lone l);
   before = λ rest. l.first rest ∙ ap (λ (ls : List (List ℕ)). ls ++ lines rest) (sym (lone l));
@@ -107,7 +111,7 @@ module _ {x : List ℕ} {n : ℕ} (a : AreLines x n) (y : List ℕ) where
       ∙ ap (λ (i : ℕ). slice_index_or (lines x ++ lines y) (i + k) [] ++ 0x0A ∷ []) (sym a.many)
       ∙ ap (λ (l : List ℕ). l ++ 0x0A ∷ []) (get_or-append-add (lines x) (lines y) k [])
 
-line_of_one : {line : List ℕ} → IsLine line → line_in line 0 ≡ line
+pub line_of_one : {line : List ℕ} → IsLine line → line_in line 0 ≡ line
 line_of_one l = ap (λ (ls : List (List ℕ)). slice_index_or ls 0 [] ++ 0x0A ∷ []) (lone l) ∙ l.is
 
 -- the lines of rounds, each at its place

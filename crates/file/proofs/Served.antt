@@ -22,7 +22,7 @@ use Rattle.file.proofs.FormerLaws.{writes-as-it-did}
 use Rattle.file.proofs.Default.{never-spent}
 use Rattle.file.proofs.LeftOut.{list-changes-nothing}
 
--- THEOREM: what is put for a file that was read is a text of the frames that it holds
+-- THEOREM: what is put for a file that was read is a text of the frames that it holds, once what they drop has left them
 pub replies-tell : (file : File) {P : List ℕ → Type 0} → AnswersAll file P → Tells (RepliesTo frames_width) file P
 replies-tell file {P} t = record { by = λ fs taken e. of fs (subst (λ (f : File). AnswersAll f P) e t) }
   where

@@ -1,8 +1,7 @@
 -- What stands on the lines that an input writes: each line at its place, and its bytes read back.
-use Rattle.std.specs.Prelude.{ℕ, zero, suc, ◌+◌, ◌*◌, ◌/◌, ◌%◌, ◌^◌, ◌<◌, ◌≤◌, ◌≡◌, ◌⊎◌, refl, Bool, true, false, nat_lt}
+use Rattle.std.specs.Prelude.{ℕ, zero, suc, ◌+◌, ◌-◌, ◌*◌, ◌^◌, ◌<◌, ◌≤◌, ◌≡◌, ◌⊎◌, refl, Bool, true, false, nat_lt}
 use Rattle.std.specs.Prelude.{List, [], ◌∷◌, ◌++◌, if◌then◌else◌, length, min, slice_index}
 use Rattle.std.specs.Int.{bytes_high_first}
-use Rattle.std.specs.List.{flat_map}
 use Rattle.std.proofs.Common.{sym, ap, ◌∙◌, subst, append-nil, length-append, arith}
 use Rattle.std.proofs.lemmas.Bool.Decides.{nat_tests}
 use Rattle.kinds.specs.declared.Answer.{Answer}
@@ -18,74 +17,37 @@ use Rattle.meaning.specs.Lent.{Call, Sound}
 use Rattle.meaning.proofs.OutcomeExists.{sound-well-formed}
 use Rattle.meaning.proofs.LiteMarks.{lite-make, lite-few}
 use Rattle.kinds.specs.declared.Ask.TheVariants.{Pair, From}
-use Rattle.frames.specs.Digits.{digit_of, byte_of}
+use Rattle.frames.specs.Digits.{byte_of}
 use Rattle.frames.specs.declared.Frame.{Frame}
 use Rattle.reading.specs.declared.Refusal.{Refusal}
 use Rattle.reading.specs.Refusal.{refusal_number}
 use Rattle.streams.specs.Lines.{lines}
 use Rattle.expression.specs.Listed.{Listed}
 use Rattle.reading.specs.Tables.{asks, entries, table, declared_by, rounds_allowed}
-use Rattle.reading.specs.File.{file_of, asked}
-use Rattle.reading.proofs.Questions.{question-once}
-use Rattle.reading.proofs.Accepted.{whole-accepted}
+use Rattle.reading.specs.File.{asked}
 use Rattle.reading.proofs.Listed.{refusals-listed}
-use Rattle.frames.specs.Text.{character, characters, text}
+use Rattle.frames.specs.Text.{text}
 use Rattle.shell.specs.Faults.{line_width, fault_line}
 use Rattle.shell.specs.Writes.{IsSound, IsFaulty}
 use Rattle.shell.proofs.WritesLaws.{faults-near, fault-written, said-written}
-use Rattle.file.specs.Text.{count_width, round_line, answer_line, IsInBytes}
+use Rattle.file.specs.Text.{count_width, dropped_line, dropped_text, round_line, answer_line, IsInBytes}
 use Rattle.file.specs.Rounds.{round_lines}
 use Rattle.intake.specs.Verdicts.{collection_read}
-use Rattle.file.specs.Writes.{Answers, Answered, IsAsking, frames_width, FileRounds, RepliesTo, Writes}
+use Rattle.file.specs.Writes.{Answers, Answered, IsAsking, frames_width, FileRounds, Reports, Writes}
 use Rattle.frames.specs.Frames.{number_in}
-use Rattle.file.specs.Told.{line_in, rounds_in, line_at, round_length, answers_length, number_on, refusal_on, count_on}
-use Rattle.file.specs.Told.{Names, TellsOutcome, IsRoundLine, IsFaultLine}
+use Rattle.file.specs.Told.{line_in, dropped_in, rounds_in, round_at, line_at, dropped_length, round_length, answers_length, number_on, refusal_on, count_on}
+use Rattle.file.specs.Told.{Names, TellsOutcome, IsDroppedLine, IsRoundLine, IsFaultLine}
 use Rattle.file.specs.Laws.{AnswersEachAsk, TellsRounds}
 use Rattle.tables.specs.Asks.{read_ask}
 use Rattle.file.proofs.Asks.{small}
-use Rattle.file.proofs.Sound.{sound-read}
+use Rattle.file.proofs.Decided.{asking-once, asking-sound, read-taken, dropped-small, entries-over}
+use Rattle.file.proofs.Bytes.{byte-at}
+use Rattle.file.proofs.Dropped.{dropped_lined, dropped-is, dropped-length, dropped-long, dropped-both, dropped-all, dropped-rounds, dropped-answers}
 use Rattle.file.proofs.Widths.{IsWidth, two, four, is-width, narrow, rounds-fit, high-long, bytes-at, number-back, round-length, answer-length}
 use Rattle.file.proofs.Turns.{answered-length}
 use Rattle.file.proofs.Lined.{AreLines, both_lines, line_before, line_after, rounds_lined, round-is, answers_lined, answer-at}
 use Rattle.file.proofs.Rounds.{rounds-length, told-once, none-told, rounds-told, few-told}
 use Rattle.file.proofs.Listed.{sound-listed, count-fits}
-
--- a digit is read back from its character
-digit-back : (d : ℕ) → d < 16 → digit_of (character d) ≡ d
-unfolding digit_of
-digit-back d h = by (nat_lt d 10) refl
-  where
-    by : (b : Bool) → nat_lt d 10 ≡ b → digit_of (if b then 48 + d else 55 + d) ≡ d
-    by true e = grind (arith, nat_tests)
-    by false e = grind (arith, nat_tests)
-
--- and a byte from its two
-byte-back : (x : ℕ) → x < 256 → 16 * digit_of (character (x / 16)) + digit_of (character (x % 16)) ≡ x
-byte-back x h = omega (arith, digit-back (x / 16) (omega arith), digit-back (x % 16) (omega arith))
-
--- the two characters of byte k of a line of bytes,
-characters-at : (bytes end : List ℕ) (k : ℕ) → k < length bytes
-    → (slice_index (flat_map characters bytes ++ end) (2 * k) ≡ character (slice_index bytes k / 16))
-    × (slice_index (flat_map characters bytes ++ end) (2 * k + 1) ≡ character (slice_index bytes k % 16))
-characters-at [] end k h = absurd (omega arith)
-characters-at (b ∷ bytes) end zero h = (refl, refl)
-characters-at (b ∷ bytes) end (suc k) h =
-    let high : 2 * suc k ≡ suc (suc (2 * k)) = omega arith in
-    let low : 2 * suc k + 1 ≡ suc (suc (2 * k + 1)) = omega arith in
-    rw (low, high) (characters-at bytes end k (omega arith))
-
-characters-long : (bytes end : List ℕ) → length (flat_map characters bytes ++ end) ≡ 2 * length bytes + length end
-characters-long [] end = omega arith
-characters-long (b ∷ bytes) end = omega (arith, characters-long bytes end)
-
--- so that it is read back
-byte-at : (bytes : List ℕ) (k : ℕ) → k < length bytes → slice_index bytes k < 256 → byte_of (text bytes) k ≡ slice_index bytes k
-unfolding text byte_of
-byte-at bytes k h b =
-    let inside : k < length (flat_map characters bytes ++ 0x0A ∷ []) / 2 = omega (arith, characters-long bytes (0x0A ∷ [])) in
-    let two = characters-at bytes (0x0A ∷ []) k h in
-    let e : nat_lt k (length (flat_map characters bytes ++ 0x0A ∷ []) / 2) ≡ true = grind (arith, nat_tests) in
-    rw (e, two.0, two.1) (byte-back (slice_index bytes k) b)
 
 -- and a number among them
 high-below : (width n i : ℕ) → slice_index (bytes_high_first width n) i < 256
@@ -189,27 +151,59 @@ module _ {c : Counts} {width : ℕ} (w : IsWidth c width) (round marks : ℕ) wh
         marks = rw (e, append-nil (bytes_high_first width marks)) at n;
       }
 
--- the lines for the rounds and the asks of frames that ask a question
-pub record IsAnswered (fs : List Frame) (q : Listed) (x : List ℕ) : Type 0 where
+-- and of a line of a fact that is dropped
+dropped-line-is : (n : ℕ) → n < 2 ^ 16 → IsDroppedLine n (dropped_line n)
+unfolding dropped_line
+dropped-line-is n h =
+    let place = number-at (0x92 ∷ []) [] narrow n h in
+    record {
+      long = dropped-length n;
+      kind = byte-at (0x92 ∷ bytes_high_first 2 n) 0 (omega arith) (omega arith);
+      place = place;
+    }
+
+-- the lines for the dropped facts, the rounds and the asks of frames that ask a question
+pub record IsAnswered (dropped : List ℕ) (fs : List Frame) (q : Listed) (x : List ℕ) : Type 0 where
   pub counts : List ℕ
   pub told : FileRounds fs q counts
   pub out : List ℕ
   pub lines-are : Answered (frames_width fs) (asked fs q) (entries asks fs) out
-  pub whole : x ≡ round_lines (frames_width fs) 0 counts ++ out
+  pub whole : x ≡ dropped_text dropped ++ (round_lines (frames_width fs) 0 counts ++ out)
 
 module _ {input text : List ℕ} (w : Writes input text) where
-  pub replies : (fs : List Frame) → IsSound input fs → RepliesTo frames_width fs text
-  replies fs s = (said-written (RepliesTo frames_width) input fs s text).0 w
+  pub reports : (fs : List Frame) → IsSound input fs → Reports frames_width fs text
+  reports fs s = (said-written (Reports frames_width) input fs s text).0 w
 
-  pub asking : (fs : List Frame) (s : IsSound input fs) → IsAsking input fs (replies fs s).question
-  asking fs s = record { sound = s; question = (replies fs s).is }
+  -- the frames that are answered, and their question
+  abbrev pub over : (fs : List Frame) → IsSound input fs → List Frame
+  over fs s = (reports fs s).over
+
+  abbrev pub question : (fs : List Frame) → IsSound input fs → Listed
+  question fs s = (reports fs s).replies.question
+
+  abbrev pub asking : (fs : List Frame) (s : IsSound input fs) → IsAsking input (over fs s) (question fs s)
+  asking fs s =
+      let r = reports fs s in
+      record { read = fs; sound = s; dropped = r.dropped; decided = r.decided; question = r.replies.is }
 
   module _ (fs : List Frame) (q : Listed) (s : IsAsking input fs q) where
-    answered : IsAnswered fs q text
+    pub answered : IsAnswered s.dropped fs q text
     answered =
-        let r = replies fs s.sound in
-        subst (λ (p : Listed). IsAnswered fs p text) (question-once (file_of fs) r.question q r.is s.question)
-        (record { counts = r.counts; told = r.told; out = r.out; lines-are = r.answered; whole = r.whole })
+        let r = reports s.read s.sound in
+        let same = asking-once (asking s.read s.sound) s in
+        let its : IsAnswered r.dropped r.over r.replies.question text = record {
+          counts = r.replies.counts;
+          told = r.replies.told;
+          out = r.replies.out;
+          lines-are = r.replies.answered;
+          whole = r.whole ∙ ap (λ (l : List ℕ). dropped_text r.dropped ++ l) r.replies.whole;
+        } in
+        subst (λ (p : Listed). IsAnswered s.dropped fs p text) same.question
+        (subst (λ (gs : List Frame). IsAnswered s.dropped gs r.replies.question text) same.over
+        (subst (λ (d : List ℕ). IsAnswered d r.over r.replies.question text) same.dropped its))
+
+    abbrev behind : List ℕ
+    behind = round_lines (frames_width fs) 0 answered.counts ++ answered.out
 
     answers-lined : AreLines answered.out (entries asks fs)
     answers-lined = answers_lined (frames_width fs) (asked fs q) (entries asks fs) answered.out answered.lines-are
@@ -217,36 +211,63 @@ module _ {input text : List ℕ} (w : Writes input text) where
     wide : IsWidth (declared_by fs) (frames_width fs)
     wide = is-width (declared_by fs)
 
-    lined : AreLines text (length answered.counts + entries asks fs)
-    lined = subst (λ (l : List ℕ). AreLines l (length answered.counts + entries asks fs)) (sym answered.whole)
-        (both_lines (rounds_lined (frames_width fs) 0 answered.counts) answers-lined)
+    rounds-lined : AreLines (round_lines (frames_width fs) 0 answered.counts) (length answered.counts)
+    rounds-lined = rounds_lined (frames_width fs) 0 answered.counts
+
+    front-lined : AreLines (dropped_text s.dropped) (length s.dropped)
+    front-lined = dropped_lined s.dropped
+
+    lined : AreLines text (length s.dropped + (length answered.counts + entries asks fs))
+    lined = subst (λ (l : List ℕ). AreLines l (length s.dropped + (length answered.counts + entries asks fs))) (sym answered.whole)
+        (both_lines front-lined (both_lines rounds-lined answers-lined))
+
+    -- THEOREM: the first lines, and no others, tell of the facts that are dropped
+    pub dropped-many : dropped_in text ≡ length s.dropped
+    dropped-many =
+        let a = dropped-both front-lined behind in
+        let b = dropped-both rounds-lined answered.out in
+        let r = dropped-rounds (frames_width fs) 0 answered.counts in
+        let o = dropped-answers (frames_width fs) (asked fs q) (entries asks fs) answered.out answered.lines-are in
+        ap dropped_in answered.whole ∙ omega (arith, a, b, r, o, dropped-all s.dropped)
+
+    pub dropped-told : (k : ℕ) → k < length s.dropped → IsDroppedLine (slice_index s.dropped k) (line_in text k)
+    dropped-told k h =
+        let here : line_in text k ≡ dropped_line (slice_index s.dropped k) =
+        ap (λ (l : List ℕ). line_in l k) answered.whole ∙ line_before front-lined behind k h ∙ dropped-is s.dropped k h in
+        subst (IsDroppedLine (slice_index s.dropped k)) (sym here)
+        (dropped-line-is (slice_index s.dropped k) (dropped-small s k h))
 
     the-rounds : rounds_in (entries asks fs) text ≡ length answered.counts
-    the-rounds = omega (arith, lined.many)
+    the-rounds = omega (arith, lined.many, dropped-many)
 
     -- line k of a sound input's answers is the library's outcome for ask k
     pub line-answers : (k : ℕ) → k < entries asks fs → Answers (frames_width fs) (asked fs q k) (line_at (entries asks fs) text k)
     line-answers k h =
+        let n : length (lines text) - entries asks fs + k ≡ length s.dropped + (length answered.counts + k) = omega (arith, lined.many) in
         let here : line_at (entries asks fs) text k ≡ line_in answered.out k =
-        ap (λ (n : ℕ). line_in text (n + k)) the-rounds ∙ ap (λ (l : List ℕ). line_in l (length answered.counts + k)) answered.whole
-        ∙ line_after (rounds_lined (frames_width fs) 0 answered.counts) answered.out k in
+        ap (λ (i : ℕ). line_in text i) n
+        ∙ ap (λ (l : List ℕ). line_in l (length s.dropped + (length answered.counts + k))) answered.whole
+        ∙ line_after front-lined behind (length answered.counts + k) ∙ line_after rounds-lined answered.out k in
         subst (Answers (frames_width fs) (asked fs q k)) (sym here) (answer-at (frames_width fs) (asked fs q) (entries asks fs) answered.out answered.lines-are k h)
 
     pub text-long : (counts : List ℕ) → FileRounds fs q counts
-        → length text ≡ round_length (frames_width fs) * length counts
+        → length text ≡ dropped_length * length s.dropped + round_length (frames_width fs) * length counts
         + answers_length (frames_width fs) (read_ask (table asks fs)) (entries asks fs)
     text-long counts t =
         omega (
           arith,
           ap (λ (l : List ℕ). length l) answered.whole,
+          length-append (dropped_text s.dropped) behind,
+          dropped-long s.dropped,
           length-append (round_lines (frames_width fs) 0 answered.counts) answered.out,
           rounds-length (frames_width fs) wide 0 answered.counts,
           ap (λ (l : List ℕ). round_length (frames_width fs) * length l) (told-once t answered.told),
           answered-length wide (asked fs q) (entries asks fs) answered.out answered.lines-are,
         )
 
-    -- as many lines as rounds are told and asks are answered
-    pub text-lines : (counts : List ℕ) → FileRounds fs q counts → length (lines text) ≡ length counts + entries asks fs
+    -- as many lines as facts are dropped, rounds are told and asks are answered
+    pub text-lines : (counts : List ℕ) → FileRounds fs q counts
+        → length (lines text) ≡ length s.dropped + length counts + entries asks fs
     text-lines counts t = omega (arith, lined.many, ap (λ (l : List ℕ). length l) (told-once t answered.told))
 
     -- THEOREM: no line of a round stands where nothing is asked, and in a contradiction
@@ -258,19 +279,20 @@ module _ {input text : List ℕ} (w : Writes input text) where
     module _ (some : 0 < entries asks fs) (sane : Contradiction (collection_read fs q) → ⊥) (n : ℕ)
         (need : Needed (lite (collection_read fs q)) n) where
       well : WellFormed (collection_read fs q)
-      well = sound-well-formed (asked fs q 0) (whole-accepted input fs (sound-read s.sound) q s.question 0 some)
+      well = sound-well-formed (asked fs q 0) (asking-sound s 0 some)
 
       added : RoundCounts (lite (collection_read fs q)) (min n (rounds_allowed fs)) answered.counts
       added = rounds-told answered.told some sane n need
 
       round-told : (k : ℕ) → k < min n (rounds_allowed fs)
-          → IsRoundLine (frames_width fs) (k + 1) (slice_index answered.counts k) (line_in text k)
+          → IsRoundLine (frames_width fs) (k + 1) (slice_index answered.counts k) (round_at text k)
       round-told k h =
           let i : k < length answered.counts = omega (arith, added.long, h) in
           let few = rounds-fit (declared_by fs) well.counts _ (lite-few (collection_read fs q) well k _ (added.each k h)) in
           let late = rounds-fit (declared_by fs) well.counts (k + 1) (omega (arith, i, few-told answered.told (λ _. well))) in
-          let here : line_in text k ≡ round_line (frames_width fs) (0 + k + 1) (slice_index answered.counts k) =
-          ap (λ (l : List ℕ). line_in l k) answered.whole ∙ line_before (rounds_lined (frames_width fs) 0 answered.counts) answered.out k i
+          let here : round_at text k ≡ round_line (frames_width fs) (0 + k + 1) (slice_index answered.counts k) =
+          ap (λ (n : ℕ). line_in text (n + k)) dropped-many ∙ ap (λ (l : List ℕ). line_in l (length s.dropped + k)) answered.whole
+          ∙ line_after front-lined behind k ∙ line_before rounds-lined answered.out k i
           ∙ round-is (frames_width fs) 0 answered.counts k i in
           let e : 0 + k + 1 ≡ k + 1 = omega arith in
           subst (IsRoundLine (frames_width fs) (k + 1) (slice_index answered.counts k))
@@ -289,7 +311,7 @@ module _ {input text : List ℕ} (w : Writes input text) where
   -- THEOREM: a faulty input writes the line of its first faulty line's number, and the number that refuses that line
   pub fault-told : (before : List Frame) (r : Refusal) → IsFaulty input before r → IsFaultLine (length before + 1) r text
   fault-told before r s =
-      subst (IsFaultLine (length before + 1) r) (sym ((fault-written (RepliesTo frames_width) input before r s text).0 w))
+      subst (IsFaultLine (length before + 1) r) (sym ((fault-written (Reports frames_width) input before r s text).0 w))
       (fault-is (length before + 1) r (omega (arith, faults-near input before r s)))
 
 -- what stands on a line of an answer to a call
@@ -318,17 +340,27 @@ module _ {call : Call} {line : List ℕ} (w : Answers (count_width call.counts) 
       }
 
 module _ {input text : List ℕ} (w : Writes input text) (fs : List Frame) (s : IsSound input fs) where
+  abbrev its : IsAsking input (over w fs s) (question w fs s)
+  its = asking w fs s
+
+  -- the frames that are answered ask as many
+  pub same-asks : entries asks (over w fs s) ≡ entries asks fs
+  same-asks = entries-over its.decided (read-taken its)
+
   -- THEOREM: a sound input writes a line for each ask, which tells its outcome, with an answer from 0 to 3
   pub asks-answered : AnswersEachAsk fs text
-  asks-answered =
-      let q = (replies w fs s).question in
-      let a = asking w fs s in
-      record {
-        question = q;
-        is = a.question;
-        enough = omega (arith, (lined w fs q a).many);
-        each = λ k h. tells-outcome (line-answers w fs q a k h) (whole-accepted input fs (sound-read s) q a.question k h);
-      }
+  asks-answered = record {
+    question = question w fs s;
+    dropped = its.dropped;
+    over = over w fs s;
+    decided = its.decided;
+    is = its.question;
+    enough = omega (arith, (lined w (over w fs s) (question w fs s) its).many, same-asks);
+    each = λ k h.
+        let i : k < entries asks (over w fs s) = omega (arith, same-asks) in
+        let t = tells-outcome (line-answers w (over w fs s) (question w fs s) its k i) (asking-sound its k i) in
+        subst (λ (n : ℕ). TellsOutcome (asked (over w fs s) (question w fs s) k) (line_at n text k)) same-asks t;
+  }
 
   pub listed : (k : ℕ) → k < entries asks fs → number_on (line_at (entries asks fs) text k) ≤ 3
   listed k h = (asks-answered.each k h).listed

@@ -10,7 +10,7 @@ use Rattle.reading.specs.Tables.{asks, entries, Entry, list_in, rounds_allowed}
 use Rattle.reading.specs.File.{asked}
 use Rattle.intake.specs.Verdicts.{collection_read}
 use Rattle.file.specs.Writes.{IsAsking, frames_width, Writes}
-use Rattle.file.specs.Told.{line_in, rounds_in, line_at, IsRoundLine}
+use Rattle.file.specs.Told.{rounds_in, round_at, line_at, IsRoundLine}
 use Rattle.file.specs.Demands.{IsAsModelSays}
 
 -- with enough rounds each line is yes exactly where a walk by fact edges and by the marks of the list
@@ -36,7 +36,7 @@ rounds_listed fs q = last_round (numbered_lite (collection_read fs q)) (list_in 
 pub record TellsByList (fs : List Frame) (q : Listed) (text : List ℕ) : Type 0 where
   pub many : rounds_in (entries asks fs) text ≡ min (rounds_listed fs q) (rounds_allowed fs)
   pub each : (k : ℕ) → k < min (rounds_listed fs q) (rounds_allowed fs)
-      → IsRoundLine (frames_width fs) (k + 1) (entries_in (list_in fs) (k + 1)) (line_in text k)
+      → IsRoundLine (frames_width fs) (k + 1) (entries_in (list_in fs) (k + 1)) (round_at text k)
 
 abbrev pub RoundsToldByList : Type 0
 RoundsToldByList = (input text : List ℕ) → Writes input text

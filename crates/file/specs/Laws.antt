@@ -1,4 +1,4 @@
--- Laws of what an input writes.
+-- Laws of what an input writes (docs/RULES.md, section 8).
 use Rattle.std.specs.Prelude.{ℕ, ◌+◌, ◌<◌, ◌≤◌, ◌≡◌, ◌↔◌, ◌⊎◌, List, Some, length, take, min, sum, slice_index}
 use Rattle.std.specs.Io.KnownBytes.{Appends}
 use Rattle.meaning.specs.Collection.{Collection}
@@ -12,14 +12,15 @@ use Rattle.frames.specs.declared.Frame.{Frame}
 use Rattle.reading.specs.declared.Refusal.{Refusal}
 use Rattle.reading.specs.Tables.{asks, entries, rounds_allowed}
 use Rattle.reading.specs.File.{IsQuestionOf, asked}
+use Rattle.reading.specs.Salvage.{Decides}
 use Rattle.shell.specs.Laws as any
 use Rattle.shell.specs.Writes.{IsSound, IsFaulty}
 use Rattle.file.specs.declared.TheConstants.{MOST_TEXT}
 use Rattle.intake.specs.Verdicts.{collection_read}
-use Rattle.file.specs.Writes.{IsAsking, frames_width, SameButDeeds, RepliesTo, Writes}
+use Rattle.file.specs.Writes.{IsAsking, frames_width, SameButDeeds, Reports, Writes}
 use Rattle.file.specs.Serves.{Serves}
 use Rattle.streams.specs.Lines.{lines}
-use Rattle.file.specs.Told.{line_in, rounds_in, line_at, TellsOutcome, IsRoundLine, IsFaultLine}
+use Rattle.file.specs.Told.{rounds_in, round_at, line_at, TellsOutcome, IsRoundLine, IsFaultLine}
 
 -- an input writes one text
 abbrev pub WritesOnce : Type 0
@@ -29,9 +30,9 @@ WritesOnce = (input text out : List ℕ) → Writes input text → Writes input 
 abbrev pub TextFits : Type 0
 TextFits = (input text : List ℕ) → Writes input text → length text ≤ MOST_TEXT
 
--- the first 3,238,889 bytes of an input, or more of them, write what the whole writes
+-- the first 3,239,020 bytes of an input, or more of them, write what the whole writes
 abbrev pub StartWrites : Type 0
-StartWrites = (input : List ℕ) (n : ℕ) → 3238889 ≤ n → (text : List ℕ)
+StartWrites = (input : List ℕ) (n : ℕ) → 3239020 ≤ n → (text : List ℕ)
     → Writes (take n input) text ↔ Writes input text
 
 -- two inputs that differ only in deed numbers write the same
@@ -39,13 +40,17 @@ abbrev pub WritesWithoutDeeds : Type 0
 WritesWithoutDeeds = (input other : List ℕ) → SameButDeeds input other
     → (text : List ℕ) → Writes input text ↔ Writes other text
 
--- a text has a line for each ask at its end, and line k of those tells the outcome of ask k
+-- of frames that are read a text has a line for each ask at its end, and line k of those tells the
+-- outcome of ask k over the frames that are answered
 pub record AnswersEachAsk (fs : List Frame) (text : List ℕ) : Type 0 where
   pub question : Listed
-  pub is : IsQuestionOf fs question
+  pub dropped : List ℕ
+  pub over : List Frame
+  pub decided : Decides fs question dropped over
+  pub is : IsQuestionOf over question
   pub enough : entries asks fs ≤ length (lines text)
   pub each : (k : ℕ) → k < entries asks fs
-      → TellsOutcome (asked fs question k) (line_at (entries asks fs) text k)
+      → TellsOutcome (asked over question k) (line_at (entries asks fs) text k)
 
 -- an input that is read whole writes such a text
 abbrev pub AsksAnswered : Type 0
@@ -60,7 +65,7 @@ pub record TellsRounds
   pub counts : List ℕ
   pub added : RoundCounts (lite 𝓒) n counts
   pub each : (k : ℕ) → k < n
-      → IsRoundLine (frames_width fs) (k + 1) (slice_index counts k) (line_in text k)
+      → IsRoundLine (frames_width fs) (k + 1) (slice_index counts k) (round_at text k)
   pub stand : (m : ℕ) → Stands (lite 𝓒) n m → m ≡ sum counts + first_marks 𝓒.counts
 
 -- an input that is read whole, asks something and is no contradiction tells so of rounds 1 to the
@@ -88,7 +93,7 @@ FaultTold = (input text : List ℕ) → Writes input text
 
 -- a text holds n characters of what is written, and then what it held
 abbrev pub IsWritten : List ℕ → List ℕ → ℕ → List ℕ → Type 0
-IsWritten = any.IsWritten (RepliesTo frames_width)
+IsWritten = any.IsWritten (Reports frames_width)
 
 -- two outcomes of answering in memory are equal: how much is told, and every byte of the text
 abbrev pub WrittenOnce : Type 0

@@ -4,9 +4,11 @@ pub mod Writes
 pub mod Serves
 pub mod Former
 pub mod Replying
+pub mod Settling
 pub mod Told
 pub mod Demands
 pub mod Laws
 pub mod Default
 pub mod LeftOut
 pub mod ByList
+pub mod Salvage

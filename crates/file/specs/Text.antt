@@ -1,5 +1,5 @@
--- The lines that are written (docs/RULES.md, section 8).
-use Rattle.std.specs.Prelude.{ℕ, ◌^◌, ◌<◌, List, ◌∷◌, ◌++◌, nat_le, if◌then◌else◌}
+-- The lines that are written (docs/RULES.md, sections 8 and 13).
+use Rattle.std.specs.Prelude.{ℕ, ◌^◌, ◌<◌, List, [], ◌∷◌, ◌++◌, nat_le, if◌then◌else◌}
 use Rattle.std.specs.Int.{bytes_high_first}
 use Rattle.frames.specs.Text.{text}
 use Rattle.kinds.specs.declared.Counts.{Counts}
@@ -34,6 +34,15 @@ answer_line width (Pair a b) r =
     text (0x8B ∷ a.0 ∷ b.0 ∷ answer_number r ∷ bytes_high_first width (answer_count r))
 answer_line width (From a) r =
     text (0x8E ∷ a.0 ∷ answer_number r ∷ bytes_high_first width (answer_count r))
+
+-- 92, the number of the line of a fact that is dropped, in two bytes
+unfoldable pub dropped_line : ℕ → List ℕ
+dropped_line line = text (0x92 ∷ bytes_high_first 2 line)
+
+-- the lines for facts that are dropped, by the numbers of their lines
+unfoldable pub dropped_text : List ℕ → List ℕ
+dropped_text [] = []
+dropped_text (line ∷ dropped) = dropped_line line ++ dropped_text dropped
 
 -- an ask's individuals go into a byte each
 abbrev pub IsInBytes : Ask → Type 0

@@ -1,6 +1,6 @@
--- What stands in a text that is written (docs/RULES.md, section 8), read back line by line and byte
--- by byte.
-use Rattle.std.specs.Prelude.{ℕ, zero, suc, ◌+◌, ◌-◌, ◌*◌, ◌<◌, ◌≤◌, ◌≡◌, ◌≢◌, List, [], ◌∷◌, ◌++◌, nat_eq, if◌then◌else◌, length, slice_index_or}
+-- What stands in a text that is written (docs/RULES.md, sections 8 and 13), read back line by line
+-- and byte by byte.
+use Rattle.std.specs.Prelude.{ℕ, zero, suc, ◌+◌, ◌-◌, ◌*◌, ◌<◌, ◌≤◌, ◌≡◌, ◌≢◌, Bool, List, [], ◌∷◌, ◌++◌, nat_eq, if◌then◌else◌, length, slice_index_or, count_by}
 use Rattle.kinds.specs.declared.Answer.{Answer}
 use Rattle.kinds.specs.Answer.{answer_number, answer_count}
 use Rattle.kinds.specs.declared.Ask.{Ask}
@@ -20,16 +20,29 @@ use Rattle.file.specs.Text.{count_width}
 abbrev pub line_in : List ℕ → ℕ → List ℕ
 line_in text k = slice_index_or (lines text) k [] ++ 0x0A ∷ []
 
--- so many answers are the last lines of a text, and those of rounds stand before them
+-- the lines of facts that are dropped, of which each begins with 92, are the first of a text
+abbrev pub tells_dropped : List ℕ → Bool
+tells_dropped line = nat_eq (byte_of line 0) 0x92
+
+unfoldable pub dropped_in : List ℕ → ℕ
+dropped_in text = count_by tells_dropped (lines text)
+
+-- so many answers are its last lines, and those of rounds stand between
 abbrev pub rounds_in : ℕ → List ℕ → ℕ
-rounds_in asks text = length (lines text) - asks
+rounds_in asks text = length (lines text) - dropped_in text - asks
 
--- line k of so many answers, counted from 0
+-- line k of the rounds, and of so many answers, each counted from 0
+abbrev pub round_at : List ℕ → ℕ → List ℕ
+round_at text k = line_in text (dropped_in text + k)
+
 abbrev pub line_at : ℕ → List ℕ → ℕ → List ℕ
-line_at asks text k = line_in text (rounds_in asks text + k)
+line_at asks text k = line_in text (length (lines text) - asks + k)
 
--- the characters of a line of a round, its end among them, where a count has so many bytes; of a
--- fault, by the number of the faulty line; of an answer; and of the first n answers
+-- the characters of a line of a dropped fact, its end among them; of a round, where a count has so
+-- many bytes; of a fault, by its line's number; of an answer; and of the first n answers
+abbrev pub dropped_length : ℕ
+dropped_length = 2 * 3 + 1
+
 abbrev pub round_length : ℕ → ℕ
 round_length width = 2 * (1 + 2 * width) + 1
 
@@ -82,6 +95,12 @@ pub record TellsOutcome (call : Call) (line : List ℕ) : Type 0 where
   pub outcome : (area spare : List ℕ) × Outcome call answer area spare
   pub told : IsAnswerLine (count_width call.counts) call.ask answer line
   pub listed : number_on line ≤ 3
+
+-- a line of a fact that is dropped: 92, and the number of the fact's line in two bytes
+pub record IsDroppedLine (number : ℕ) (line : List ℕ) : Type 0 where
+  pub long : length line ≡ dropped_length
+  pub kind : byte_of line 0 ≡ 0x92
+  pub place : number_in 2 (byte_of line) 1 ≡ number
 
 -- a line of a round: 8A, its number, and how many marks it added, each as wide as a count
 pub record IsRoundLine (width number count : ℕ) (line : List ℕ) : Type 0 where

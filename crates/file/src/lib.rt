@@ -1,5 +1,5 @@
-// What a whole input writes, from a source to a sink or in memory: the line of its first fault, or a line for each round
-// and an answer for each ask.
+// What a whole input writes, from a source to a sink or in memory: the line of its first fault, or a line for each fact that
+// is dropped, one for each round, and an answer for each ask.
 #![tactic(auto)]
 
 ghost use Rattle.std.specs.Prelude.{◌≡◌, ◌+◌, ◌*◌, ◌<◌, ◌≤◌, ℕ, List, Some, None, Err, IfSome, IsOk, IsTrue, OnOk, length, drop, take};
@@ -12,7 +12,7 @@ ghost use Rattle.file.specs.Serves.{Serves, AppendsUnspent, FormerServes};
 ghost use Rattle.file.specs.Former.{FormerWrites, WasSound};
 ghost use Rattle.file.specs.LeftOut.{LeavesOutList};
 ghost use Rattle.streams.specs.Lines.{lines};
-ghost use Rattle.file.specs.Told.{round_length, answers_length, line_at, number_on, refusal_on, IsUnspent};
+ghost use Rattle.file.specs.Told.{dropped_length, round_length, answers_length, line_at, number_on, refusal_on, IsUnspent};
 ghost use Rattle.tables.specs.Asks.{read_ask};
 ghost use Rattle.expression.specs.Listed.{Listed};
 ghost use Rattle.frames.specs.declared.Frame.{Frame};
@@ -26,6 +26,7 @@ use replies::Replies;
 pub use shell::ServeError;
 use streams::memory::{Bytes, Nowhere};
 use streams::{Sink, Source};
+use tables::collection::{CONCEPT_FACTS, ROLE_FACTS};
 
 mod replies;
 #[cfg(test)]
@@ -38,8 +39,13 @@ const MOST_ROUNDS: usize = (ConceptName::MOST as usize + SignedRole::NUMBERS)
     * State::NUMBERS
     * (State::NUMBERS - 1);
 
-// The characters of the longest text, were there one of the most rounds and the most answers.
-pub const MOST_TEXT: usize = MOST_ROUNDS * text::ROUND_LINE + ASKS * text::ANSWER_LINE;
+// The most facts of a file.
+const MOST_FACTS: usize = CONCEPT_FACTS + ROLE_FACTS;
+
+// The characters of the longest text, were there one of the most dropped facts, the most rounds and the most answers.
+pub const MOST_TEXT: usize = MOST_FACTS * text::DROPPED_LINE
+    + MOST_ROUNDS * text::ROUND_LINE
+    + ASKS * text::ANSWER_LINE;
 
 // What an input in memory writes, from the front of the text on; how much of it, is told. The rest of the text stays.
 pub fn answer(input: &[u8], text: &mut [u8; MOST_TEXT]) -> usize
@@ -50,14 +56,15 @@ pub fn answer(input: &[u8], text: &mut [u8; MOST_TEXT]) -> usize
     // The input writes no other text. A line has its number: of an answer 0, 1, 2 or 3, but 3 only where the file gives an
     // allowance; of a fault one of 4 to 15, but never 7.
     ensures only { (out : List ℕ) → Writes input.now out → out ≡ take result text.new }
-    ensures long { (fs : List Frame) (q : Listed) → IsAsking input.now fs q
+    ensures long { (fs : List Frame) (q : Listed) → (s : IsAsking input.now fs q)
         → (counts : List ℕ) → FileRounds fs q counts
         → let width = frames_width fs in
-        result ≡ round_length width * length counts
+        result ≡ dropped_length * length s.dropped + round_length width * length counts
         + answers_length width (read_ask (table asks fs)) (entries asks fs) }
-    ensures many { (fs : List Frame) (q : Listed) → IsAsking input.now fs q
+    ensures many { (fs : List Frame) (q : Listed) → (s : IsAsking input.now fs q)
         → (counts : List ℕ) → FileRounds fs q counts
-        → length (lines (take result text.new)) ≡ length counts + entries asks fs }
+        → length (lines (take result text.new))
+        ≡ length s.dropped + length counts + entries asks fs }
     ensures listed { (fs : List Frame) → IsSound input.now fs
         → (k : ℕ) → k < entries asks fs
         → number_on (line_at (entries asks fs) (take result text.new) k) ≤ 3 }

@@ -1,19 +1,23 @@
-// What is written of a file that was read whole: the lines of its rounds, as they are worked, and of its asks, answered
-// from one preparation.
-ghost use Rattle.std.specs.Prelude.{◌≡◌, ◌<◌, OnOk, IfErr, length};
+// What is written of a file that was read whole: the lines of the facts that it drops, of its rounds, as they are worked, and
+// of its asks, answered from one preparation.
+ghost use Rattle.std.specs.Prelude.{◌≡◌, ◌<◌, ◌≤◌, true, OnOk, IfErr, length};
 ghost use Rattle.reading.specs.Reads.{IsRead};
+ghost use Rattle.reading.specs.declared.typed.TheConstants.{MOST_TYPED};
 ghost use Rattle.file.specs.Text.{bytes_of, answer_line, IsInBytes};
 ghost use Rattle.file.specs.Rounds.{told_line};
 ghost use Rattle.file.specs.Replying.{ask_count, held_width, IsLentOf, RoundsAll, AnswersEach, AnswersAll};
-ghost use Rattle.file.specs.Writes.{frames_width, RepliesTo};
+ghost use Rattle.file.specs.Settling.{mark_text, marks_text, IsSifted, Settles, AsksSome, HoldsOver};
+ghost use Rattle.file.specs.Writes.{frames_width, Reports};
 
 use crate::text;
 use crate::text::Width;
 use index::{Checked, Lent, Routes};
 use kinds::{Answer, Ask, Rounds};
+use reading::typed::MOST_TYPED;
 use reading::{ASKS, File};
 use sheet::{RoundListener, RoundMarks};
 use shell::Report;
+use sift::salvage;
 use std::io;
 use streams::Taker;
 
@@ -116,13 +120,91 @@ fn put_replies<T: Taker>(file: &File, to: &mut T) -> io::Result<()>
     Ok(())
 }
 
+// The line of a fact that is dropped. Of a line that is kept nothing is put.
+fn put_mark<T: Taker>(to: &mut T, line: u16, is_kept: bool) -> io::Result<()>
+    ensures ok { OnOk result (T.takes to.old (mark_text is_kept line) to.new) }
+    ensures err { IfErr result (λ e. T.fails to.old (mark_text is_kept line) e to.new) }
+{
+    if is_kept {
+        Ok(())
+    } else {
+        to.put(text::dropped(line).as_slice())
+    }
+}
+
+// The lines of the facts that are dropped, by the marks of a file's lines.
+fn put_dropped<T: Taker>(kept: &[bool], to: &mut T) -> io::Result<()>
+    requires { length kept.now ≤ MOST_TYPED }
+    ensures ok { OnOk result (T.takes to.old (marks_text 1 kept.now) to.new) }
+    ensures err { IfErr result (λ e. T.fails to.old (marks_text 1 kept.now) e to.new) }
+{
+    for i in 0..kept.len() {
+        put_mark(to, i as u16 + 1, kept[i])?;
+    }
+    Ok(())
+}
+
+// Which lines of a file are kept: all but those of the facts that are dropped.
+fn mark_kept(file: &File, kept: &mut [bool])
+    requires read { IsRead file.now }
+    requires begun { 0 < file.now.lines }
+    requires long { length kept.old ≡ length file.now.typed }
+    ensures long { length kept.new ≡ length file.now.typed }
+    ensures sifted { IsSifted file.now kept.new }
+{
+    match salvage(&file.collection(), file.typed.as_slice(), kept) {
+        Ok(()) => {}
+        // What was read passes the library's tests.
+        Err(_) => unreachable!(),
+    }
+}
+
+// The facts that a file drops: a line for each is put, and they leave the file. It is a call of its own, never put into its
+// caller, so that its marks, and the tables of salvage, are gone before anything is answered.
+#[inline(never)]
+fn drop_facts<T: Taker>(file: &mut File, to: &mut T) -> io::Result<()>
+    requires read { IsRead file.old }
+    requires begun { 0 < file.old.lines }
+    requires chosen { file.old.salvages ≡ true }
+    ensures ok { OnOk result
+        (Settles file.old (HoldsOver file.new (λ out. T.takes to.old out to.new))) }
+    ensures err { IfErr result (λ e.
+        Settles file.old (AsksSome (λ out. T.fails to.old out e to.new))) }
+{
+    let mut row = [true; MOST_TYPED];
+    let lines = file.typed.as_slice().len();
+    let kept = &mut row[..lines];
+    mark_kept(file, kept);
+    put_dropped(kept, to)?;
+    file.keep_marked(kept);
+    Ok(())
+}
+
+// The file as it is answered: where it chooses salvage without the facts that it drops.
+fn settle<T: Taker>(file: &mut File, to: &mut T) -> io::Result<()>
+    requires read { IsRead file.old }
+    requires begun { 0 < file.old.lines }
+    ensures ok { OnOk result
+        (Settles file.old (HoldsOver file.new (λ out. T.takes to.old out to.new))) }
+    ensures read { OnOk result (IsRead file.new) }
+    ensures err { IfErr result (λ e.
+        Settles file.old (AsksSome (λ out. T.fails to.old out e to.new))) }
+{
+    if file.salvages {
+        drop_facts(file, to)
+    } else {
+        Ok(())
+    }
+}
+
 // What the desk writes of a file that was read whole.
 pub(crate) struct Replies;
 
 impl Report for Replies {
-    ghost says = { RepliesTo frames_width };
+    ghost says = { Reports frames_width };
 
     fn put<T: Taker>(&self, file: &mut File, to: &mut T) -> io::Result<()> {
+        settle(file, to)?;
         put_replies(file, to)
     }
 }

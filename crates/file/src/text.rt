@@ -1,18 +1,24 @@
-// The lines of rounds and of answers, in characters: two for each byte, capital letters, and the end of the line.
+// The lines of dropped facts, of rounds and of answers, in characters: two for each byte, capital letters, and the end of
+// the line.
 ghost use Rattle.std.specs.Prelude.{◌≡◌};
-ghost use Rattle.file.specs.Text.{count_width, bytes_of, round_line, answer_line, IsInBytes};
+ghost use Rattle.file.specs.Text.{count_width, bytes_of, dropped_line, round_line, answer_line, IsInBytes};
 
 use frames::text::LineText;
 use kinds::{Answer, Ask, Counts, MarkCount, Rounds};
 
 // The kinds of line.
+const DROPPED: u8 = 0x92;
+
 const ROUND: u8 = 0x8A;
 
 const ANSWER: u8 = 0x8B;
 
 const ANSWER_ONE: u8 = 0x8E;
 
-// The most bytes of a count; of a line of an answer; and of a line of a round, which is the longest.
+// The bytes of a line of a dropped fact; the most of a count; of a line of an answer; and of a line of a round, which is the
+// longest.
+const DROPPED_BYTES: usize = 3;
+
 const MOST_WIDTH: usize = 4;
 
 const ANSWER_BYTES: usize = 4 + MOST_WIDTH;
@@ -20,6 +26,8 @@ const ANSWER_BYTES: usize = 4 + MOST_WIDTH;
 const ROUND_BYTES: usize = 1 + 2 * MOST_WIDTH;
 
 // The most characters of each: two for each of its bytes, and the end.
+pub(crate) const DROPPED_LINE: usize = 2 * DROPPED_BYTES + 1;
+
 pub(crate) const ANSWER_LINE: usize = 2 * ANSWER_BYTES + 1;
 
 pub(crate) const ROUND_LINE: usize = 2 * ROUND_BYTES + 1;
@@ -46,6 +54,15 @@ impl Width {
             Width::Four
         }
     }
+}
+
+// The line of a dropped fact, by the number of its line.
+#[tactic(auto, unfolding(crate::specs::Text::dropped_line))]
+pub(crate) fn dropped(line: u16) -> LineText
+    ensures { result ≡ dropped_line line }
+{
+    let [a, b] = line.to_be_bytes();
+    LineText::of(&[DROPPED, a, b])
 }
 
 // The line of a round.

@@ -6,6 +6,9 @@ ghost use Rattle.file.specs.Demands.{LinesSayAsModel, LinesSayOfExpression, Line
 ghost use Rattle.file.specs.Former.{WritesAsItDid, WroteAsItDoes, FormerWritesOnce, FormerWritesSome};
 ghost use Rattle.file.specs.LeftOut.{ListChangesNothing, ListRefused};
 ghost use Rattle.file.specs.ByList.{LinesSayByList, RoundsToldByList};
+ghost use Rattle.file.specs.Salvage.{AskingOnce, AskingSome, DroppedAreTold, DroppedAreFacts, DroppedToldAlone};
+ghost use Rattle.file.specs.Salvage.{PlainDropsNone, PlainAnswersAll, NeverContradiction, WritesWithoutDropped};
+ghost use Rattle.file.specs.Salvage.{KeptAreSane, DroppedClash, SaneLosesNothing, RepeatsAlike};
 ghost use Rattle.file.specs.Default.{DefaultSuffices, NeverSpent, DefaultSaysAsModel, DefaultTellsAll};
 
 // One text, within its room; a start of the input decides it, and no deed number does.
@@ -62,4 +65,25 @@ pub fn former()
     ensures any_other { WroteAsItDoes }
     ensures once { FormerWritesOnce }
     ensures some { FormerWritesSome }
+{}
+
+// Of the facts that salvage drops and keeps: there is one salvage of a file and no other; and what is written of it.
+pub fn salvage()
+    ensures once { AskingOnce }
+    ensures some { AskingSome }
+    ensures told { DroppedAreTold }
+    ensures facts { DroppedAreFacts }
+    ensures alone { DroppedToldAlone }
+    ensures plain { PlainDropsNone }
+    ensures plain_all { PlainAnswersAll }
+    ensures never_2 { NeverContradiction }
+    ensures without { WritesWithoutDropped }
+{}
+
+// No kept facts clash, and any dropped one clashes with the kept ones.
+pub fn kept()
+    ensures sane { KeptAreSane }
+    ensures back { DroppedClash }
+    ensures whole { SaneLosesNothing }
+    ensures repeats { RepeatsAlike }
 {}

@@ -5,7 +5,7 @@ use Rattle.kinds.specs.Kinds.{concept_name, role_name, individual, state, signed
 use Rattle.frames.specs.Kinds.{kind_of}
 use Rattle.frames.specs.Written.{Field, byte, kind_in, kind_byte, fields, numbers_of, AreNumbered, FitsLine}
 use Rattle.frames.specs.declared.Frame.{Frame}
-use Rattle.frames.specs.declared.Frame.TheVariants.{Declared, ConceptRule, ConceptExclusion, RoleRule, RoleExclusion, ConceptFact, RoleFact, RoleStep, TestStep, Final, Ask, AskFrom, Allowance, Expression, ListedMark}
+use Rattle.frames.specs.declared.Frame.TheVariants.{Declared, ConceptRule, ConceptExclusion, RoleRule, RoleExclusion, ConceptFact, RoleFact, RoleStep, TestStep, Final, Ask, AskFrom, Allowance, Expression, Salvage, ListedMark}
 use Rattle.frames.specs.declared.kind.Kind.{Kind}
 use Rattle.frames.specs.declared.kind.Kind.TheVariants as kind
 use Rattle.frames.proofs.Named.{kind-named}
@@ -33,6 +33,7 @@ module _ (row : List ℕ) where
   numbered kind.AskFrom = AskFrom (individual (n 0))
   numbered kind.Allowance = Allowance (n 0)
   numbered kind.Expression = Expression row
+  numbered kind.Salvage = Salvage
   numbered kind.ListedMark = ListedMark (n 0) (state (n 1)) (state (n 2)) (concept_of (n 3))
 
 row-numbers : (row : List ℕ) → numbers (map byte row) ≡ row

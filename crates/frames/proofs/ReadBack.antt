@@ -8,7 +8,7 @@ use Rattle.frames.specs.Frames.{number_in, two_bytes, marks_of, frame_by, FrameO
 use Rattle.frames.specs.Kinds.{kind_of, HasLength}
 use Rattle.frames.specs.Written.{Field, byte, kind_in, frame_bytes, line_of, FitsLine}
 use Rattle.frames.specs.declared.Frame.{Frame}
-use Rattle.frames.specs.declared.Frame.TheVariants.{Declared, ConceptRule, ConceptExclusion, RoleRule, RoleExclusion, ConceptFact, RoleFact, RoleStep, TestStep, Final, Ask, AskFrom, Allowance, Expression, ListedMark}
+use Rattle.frames.specs.declared.Frame.TheVariants.{Declared, ConceptRule, ConceptExclusion, RoleRule, RoleExclusion, ConceptFact, RoleFact, RoleStep, TestStep, Final, Ask, AskFrom, Allowance, Expression, Salvage, ListedMark}
 use Rattle.frames.specs.declared.kind.Kind.{Kind}
 use Rattle.frames.proofs.FieldBytes.{frame-small, expression-bytes, row-fits, marks-row}
 use Rattle.frames.proofs.Lengths.{number_two, number_four, may_be_short}
@@ -106,6 +106,7 @@ same (ListedMark n s t B) fits =
       round,
       fits.concepts,
     ) refl
+same Salvage fits = refl
 same (Expression row) fits = same_marks row (frame_bytes (Expression row)) (expression-bytes row (row-fits row fits.numbers))
 
 -- the frame of a line whose bytes are known

@@ -16,7 +16,7 @@ use Rattle.frames.specs.Written.{byte, kind_byte, kind_in, fields, frame_bytes, 
 use Rattle.frames.specs.declared.Frame.{Frame}
 use Rattle.frames.specs.declared.Frame.TheVariants as frame
 use Rattle.frames.specs.declared.kind.Kind.{Kind}
-use Rattle.frames.specs.declared.kind.Kind.TheVariants.{Declared, ConceptRule, ConceptExclusion, RoleRule, RoleExclusion, ConceptFact, RoleFact, RoleStep, TestStep, Final, Ask, AskFrom, Allowance, Expression, ListedMark}
+use Rattle.frames.specs.declared.kind.Kind.TheVariants.{Declared, ConceptRule, ConceptExclusion, RoleRule, RoleExclusion, ConceptFact, RoleFact, RoleStep, TestStep, Final, Ask, AskFrom, Allowance, Expression, Salvage, ListedMark}
 use Rattle.frames.proofs.Ends.{length-line}
 use Rattle.frames.proofs.FieldBytes.{Holds, IsByte, row-bytes, fits-row, marks-bytes, marks-small}
 use Rattle.frames.proofs.Lengths.{number_two, number_four, marks_long, no_longer}
@@ -72,6 +72,7 @@ module _ (at : ℕ → ℕ) (small : (k : ℕ) → IsByte (at k)) where
   numbers n Final long = (small 1, tt)
   numbers n Ask long = (small 1, (small 2, tt))
   numbers n AskFrom long = (small 1, tt)
+  numbers n Salvage long = tt
   numbers n Allowance long = (rounds_small n long, tt)
   numbers n ListedMark long = (four_small, (small 5, (small 6, (concept_small 7, tt))))
   numbers n Expression long =
@@ -143,6 +144,7 @@ module _ (at : ℕ → ℕ) (small : (k : ℕ) → IsByte (at k)) where
   bytes-of_frame n Final named long some whole = rw (long, ← named, own 1) refl
   bytes-of_frame n Ask named long some whole = rw (long, ← named, own 1, own 2) refl
   bytes-of_frame n AskFrom named long some whole = rw (long, ← named, own 1) refl
+  bytes-of_frame n Salvage named long some whole = rw (long, ← named) refl
   bytes-of_frame n Allowance named long some whole =
       let b = rounds_bytes in rw (sym whole, ← named, b.0, b.1, b.2, b.3) refl
   bytes-of_frame n ListedMark named long some whole =

@@ -8,7 +8,7 @@ use Rattle.frames.specs.Kinds.{kind_of, HasLength}
 use Rattle.frames.specs.declared.kind.Kind.{Kind}
 use Rattle.frames.specs.declared.kind.Kind.TheVariants as kind
 use Rattle.frames.specs.declared.Frame.{Frame}
-use Rattle.frames.specs.declared.Frame.TheVariants.{Declared, ConceptRule, ConceptExclusion, RoleRule, RoleExclusion, ConceptFact, RoleFact, RoleStep, TestStep, Final, Ask, AskFrom, Allowance, Expression, ListedMark}
+use Rattle.frames.specs.declared.Frame.TheVariants.{Declared, ConceptRule, ConceptExclusion, RoleRule, RoleExclusion, ConceptFact, RoleFact, RoleStep, TestStep, Final, Ask, AskFrom, Allowance, Expression, Salvage, ListedMark}
 use Rattle.frames.specs.declared.Misread.{Misread}
 use Rattle.frames.specs.declared.Misread.TheVariants.{BadLine, BadFrame}
 
@@ -57,6 +57,7 @@ module _ (byte : ℕ → ℕ) (bytes : ℕ) where
   frame_by kind.Allowance = Allowance (number_in (bytes - 1) byte 1)
   frame_by kind.Expression = Expression (marks_of byte (bytes - 1))
   frame_by kind.AskFrom = AskFrom (individual (byte 1))
+  frame_by kind.Salvage = Salvage
   frame_by kind.ListedMark =
       ListedMark (number_in 4 byte 1) (state (byte 5)) (state (byte 6)) (concept_of (byte 7))
 

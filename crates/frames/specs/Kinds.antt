@@ -1,16 +1,17 @@
 -- The kinds of frame (docs/RULES.md, section 8): the byte that names each, and the bytes of its frame.
 use Rattle.std.specs.Prelude.{ℕ, ◌+◌, ◌≡◌, ◌⊎◌, ⊤, List, [], ◌∷◌, Option, None, Some, unwrap_or, slice_get}
 use Rattle.frames.specs.declared.kind.Kind.{Kind}
-use Rattle.frames.specs.declared.kind.Kind.TheVariants.{Declared, ConceptRule, ConceptExclusion, RoleRule, RoleExclusion, ConceptFact, RoleFact, RoleStep, TestStep, Final, Ask, Allowance, Expression, AskFrom, ListedMark}
+use Rattle.frames.specs.declared.kind.Kind.TheVariants.{Declared, ConceptRule, ConceptExclusion, RoleRule, RoleExclusion, ConceptFact, RoleFact, RoleStep, TestStep, Final, Ask, Allowance, Expression, AskFrom, Salvage, ListedMark}
 
--- each kind at the byte that names it, from 00 on, which names none; nor does 0F
+-- each kind at the byte that names it, from 00 on, which names none
 abbrev pub kinds : List (Option Kind)
 kinds =
     None ∷ Some Declared
     ∷ Some ConceptRule ∷ Some ConceptExclusion ∷ Some RoleRule ∷ Some RoleExclusion
     ∷ Some ConceptFact ∷ Some RoleFact
     ∷ Some RoleStep ∷ Some TestStep ∷ Some Final
-    ∷ Some Ask ∷ Some Allowance ∷ Some Expression ∷ Some AskFrom ∷ None ∷ Some ListedMark ∷ []
+    ∷ Some Ask ∷ Some Allowance ∷ Some Expression ∷ Some AskFrom
+    ∷ Some Salvage ∷ Some ListedMark ∷ []
 
 -- the kind that a frame's first byte names, if it names one
 unfoldable pub kind_of : ℕ → Option Kind
@@ -33,6 +34,7 @@ frame_length Ask = 3
 frame_length Allowance = 3
 frame_length Expression = 1
 frame_length AskFrom = 2
+frame_length Salvage = 1
 frame_length ListedMark = 8
 
 -- a frame of a kind may have so many bytes: a fact's two more, for a deed number at its end, an

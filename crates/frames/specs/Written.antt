@@ -8,7 +8,7 @@ use Rattle.frames.specs.Text.{characters, most_bytes}
 use Rattle.frames.specs.declared.kind.Kind.{Kind}
 use Rattle.frames.specs.declared.kind.Kind.TheVariants as kind
 use Rattle.frames.specs.declared.Frame.{Frame}
-use Rattle.frames.specs.declared.Frame.TheVariants.{Declared, ConceptRule, ConceptExclusion, RoleRule, RoleExclusion, ConceptFact, RoleFact, RoleStep, TestStep, Final, Ask, AskFrom, Allowance, Expression, ListedMark}
+use Rattle.frames.specs.declared.Frame.TheVariants.{Declared, ConceptRule, ConceptExclusion, RoleRule, RoleExclusion, ConceptFact, RoleFact, RoleStep, TestStep, Final, Ask, AskFrom, Allowance, Expression, Salvage, ListedMark}
 
 -- the kind of a frame
 abbrev pub kind_in : Frame → Kind
@@ -26,6 +26,7 @@ kind_in (Ask a b) = kind.Ask
 kind_in (AskFrom a) = kind.AskFrom
 kind_in (Allowance n) = kind.Allowance
 kind_in (Expression row) = kind.Expression
+kind_in Salvage = kind.Salvage
 kind_in (ListedMark n s t B) = kind.ListedMark
 
 -- the byte that names a kind
@@ -44,6 +45,7 @@ kind_byte kind.Ask = 0x0B
 kind_byte kind.Allowance = 0x0C
 kind_byte kind.Expression = 0x0D
 kind_byte kind.AskFrom = 0x0E
+kind_byte kind.Salvage = 0x0F
 kind_byte kind.ListedMark = 0x10
 
 -- a field: in how many bytes it is written, and its number
@@ -78,6 +80,7 @@ fields (Ask a b) = byte a.0 ∷ byte b.0 ∷ []
 fields (AskFrom a) = byte a.0 ∷ []
 fields (Allowance n) = rounds n ∷ []
 fields (Expression row) = map byte row
+fields Salvage = []
 fields (ListedMark n s t B) = rounds n ∷ byte s.0 ∷ byte t.0 ∷ byte (number_of B) ∷ []
 
 -- a frame as numbers: that of its kind, and those of its fields

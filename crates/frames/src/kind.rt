@@ -25,6 +25,7 @@ pub enum Kind {
     Allowance = 0x0C,
     Expression = 0x0D,
     AskFrom = 0x0E,
+    Salvage = 0x0F,
     ListedMark = 0x10,
 }
 
@@ -50,6 +51,7 @@ impl Kind {
             0x0C => Kind::Allowance,
             0x0D => Kind::Expression,
             0x0E => Kind::AskFrom,
+            0x0F => Kind::Salvage,
             0x10 => Kind::ListedMark,
             _ => return None,
         };
@@ -95,6 +97,7 @@ impl Kind {
             Kind::Allowance => 3,
             Kind::Expression => 1,
             Kind::AskFrom => 2,
+            Kind::Salvage => 1,
             Kind::ListedMark => 8,
         }
     }

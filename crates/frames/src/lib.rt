@@ -48,6 +48,7 @@ pub enum Frame {
     AskFrom(Individual),
     Allowance(Rounds),
     Expression(Marks),
+    Salvage,
     ListedMark(Rounds, State, State, Concept),
 }
 
@@ -70,6 +71,7 @@ impl Frame {
             Frame::AskFrom(_) => Kind::AskFrom,
             Frame::Allowance(_) => Kind::Allowance,
             Frame::Expression(_) => Kind::Expression,
+            Frame::Salvage => Kind::Salvage,
             Frame::ListedMark(_, _, _, _) => Kind::ListedMark,
         }
     }
@@ -129,6 +131,7 @@ pub(crate) fn frame_of(kind: Kind, reader: &mut Reader) -> Frame
         Kind::Allowance => Frame::Allowance(reader.allowance()),
         Kind::Expression => Frame::Expression(reader.marks()),
         Kind::AskFrom => Frame::AskFrom(reader.field()),
+        Kind::Salvage => Frame::Salvage,
         Kind::ListedMark => Frame::ListedMark(
             reader.rounds(),
             reader.field(),

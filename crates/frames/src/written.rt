@@ -50,6 +50,7 @@ pub fn line_of(frame: &Frame) -> LineText
             LineText::of(&[kind, a, b, c, d])
         }
         Frame::Expression(marks) => marks.line(),
+        Frame::Salvage => LineText::of(&[kind]),
         Frame::ListedMark(round, from, to, concept) => {
             let [a, b, c, d] = round.to_be_bytes();
             LineText::of(&[kind, a, b, c, d, from.byte(), to.byte(), concept.byte()])

@@ -19,15 +19,16 @@ use Rattle.intake.specs.declared.comparison.Stop.{Stop}
 use Rattle.intake.specs.declared.comparison.Stop.TheVariants.{Departs}
 use Rattle.intake.specs.Compared.{IsCompared}
 use Rattle.intake.specs.Entries.{entry_line}
-use Rattle.intake.specs.Held.{collection_held}
+use Rattle.intake.specs.Held.{sheet_held}
 use Rattle.intake.specs.Next.{TakesLines, TakesAll, StopsAmong}
 use Rattle.intake.proofs.ComparedLaws.{compared-whole, compared-part}
 use Rattle.intake.proofs.EntriesFit.{few-entries}
+use Rattle.intake.proofs.SheetLaws.{sheet-listing, sheet-sane}
 use Rattle.intake.proofs.ToldLaws.{entries-lines, Hears, told-all, Fails, told-some}
 
-module _ (file : File) (q : Listed) (is : IsQuestion file q) (ok : WellFormed (collection_held file q)) where
+module _ (file : File) (q : Listed) (is : IsQuestion file q) (ok : WellFormed (sheet_held file q)) where
   abbrev 𝓒 : Collection
-  𝓒 = collection_held file q
+  𝓒 = sheet_held file q
 
   abbrev its : List RoundMarks → List Entry
   its rounds = entries_of (numbered_lite 𝓒) rounds
@@ -54,9 +55,9 @@ module _ (file : File) (q : Listed) (is : IsQuestion file q) (ok : WellFormed (c
         record {
           question = q;
           is = is;
-          sane = sane;
+          looked_at = sheet-sane file q sane;
           listing = its rounds;
-          lists = sheet-listed 𝓒 ok rounds told sane;
+          lists = sheet-listing file q (its rounds) (sheet-listed 𝓒 ok rounds told sane);
           so = compared-whole (its rounds) (few sane rounds told) took;
         }
 
@@ -80,9 +81,9 @@ module _ (file : File) (q : Listed) (is : IsQuestion file q) (ok : WellFormed (c
           record {
             question = q;
             is = is;
-            sane = sane;
+            looked_at = sheet-sane file q sane;
             listing = its (rounds ++ rest);
-            lists = sheet-listed 𝓒 ok (rounds ++ rest) told sane;
+            lists = sheet-listing file q (its (rounds ++ rest)) (sheet-listed 𝓒 ok (rounds ++ rest) told sane);
             so = compared-part (its (rounds ++ rest)) (few sane (rounds ++ rest) told) took;
           }
         where

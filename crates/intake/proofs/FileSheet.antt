@@ -1,4 +1,5 @@
--- The collection of a file that was read: what is lent of it passes the tests and means what is held, which is a contradiction or not.
+-- The collection of a file that was read, and that of its sheet: what is lent of the sheet passes the tests and means it, and it is a
+-- contradiction or not.
 use Rattle.std.specs.Prelude.{◌≡◌, ◌≢◌, ◌<◌, refl, Bool, true, false, List, [], length}
 use Rattle.std.proofs.Common.{ap, ap₂, arith}
 use Rattle.kinds.specs.declared.Counts.{Counts}
@@ -20,7 +21,8 @@ use Rattle.reading.specs.Tables.{declared_by}
 use Rattle.reading.proofs.Accepted.{tables-ok, numbers-ok}
 use Rattle.reading.proofs.Turns.{fitting}
 use Rattle.index.specs.Works.{meant, Passes}
-use Rattle.intake.specs.Held.{collection_held}
+use Rattle.intake.specs.Held.{collection_held, sheet_tables, sheet_held}
+use Rattle.intake.proofs.SheetLaws.{sifted-shapes, sifted-numbers}
 
 file-ok : (fs : List Frame) → Taken fs → fs ≢ [] → (q : Listed) → IsQuestion (file_of fs) q
     → CountsFit (declared_by fs) × ShapesOk (tables_of fs q) × NumbersFit (declared_by fs) (tables_of fs q)
@@ -42,19 +44,36 @@ module _ (file : File) (read : IsRead file) (begun : 0 < file.lines) (q : Listed
   pub well : WellFormed 𝓒
   well = record { counts = ok.0; numbers = ok.2.declared }
 
-  module _ (c : code.Collection) (counts : c.counts ≡ file.counts) (tables : lists c ≡ lent_tables file q) where
+  -- of its sheet
+  abbrev sheet : Collection
+  sheet = sheet_held file q
+
+  abbrev its_tables : Tables
+  its_tables = sheet_tables file q
+
+  sheet-ok : CountsFit file.counts × ShapesOk its_tables × NumbersFit file.counts its_tables
+  sheet-ok = (
+    ok.0,
+    sifted-shapes file.counts (lent_tables file q) file.salvages ok.1,
+    sifted-numbers file.counts (lent_tables file q) file.salvages ok.2,
+  )
+
+  pub sheet-well : WellFormed sheet
+  sheet-well = record { counts = sheet-ok.0; numbers = sheet-ok.2.declared }
+
+  module _ (c : code.Collection) (counts : c.counts ≡ file.counts) (tables : lists c ≡ its_tables) where
     -- THEOREM: what is lent of it passes the tests,
     pub lent-passes : Passes c
-    lent-passes = record { counts = rw counts ok.0; tables = rw tables ok.1; numbers = rw (counts, tables) ok.2 }
+    lent-passes = record { counts = rw counts sheet-ok.0; tables = rw tables sheet-ok.1; numbers = rw (counts, tables) sheet-ok.2 }
 
-    -- THEOREM: and means what is held
-    pub is-held : meant c ≡ 𝓒
-    is-held = ap₂ (λ (k : Counts) (t : Tables). collection k t) counts tables
+    -- THEOREM: and means it
+    pub is-sheet : meant c ≡ sheet
+    is-sheet = ap₂ (λ (k : Counts) (t : Tables). collection k t) counts tables
 
   -- THEOREM: it is a contradiction where it is not none
-  pub broken : ((Contradiction 𝓒 → ⊥) → ⊥) → Contradiction 𝓒
-  broken not-sane = by (clash 𝓒) refl
+  pub broken : ((Contradiction sheet → ⊥) → ⊥) → Contradiction sheet
+  broken not-sane = by (clash sheet) refl
     where
-      by : (b : Bool) → clash 𝓒 ≡ b → Contradiction 𝓒
-      by true e = (clash-is 𝓒 well).0 e
-      by false e = absurd (not-sane (λ c. let d = (clash-is 𝓒 well).1 c in cc))
+      by : (b : Bool) → clash sheet ≡ b → Contradiction sheet
+      by true e = (clash-is sheet sheet-well).0 e
+      by false e = absurd (not-sane (λ c. let d = (clash-is sheet sheet-well).1 c in cc))

@@ -6,7 +6,9 @@ pub mod EndingLaws
 pub mod TakenIn
 pub mod EntriesFit
 pub mod CutLaws
+pub mod SheetLaws
 pub mod FileSheet
 pub mod Comparing
 pub mod Taking
 pub mod VerdictLaws
+pub mod ListingLaws

@@ -1,6 +1,6 @@
 -- What is found of an input whose list was held against its sheet, and whose other lines were read on.
-use Rattle.std.specs.Prelude.{ℕ, ◌⊎◌, ◌+◌, ◌≡◌, ◌≢◌, ◌≤◌, refl, List, [], ◌∷◌, ◌++◌, None, Some, Result, Ok, Err, map, length, take, drop, slice_get}
-use Rattle.std.proofs.Common.{sym, ap, ◌∙◌, subst, inl, inr, arith, append_assoc, append-nil, length-append, length-take, take-append-drop}
+use Rattle.std.specs.Prelude.{ℕ, ◌⊎◌, ◌+◌, ◌≡◌, ◌≢◌, ◌≤◌, refl, true, false, List, [], ◌∷◌, ◌++◌, None, Some, Result, Ok, Err, map, length, take, drop, slice_get}
+use Rattle.std.proofs.Common.{sym, ap, ◌∙◌, subst, inl, inr, ⊎_elim, arith, append_assoc, append-nil, length-append, length-take, take-append-drop}
 use Rattle.std.proofs.lemmas.List.{take_all, take_at, map-append}
 use Rattle.std.proofs.lemmas.Option.{slice_get_past}
 use mathlib.Core.List.Memᴰ
@@ -17,12 +17,12 @@ use Rattle.reading.specs.File.{file_of, IsQuestion}
 use Rattle.reading.specs.Judged.{IsOpen}
 use Rattle.reading.specs.Reading.{Verdict, faulty, sound, frames_of, Reading, Taken}
 use Rattle.reading.specs.Reads.{ReadsAfter, ReadsFile, ReadsOn, ReadsToList, told_of}
-use Rattle.reading.specs.Tables.{Entry, frame_of, list_in, listed, entries, most_listed, declared_by}
+use Rattle.reading.specs.Tables.{Entry, frame_of, list_in, listed, entries, most_listed, declared_by, salvages}
 use Rattle.reading.proofs.Accepted.{reading-taken}
 use Rattle.reading.proofs.ListEnds.{entries-held, list-begins}
 use Rattle.reading.proofs.ListLaws.{list-append, list-counted, none-counted}
 use Rattle.intake.specs.Entries.{entry_line}
-use Rattle.intake.specs.Held.{collection_held, CutsList}
+use Rattle.intake.specs.Held.{collection_held, IsLookedAt, CutsList}
 use Rattle.intake.specs.TakesIn.{TakesIn}
 use Rattle.intake.specs.Verdicts.{collection_read, IsListing, no-list, contradiction, listing, Departs, before_list, by-line, by-list, accepted}
 use Rattle.intake.proofs.EndingLaws.{IsEntry, entries-read, entries-taken, list-of_entries, BeginsSo, Ending, ending}
@@ -35,6 +35,9 @@ module _ (before : List Frame) (n : before ≢ []) (es : List Entry) (q : Listed
   -- the question and the collection are what they were
   same-question : IsQuestion (file_of before) q → IsQuestion (file_of (before ++ map frame_of es)) q
   same-question is = subst (λ (f : File). IsQuestion f q) (sym (entries-held before es n)) is
+
+  same-salvages : salvages before ≡ salvages (before ++ map frame_of es)
+  same-salvages = sym (ap (λ (f : File). f.salvages) (entries-held before es n))
 
   same-collection : collection_held (file_of before) q ≡ collection_read (before ++ map frame_of es) q
   same-collection = ap (λ (f : File). collection_held f q) (sym (entries-held before es n))
@@ -111,8 +114,8 @@ no-list-found {ls} {new} a n =
     record { verdict = sound s.frames; is = accepted s.frames s.reading (no-list none); told = refl; kept = s.kept }
 
 module _ {input left : List ℕ} {file : File} (r : ReadsToList input left file) where
-  -- in a contradiction the list is not looked at
-  module _ (q : Listed) (is : IsQuestion file q) (broken : Contradiction (collection_held file q)) where
+  -- in a contradiction the list is not looked at, where salvage is not chosen
+  module _ (q : Listed) (is : IsQuestion file q) (plain : file.salvages ≡ false) (broken : Contradiction (collection_held file q)) where
     in-contradiction : (found : Result (Unit {0}) Fault) (new : File) → ReadsAfter r.frames (lines left) found new → TakesIn (lines input) found new
     in-contradiction (Err fault) new a = line-fault r.onward a
     in-contradiction (Ok u) new a =
@@ -124,9 +127,11 @@ module _ {input left : List ℕ} {file : File} (r : ReadsToList input left file)
         let so : Contradiction (collection_read s.frames q) =
         subst (λ gs. Contradiction (collection_read gs q)) (sym e.are)
         (subst Contradiction (same-collection r.frames n e.more q) (rw r.kept at broken)) in
+        let none : salvages s.frames ≡ false =
+        ap salvages e.are ∙ sym (same-salvages r.frames n e.more q) ∙ sym (ap (λ (f : File). f.salvages) r.kept) ∙ plain in
         record {
           verdict = sound s.frames;
-          is = accepted s.frames (r.onward (sound s.frames) s.reading) (contradiction q its so);
+          is = accepted s.frames (r.onward (sound s.frames) s.reading) (contradiction q its none so);
           told = refl;
           kept = s.kept;
         }
@@ -136,7 +141,7 @@ module _ {input left : List ℕ} {file : File} (r : ReadsToList input left file)
     unlooked {found} {new} after e o = in-contradiction found new (subst (λ (ls : List (List ℕ)). ReadsAfter r.frames ls found new) (sym e) (o r.frames r.taken r.kept))
 
   -- else so many entries are those that the listing begins with
-  module _ (q : Listed) (is : IsQuestion file q) (sane : Contradiction (collection_held file q) → ⊥) (its : List Entry)
+  module _ (q : Listed) (is : IsQuestion file q) (looked : IsLookedAt file q) (its : List Entry)
       (lists : IsListing (collection_held file q) its) (few : length its ≤ most_listed) (are : (e : Entry) → e ∈ its → IsEntry (declared_by r.frames) e)
       (k : ℕ) (small : k ≤ length its) (after : List ℕ) (took : lines left ≡ map entry_line (take k its) ++ lines after) where
     abbrev es : List Entry
@@ -209,6 +214,13 @@ module _ {input left : List ℕ} {file : File} (r : ReadsToList input left file)
           ap (λ (f : File). collection_held f q) r.kept ∙ same-collection r.frames r.is_open.begun all-entries q
           ∙ ap (λ gs. collection_read gs q) (sym all-are)
 
+      its-salvages : file.salvages ≡ salvages fs
+      its-salvages = ap (λ (f : File). f.salvages) r.kept ∙ same-salvages r.frames r.is_open.begun all-entries q ∙ ap salvages (sym all-are)
+
+      its-look : (salvages fs ≡ true) ⊎ (Contradiction (collection_read fs q) → ⊥)
+      its-look =
+          ⊎_elim (λ e. inl (sym its-salvages ∙ e)) (λ sane. inr (λ c. sane (subst Contradiction (sym its-collection) c))) looked
+
       its-listing : IsListing (collection_read fs q) its
       its-listing = subst (λ (𝓒 : Collection). IsListing 𝓒 its) its-collection lists
 
@@ -259,7 +271,7 @@ module _ {input left : List ℕ} {file : File} (r : ReadsToList input left file)
           given = list-begins r.frames fs left r.begins (go-on (sound fs) h);
           question = q;
           is = its-question;
-          sane = λ c. sane (subst Contradiction (sym its-collection) c);
+          sane = its-look;
           listing = its;
           lists = its-listing;
           at = record {

@@ -39,7 +39,7 @@ module _ {file : File} (w : IsBroken file) where
       → IfSome a (λ left. TakesList file left found new)
   broken-found None b found new t h = tt
   broken-found (Some x) None found new t h = absurd t
-  broken-found (Some x) (Some y) found new t h = λ input r. unlooked r w.question w.is w.broken y t h
+  broken-found (Some x) (Some y) found new t h = λ input r. unlooked r w.question w.is w.plain w.broken y t h
 
   pub broken-read : (a b : Option (List ℕ)) (result : Result (Result (Unit {0}) Fault) Error) (new : File) → TakesLines a b []
       → IfOk result (λ found. IfSome b (λ left. ReadsOn file (lines left) found new))
@@ -95,7 +95,7 @@ module _ {file : File} {old new : Input} {c : Compared} (w : IsCompared file old
     fault-found' None b fault t h = tt
     fault-found' (Some x) None fault t h = absurd t
     fault-found' (Some x) (Some y) fault t h = λ input r.
-        fault-behind r w.question w.is w.sane w.listing w.lists (few r.frames r.taken r.kept r.is_open) (are r.frames r.taken r.kept r.is_open)
+        fault-behind r w.question w.is w.looked_at w.listing w.lists (few r.frames r.taken r.kept r.is_open) (are r.frames r.taken r.kept r.is_open)
         c.right w.so.few y t h
 
     pub fault-found : (fault : Fault) → IfSome (left_of new) (λ left. ReadsOn (counted c.right file) (lines left) (Err fault) file3)
@@ -110,8 +110,8 @@ module _ {file : File} {old new : Input} {c : Compared} (w : IsCompared file old
     whole-found' (Some x) (Some y) t f e h = λ input r.
         let n = few r.frames r.taken r.kept r.is_open in
         let i = are r.frames r.taken r.kept r.is_open in
-        let s = sound-behind r w.question w.is w.sane w.listing w.lists n i c.right w.so.few y t h in
-        all-right r w.question w.is w.sane w.listing w.lists n i c.right w.so.few y t s.frames s.reading file3 s.kept f e
+        let s = sound-behind r w.question w.is w.looked_at w.listing w.lists n i c.right w.so.few y t h in
+        all-right r w.question w.is w.looked_at w.listing w.lists n i c.right w.so.few y t s.frames s.reading file3 s.kept f e
 
     -- so many entries, the right ones among them, are the listing
     abbrev IsAll : Type 0
@@ -137,8 +137,8 @@ module _ {file : File} {old new : Input} {c : Compared} (w : IsCompared file old
     departs-found' (Some x) (Some y) g t n fault cut k told h = λ input r.
         let m = few r.frames r.taken r.kept r.is_open in
         let i = are r.frames r.taken r.kept r.is_open in
-        let s = sound-behind r w.question w.is w.sane w.listing w.lists m i c.right w.so.few y t h in
-        refused r w.question w.is w.sane w.listing w.lists m i c.right w.so.few y t s.frames s.reading file3 s.kept
+        let s = sound-behind r w.question w.is w.looked_at w.listing w.lists m i c.right w.so.few y t h in
+        refused r w.question w.is w.looked_at w.listing w.lists m i c.right w.so.few y t s.frames s.reading file3 s.kept
         (departing c.is_whole refl n) k told
       where
         departing : (b : Bool) → c.is_whole ≡ b → (IsAll → ⊥) → Departing y

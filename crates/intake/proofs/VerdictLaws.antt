@@ -19,7 +19,7 @@ use Rattle.meaning.specs.Listing.{numbered_lite}
 use Rattle.meaning.proofs.ListingLaws.{lite-listing}
 use Rattle.theory.proofs.ListingLaws.{listing-once}
 use Rattle.reading.specs.File.{file_of, IsQuestionOf}
-use Rattle.reading.specs.Tables.{Entry, list_in}
+use Rattle.reading.specs.Tables.{Entry, list_in, salvages}
 use Rattle.reading.specs.Reading.{Verdict, faulty, sound, Reading, whole, onward, Taken, none}
 use Rattle.reading.proofs.Accepted.{numbers-ok, reading-taken}
 use Rattle.reading.proofs.Once.{reading-once}
@@ -40,7 +40,11 @@ module _ (fs : List Frame) where
 
   not-both : {k : ℕ} → Departs fs k → Accepted fs → ⊥
   not-both a (no-list e) = a.given e
-  not-both a (contradiction q is c) = let e = question-once (file_of fs) q a.question is a.is in a.sane (rw e at c)
+  not-both a (contradiction q is plain c) = side a.sane
+    where
+      side : (salvages fs ≡ true) ⊎ (Contradiction (collection_read fs a.question) → ⊥) → ⊥
+      side (inl e) = let d = sym e ∙ plain in cc
+      side (inr sane) = let e = question-once (file_of fs) q a.question is a.is in sane (rw e at c)
   not-both a (listing q is l) =
       let e = question-once (file_of fs) q a.question is a.is in
       let d = listing-once (numbered_lite (collection_read fs a.question)) (list_in fs) a.listing (rw e at l) a.lists in
@@ -126,21 +130,25 @@ module _ (fs : List Frame) (t : Taken fs) (begun : fs ≢ []) (q : Listed) (is :
   sound-found : (ls : List (List ℕ)) → Reading [] ls (sound fs) → (w : Verdict) × Verdicts ls w
   sound-found ls r = by (list_in fs) refl
     where
-      listed : list_in fs ≢ [] → (Contradiction (collection_read fs q) → ⊥)
+      listed : list_in fs ≢ [] → (salvages fs ≡ true) ⊎ (Contradiction (collection_read fs q) → ⊥)
           → (l : List Entry) × IsListing (collection_read fs q) l → (w : Verdict) × Verdicts ls w
       listed given sane l =
           ⊎_elim (λ e. (sound fs, accepted fs r (listing q is (rw e l.1))))
           (λ w. (_, by-list fs w.0 r (record { given = given; question = q; is = is; sane = sane; listing = l.0; lists = l.1; at = w.1 })))
           (departs? same_entry (list_in fs) l.0)
 
-      sane? : list_in fs ≢ [] → (b : Bool) → clash (collection_read fs q) ≡ b → (w : Verdict) × Verdicts ls w
-      sane? given true e = (sound fs, accepted fs r (contradiction q is ((clash-is (collection_read fs q) well-formed).0 e)))
-      sane? given false e =
-          listed given (λ c. let d = (clash-is (collection_read fs q) well-formed).1 c in cc) (lite-listing (collection_read fs q) well-formed)
+      sane? : list_in fs ≢ [] → salvages fs ≡ false → (b : Bool) → clash (collection_read fs q) ≡ b → (w : Verdict) × Verdicts ls w
+      sane? given plain true e = (sound fs, accepted fs r (contradiction q is plain ((clash-is (collection_read fs q) well-formed).0 e)))
+      sane? given plain false e =
+          listed given (inr (λ c. let d = (clash-is (collection_read fs q) well-formed).1 c in cc)) (lite-listing (collection_read fs q) well-formed)
+
+      looked-at : list_in fs ≢ [] → (b : Bool) → salvages fs ≡ b → (w : Verdict) × Verdicts ls w
+      looked-at given true e = listed given (inl e) (lite-listing (collection_read fs q) well-formed)
+      looked-at given false e = sane? given e (clash (collection_read fs q)) refl
 
       by : (l : List Entry) → list_in fs ≡ l → (w : Verdict) × Verdicts ls w
       by [] e = (sound fs, accepted fs r (no-list e))
-      by (x ∷ l) e = sane? (λ n. let d = sym n ∙ e in cc) (clash (collection_read fs q)) refl
+      by (x ∷ l) e = looked-at (λ n. let d = sym n ∙ e in cc) (salvages fs) refl
 
 sound-begun : {before : List Frame} {ls : List (List ℕ)} {fs : List Frame} → Reading before ls (sound fs) → fs ≢ []
 sound-begun (whole f fs) = λ e. cc
@@ -157,7 +165,7 @@ verdict-taken ls v (by-line before r h) = reading-taken h none
 verdict-taken ls v (by-list fs k h d) = taken-start fs (reading-taken h none) (before_list fs + k)
 verdict-taken ls v (accepted fs h a) = reading-taken h none
 
--- THEOREM: what the first 3,238,889 bytes of an input are found to be, or more of them, the whole is, and the other way
+-- THEOREM: what the first 3,239,020 bytes of an input are found to be, or more of them, the whole is, and the other way
 pub start-decides : StartDecides
 start-decides input n h v = (whole-so, start-so)
   where

@@ -1,5 +1,5 @@
 -- How the list that is next in an input compares with the listing of its sheet.
-use Rattle.std.specs.Prelude.{ℕ, ◌≡◌, ◌≤◌, List, Some, IsTrue, map, length, take, slice_get}
+use Rattle.std.specs.Prelude.{ℕ, ◌≡◌, ◌≤◌, false, List, Some, IsTrue, map, length, take, slice_get}
 use Rattle.std.specs.Bool.{OnFalse}
 use Rattle.streams.specs.Input.{Input, left_of}
 use Rattle.reading.specs.Tables.{Entry}
@@ -10,7 +10,7 @@ use Rattle.meaning.specs.Model.{Contradiction}
 use Rattle.expression.specs.Listed.{Listed}
 use Rattle.reading.specs.declared.File.{File}
 use Rattle.reading.specs.File.{IsQuestion}
-use Rattle.intake.specs.Held.{collection_held}
+use Rattle.intake.specs.Held.{collection_held, IsLookedAt}
 use Rattle.intake.specs.Verdicts.{IsListing}
 
 -- entry k of the listing is none that comes next
@@ -27,17 +27,18 @@ pub record IsComparedTo (listing : List Entry) (old new : Input) (c : Compared) 
   pub whole : IsTrue c.is_whole → c.right ≡ length listing
   pub missed : OnFalse c.is_whole (IsMissed new listing c.right)
 
--- what is held of a file is a contradiction
+-- what is held of a file is a contradiction, and it chooses no salvage
 pub record IsBroken (file : File) : Type 0 where
   pub question : Listed
   pub is : IsQuestion file question
+  pub plain : file.salvages ≡ false
   pub broken : Contradiction (collection_held file question)
 
--- it is none, and the list compares so with the listing of its sheet
+-- its list is looked at, and compares so with the listing of its sheet
 pub record IsCompared (file : File) (old new : Input) (c : Compared) : Type 0 where
   pub question : Listed
   pub is : IsQuestion file question
-  pub sane : Contradiction (collection_held file question) → ⊥
+  pub looked_at : IsLookedAt file question
   pub listing : List Entry
   pub lists : IsListing (collection_held file question) listing
   pub so : IsComparedTo listing old new c

@@ -5,6 +5,8 @@ ghost use Rattle.std.specs.Io.KnownBytes.{Keeps};
 ghost use Rattle.streams.specs.Input.{left_of};
 ghost use Rattle.streams.specs.Lines.{TakesLine};
 ghost use Rattle.reading.specs.Reads.{IsRead};
+ghost use Rattle.tables.specs.Lists.{lists};
+ghost use Rattle.intake.specs.Held.{LendsSheet};
 ghost use Rattle.intake.specs.Next.{TakesLines, BeginsOther, TakesAll};
 ghost use Rattle.intake.specs.Compared.{IsBroken, IsCompared};
 ghost use Rattle.intake.specs.Stops.{StopsBy};
@@ -18,6 +20,7 @@ use sheet::{RoundListener, RoundMarks};
 use std::io;
 use streams::Source;
 use streams::lines::Lines;
+use tables::{Collection, Table};
 
 // Whether the line of an entry comes next. If so it is taken, with its end, which a last line may lack.
 fn take_next<S: Source>(
@@ -129,6 +132,23 @@ impl Compared {
     }
 }
 
+// The collection of which the sheet is worked that the list of a file is held against. In a file that chooses salvage it is that
+// without its facts, which is no contradiction: facts do not change the sheet.
+fn sheet_of(file: &File) -> Collection<'_>
+    ensures counts { result.counts ≡ file.now.counts }
+    ensures tables { LendsSheet file.now (lists result) }
+{
+    let collection = file.collection();
+    if file.salvages {
+        return Collection {
+            concept_facts: Table::new(&[]),
+            role_facts: Table::new(&[]),
+            ..collection
+        };
+    }
+    collection
+}
+
 // The list that is next in an input, held against the listing of a file's sheet up to where it departs. In a contradiction it is not
 // looked at: `None`. The tables in which the sheet is worked are gone afterwards.
 #[inline(never)]
@@ -143,7 +163,7 @@ pub(crate) fn compare<S: Source>(lines: &mut Lines<S>, file: &File) -> io::Resul
 {
     let checked = Checked {
         lent: Lent {
-            collection: file.collection(),
+            collection: sheet_of(file),
             allowance: file.allowance(),
         },
     };

@@ -15,7 +15,8 @@ use Rattle.meaning.specs.Lent.{Tables, Whole, field, records, collection}
 use Rattle.meaning.specs.Listing.{numbered_lite}
 use Rattle.meaning.proofs.ListingLaws.{entry-fits, lite-length, most-entries}
 use Rattle.lampsaffron.specs.Listing.{Entry, entry_width, entry_numbers, list_numbers, most_entries}
-use Rattle.lampsaffron.specs.Departs.{entry_count, entry_at, list_entries, EntryDeclared, EntriesDeclared, HasEntry, HasEntries, DepartsNumber, AcceptedIsGiven}
+use Rattle.lampsaffron.specs.Departs.{entry_count, entry_at, list_entries, EntryDeclared, EntriesDeclared, HasEntry, HasEntries}
+use Rattle.lampsaffron.specs.Departs.{DepartsNumber, AcceptedIsGiven}
 use Rattle.lampsaffron.proofs.ListingLaws.{numbers-long, AllHold, passed}
 use Rattle.lampsaffron.proofs.DepartsLaws.{Canonical, entries-long, all-met}
 
@@ -51,7 +52,8 @@ same-field a b k (e ∷ es) g h i l m = by (dec_lt i (entry_width * suc k)) (sam
     is j f q = rw q f
 
     by : Dec (i < entry_width * suc k)
-        → (entry_width * suc k ≤ i → i < entry_width * (suc k + length es) → slice_index a i ≡ slice_index b i) → slice_index a i ≡ slice_index b i
+        → (entry_width * suc k ≤ i → i < entry_width * (suc k + length es) → slice_index a i ≡ slice_index b i)
+        → slice_index a i ≡ slice_index b i
     by (no n) on = on (omega arith) (omega arith)
     by (yes q) on = elim (ℕ_discrete i (entry_width * k)) [
       | yes z ↦ is 0 (g.0.round ∙ sym h.0.round) (omega arith)

@@ -9,7 +9,8 @@ use Rattle.meaning.proofs.FormerLaws.{moved-once, back-once, moved-exactly, form
 use Rattle.sheet.specs.Former.{AreLong, GoesAbove}
 use Rattle.sheet.specs.declared.former.Unmoved.{Unmoved}
 use Rattle.sheet.specs.declared.former.Unmoved.TheVariants as unmoved
-use Rattle.lampsaffron.specs.Areas.{number_of, MovesNumber, BackNumber, TellsMoved, TellsBack, ThereAndBack, BackAndThere, RoundsMoved, RoundsMovedBack}
+use Rattle.lampsaffron.specs.Areas.{number_of, MovesNumber, BackNumber, TellsMoved, TellsBack}
+use Rattle.lampsaffron.specs.Areas.{ThereAndBack, BackAndThere, RoundsMoved, RoundsMovedBack}
 
 -- the number of a call that comes to this
 abbrev number-in : {A : Type 0} → Result A Unmoved → ℕ
@@ -48,7 +49,8 @@ module _ (stored area : List ℕ) where
   back-not unmoved.StateAbove15 a b = let w = b refl in holds w.long (fails (λ n. n w.above))
 
 -- THEOREM: all that each call gives and leaves is fixed
-pub moving-once : (stored old new new' : List ℕ) (number number' : ℕ) → TellsMoved stored old number new → TellsMoved stored old number' new'
+pub moving-once : (stored old new new' : List ℕ) (number number' : ℕ) → TellsMoved stored old number new
+    → TellsMoved stored old number' new'
     → (number ≡ number') × (new ≡ new')
 moving-once stored old new new' number number' a b = (e, by (ℕ_discrete number 0))
   where

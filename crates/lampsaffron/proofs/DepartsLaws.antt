@@ -84,7 +84,8 @@ entries-append 𝓒 n (marks ∷ rounds) rest =
     let e : suc n + length rounds ≡ n + suc (length rounds) = omega arith in
     let g = entries-append 𝓒 (suc n) rounds rest in
     ap (λ l. entries_in n marks ++ l) (rw e at g)
-    ∙ sym (append_assoc (entries_in n marks) (entries_from (numbered_lite 𝓒) (suc n) rounds) (entries_from (numbered_lite 𝓒) (n + suc (length rounds)) rest))
+    ∙ sym (append_assoc (entries_in n marks) (entries_from (numbered_lite 𝓒) (suc n) rounds)
+    (entries_from (numbered_lite 𝓒) (n + suc (length rounds)) rest))
 
 entries-last : (𝓒 : Collection) (rounds : List RoundMarks) (marks : RoundMarks)
     → entries_of (numbered_lite 𝓒) (rounds ++ marks ∷ []) ≡ entries_of (numbered_lite 𝓒) rounds ++ entries_in (length rounds) marks
@@ -130,7 +131,8 @@ module _ (list : List ℕ) where
       let l = slice_get_within (list_entries list) k e g in
       let n = length-numbered (entry_at list) (entry_count list) in
       let w : k < entry_count list = omega (arith, l, n) in
-      let r : entry_at list k ≡ e = sym (get_d_numbered (entry_at list) (entry_count list) k e w) ∙ get_or_from_slice_get (list_entries list) k e e g in
+      let a = get_d_numbered (entry_at list) (entry_count list) k e w in
+      let r : entry_at list k ≡ e = sym a ∙ get_or_from_slice_get (list_entries list) k e e g in
       record {
         within = w;
         round = ap (λ (x : Entry). x.0) r;

@@ -81,7 +81,8 @@ module _ (put : ℕ → RoundMarks → List ℕ) where
   all_put-more n (first ∷ rounds) marks =
       let e : suc n + length rounds ≡ n + suc (length rounds) = omega arith in
       let g = all_put-more (suc n) rounds marks in
-      ap (λ l. put n first ++ l) (rw e at g) ∙ sym (append_assoc (put n first) (all_put (suc n) rounds) (put (n + suc (length rounds)) marks))
+      ap (λ l. put n first ++ l) (rw e at g)
+      ∙ sym (append_assoc (put n first) (all_put (suc n) rounds) (put (n + suc (length rounds)) marks))
 
   -- of the first rounds no more is put than of all
   pub all_put-few : (n : ℕ) (rounds rest : List RoundMarks) → length (all_put n rounds) ≤ length (all_put n (rounds ++ rest))

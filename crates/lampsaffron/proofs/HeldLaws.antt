@@ -27,8 +27,10 @@ use Rattle.index.proofs.Joined.{well}
 use Rattle.index.proofs.Replies as replies
 use Rattle.index.proofs.ToldWhole.{sheet-listed}
 use Rattle.lampsaffron.specs.Listing.{Entry}
-use Rattle.lampsaffron.specs.Departs.{entry_count, list_entries, HeldNumber, DepartsNumber, DepartsFromSheet, TellsDeparture, Meets, Departs}
-use Rattle.lampsaffron.proofs.DepartsLaws.{Canonical, entries-append, departs-before, all-met, longer-departs, other-departs, met-few, departs-few}
+use Rattle.lampsaffron.specs.Departs.{entry_count, list_entries, HeldNumber, DepartsNumber, DepartsFromSheet}
+use Rattle.lampsaffron.specs.Departs.{TellsDeparture, Meets, Departs}
+use Rattle.lampsaffron.proofs.DepartsLaws.{Canonical, entries-append, departs-before, all-met}
+use Rattle.lampsaffron.proofs.DepartsLaws.{longer-departs, other-departs, met-few, departs-few}
 
 module _ (l : Lent) (p : Passes l.collection) (list : List ℕ) where
   abbrev 𝓒 : Collection

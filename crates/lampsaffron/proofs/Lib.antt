@@ -14,3 +14,4 @@ pub mod DepartsLaws
 pub mod HeldLaws
 pub mod ListOnce
 pub mod Accepted
+pub mod SalvageLaws

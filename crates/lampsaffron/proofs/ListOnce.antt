@@ -27,7 +27,8 @@ module _ (c : Counts) (t : Tables) where
           let x = a.told z in
           let y = b.told (rw e at z) in
           let same = listing-once (numbered_lite (collection c t)) x.0 y.0 x.1 y.1 in
-          let n : entry_width * new.entries ≡ entry_width * new'.entries = x.2.many ∙ (ap (λ l. length (list_numbers l)) same ∙ sym y.2.many) in
+          let long = ap (λ l. length (list_numbers l)) same in
+          let n : entry_width * new.entries ≡ entry_width * new'.entries = x.2.many ∙ (long ∙ sym y.2.many) in
           let many : new.entries ≡ new'.entries = omega arith in
           let f = sym (take-append-drop (entry_width * new.entries) new.list) in
           let g = take-append-drop (entry_width * new'.entries) new'.list in
@@ -46,7 +47,8 @@ module _ (c : Counts) (t : Tables) where
         first-once (first-once (first-once (first-once (first-once (first-once (first-once (λ n m h k. h ∙ sym k)))))))
 
     -- THEOREM: all that the call for its place gives and leaves is fixed
-    pub departing-once : (old new new' number number' : ℕ) → TellsDeparture c t list old number new → TellsDeparture c t list old number' new'
+    pub departing-once : (old new new' number number' : ℕ) → TellsDeparture c t list old number new
+        → TellsDeparture c t list old number' new'
         → (number ≡ number') × (new ≡ new')
     departing-once old new new' number number' a b = (e, by (ℕ_discrete number 15))
       where

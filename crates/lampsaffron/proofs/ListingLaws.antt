@@ -31,7 +31,8 @@ use Rattle.index.proofs.Joined.{well}
 use Rattle.index.proofs.Replies as replies
 use Rattle.index.proofs.ToldWhole.{sheet-listed}
 use Rattle.lampsaffron.specs.Front.{Puts}
-use Rattle.lampsaffron.specs.Listing.{Entry, entries_in, entry_width, entry_numbers, list_numbers, most_entries, left, ListingNumber, PutsList, TellsList, TellsListing}
+use Rattle.lampsaffron.specs.Listing.{Entry, entries_in, entry_width, entry_numbers, list_numbers, most_entries, left}
+use Rattle.lampsaffron.specs.Listing.{ListingNumber, PutsList, TellsList, TellsListing}
 use Rattle.lampsaffron.proofs.Front.{all_put, puts-front, puts-nothing}
 
 -- the entries of one mark more; and their numbers
@@ -77,7 +78,11 @@ module _ (l : Lent) (p : Passes l.collection) where
     -- THEOREM: where all rounds were put, the list is
     pub list-put : (Contradiction 𝓒 → ⊥) → {n : ℕ} {old new : List ℕ} → Puts (all_put put_entries 0 rounds) old 0 new n
         → PutsList l.collection.counts (lists l.collection) n old new
-    list-put sane puts = (entries_of (numbered_lite 𝓒) rounds, sheet-listed 𝓒 (well l.collection p) rounds t sane, rw (entries-put 𝓒 0 rounds) at (puts-front puts))
+    list-put sane puts = (
+      entries_of (numbered_lite 𝓒) rounds,
+      sheet-listed 𝓒 (well l.collection p) rounds t sane,
+      rw (entries-put 𝓒 0 rounds) at (puts-front puts),
+    )
 
   -- where there is no sheet the row stays
   pub none-put : (rounds : List RoundMarks) → SheetTold 𝓒 rounds → ((Contradiction 𝓒 → ⊥) → ⊥) → {n : ℕ} {old new : List ℕ}
@@ -118,7 +123,8 @@ pub refused-number : (l : Lent) → CountsFit l.collection.counts → (why : Ref
     → FirstOf (ShapesOk (lists l.collection) else 5 ∷ NumbersFit l.collection.counts (lists l.collection) else 6 ∷ []) Rest
     (answer_number (answer_of why))
 refused-number l fit BadCount h Rest = absurd (h.bad_count.0 refl fit)
-refused-number l fit BadTable h Rest = let w = h.bad_table.0 refl in fails (λ s. w.tables (record { tables = s; area = refl; spare = refl }))
+refused-number l fit BadTable h Rest =
+    let w = h.bad_table.0 refl in fails (λ s. w.tables (record { tables = s; area = refl; spare = refl }))
 refused-number l fit BadNumber h Rest = let w = h.bad_number.0 refl in holds w.tables.tables (fails w.numbers)
 
 -- all tests hold, and there is a sheet

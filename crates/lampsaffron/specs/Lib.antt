@@ -8,3 +8,4 @@ pub mod Areas
 pub mod Same
 pub mod Listing
 pub mod Departs
+pub mod Salvage

@@ -19,6 +19,7 @@ ghost use Rattle.lampsaffron.specs.Expression.{number_of, Makes, told_tables};
 pub mod areas;
 pub mod asks;
 pub mod departs;
+pub mod kept;
 pub mod listing;
 pub mod marks;
 mod passed;

@@ -7,8 +7,8 @@ ghost use Rattle.lampsaffron.specs.Same.{SameNumber};
 use crate::passed::Passed;
 use sorted::have_same_records;
 
-// Whether two collections declare the same and hold the same records in each table, in any order and repeated as they may be: 1
-// or 0. The deed numbers of facts count. Where a test refuses the first, or else the second, its number, 4, 5 or 6. Nothing
+// Whether two collections declare the same and hold the same records in each table, in any order and repeated as they may be:
+// 1 or 0. The deed numbers of facts count. Where a test refuses the first, or else the second, its number, 4, 5 or 6. Nothing
 // is written.
 #[unsafe(no_mangle)]
 pub extern "C" fn lampsaffron_same_records(

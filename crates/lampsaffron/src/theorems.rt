@@ -12,6 +12,7 @@ ghost use Rattle.lampsaffron.specs.Marks.{Lent, TellsMarks};
 ghost use Rattle.lampsaffron.specs.Same.{SameNumber};
 ghost use Rattle.lampsaffron.specs.Listing.{Left as ListLeft, TellsListing};
 ghost use Rattle.lampsaffron.specs.Departs.{TellsDeparture, AcceptedIsGiven};
+ghost use Rattle.lampsaffron.specs.Salvage.{TellsSalvage};
 ghost use Rattle.lampsaffron.specs.Areas.{TellsMoved, TellsBack};
 ghost use Rattle.lampsaffron.specs.Areas.{ThereAndBack, BackAndThere};
 ghost use Rattle.lampsaffron.specs.Areas.{RoundsMoved, RoundsMovedBack};
@@ -19,8 +20,8 @@ ghost use Rattle.expression.specs.Listed.{Listed};
 ghost use Rattle.expression.specs.Answer.{IsAutomatonOf};
 
 // What each call gives and leaves: of one ask, of a row of pairs, of a row of asks, of the marks of rounds, of the tables
-// of an expression, of two collections compared, of the list of a sheet and of where another departs from it, and of an
-// area moved and moved back. Of an expression also the number alone, and the automaton.
+// of an expression, of two collections compared, of the list of a sheet and of where another departs from it, of the facts
+// that salvage keeps, and of an area moved and moved back. Of an expression also the number alone, and the automaton.
 pub fn unique()
     ensures one_call { (c : Call) (number number' count count' : ℕ) (x y u v : List ℕ)
         → Gives c number count x y → Gives c number' count' u v
@@ -48,6 +49,9 @@ pub fn unique()
     ensures one_departing { (c : Counts) (t : Tables) (list : List ℕ)
         (old new new' number number' : ℕ) → TellsDeparture c t list old number new
         → TellsDeparture c t list old number' new' → (number ≡ number') × (new ≡ new') }
+    ensures one_salvaging { (c : Counts) (t : Tables) (order old new new' : List ℕ)
+        (number number' : ℕ) → TellsSalvage c t order old number new
+        → TellsSalvage c t order old number' new' → (number ≡ number') × (new ≡ new') }
     ensures one_moving { (stored old new new' : List ℕ) (number number' : ℕ)
         → TellsMoved stored old number new → TellsMoved stored old number' new'
         → (number ≡ number') × (new ≡ new') }

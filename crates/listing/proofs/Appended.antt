@@ -6,7 +6,6 @@ use mathlib.Core.List.{List, [], ◌∷◌, ◌++◌, map}
 use Rattle.laws.specs.Member.{◌∈◌, map-out}
 use Rattle.kinds.specs.declared.Counts.{Counts}
 use Rattle.meaning.specs.Collection.{Collection, WellFormed}
-use Rattle.meaning.specs.Model.{Contradiction}
 use Rattle.meaning.specs.Lent.{collection}
 use Rattle.expression.specs.Listed.{Listed}
 use Rattle.frames.specs.Written.{FitsLine}
@@ -20,7 +19,7 @@ use Rattle.reading.proofs.Kept.{declared-later}
 use Rattle.reading.proofs.ListEnds.{entry-taken}
 use Rattle.reading.proofs.ListLaws.{list-append, list-counted}
 use Rattle.reading.proofs.TableLaws.{entries-more}
-use Rattle.intake.specs.Verdicts.{collection_read, IsListing, Accepted, accepted, contradiction, listing}
+use Rattle.intake.specs.Verdicts.{collection_read, IsListing, Accepted, no-list, accepted, listing}
 use Rattle.intake.proofs.VerdictLaws.{well-formed}
 use Rattle.shell.specs.Writes.{IsSound}
 use Rattle.fair_copy.specs.Copy.{frames_text}
@@ -107,7 +106,7 @@ module _ (gs : List Frame) (q : Listed) (w : AreWhole gs q) (unlisted : list_in 
   with-accepted = by is refl
     where
       by : {l : List Entry} → IsListOf (collection_read gs q) l → l ≡ list → Accepted with_list
-      by (no-sheet c) e = contradiction q with-asks (subst Contradiction (sym with-read) c)
+      by (no-sheet c) e = no-list (with-listed ∙ sym e)
       by (of-sheet {list = l} sane h) e =
           listing q with-asks
           (subst (λ (c : Collection). IsListing c (list_in with_list)) (sym with-read)

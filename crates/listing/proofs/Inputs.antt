@@ -1,5 +1,5 @@
 -- Laws of what the lister writes of an input.
-use Rattle.std.specs.Prelude.{◌≡◌, refl, ◌↔◌, ◌+◌, ◌*◌, ◌≤◌, ℕ, List, [], ◌∷◌, ◌++◌, map, length}
+use Rattle.std.specs.Prelude.{◌≡◌, ◌≢◌, refl, ◌↔◌, false, ◌+◌, ◌*◌, ◌≤◌, ℕ, List, [], ◌∷◌, ◌++◌, map, length}
 use Rattle.std.proofs.Common.{sym, ap, ap₂, ◌∙◌, subst, length-append, arith}
 use Rattle.std.proofs.lemmas.List.{map-append, length-map}
 use Rattle.meaning.specs.Lent.{Tables}
@@ -12,23 +12,24 @@ use Rattle.frames.specs.declared.Frame.{Frame}
 use Rattle.reading.specs.declared.File.{File}
 use Rattle.reading.specs.declared.Refusal.{Refusal}
 use Rattle.reading.specs.Refusal.{refusal_number}
-use Rattle.reading.specs.Tables.{Entry, frame_of, list_in}
+use Rattle.reading.specs.Tables.{Entry, frame_of, list_in, salvages}
 use Rattle.reading.specs.File.{file_of, IsQuestionOf, tables_of, lent_tables}
 use Rattle.reading.proofs.ListEnds.{list-last}
 use Rattle.reading.proofs.Questions.{question-once}
 use Rattle.intake.specs.Verdicts.{collection_read}
 use Rattle.shell.specs.Writes.{IsSound, IsFaulty, fault, said}
 use Rattle.shell.proofs.WritesLaws.{fault-written, said-written, writes-once}
-use Rattle.file.specs.Writes.{IsAsking, frames_width, RepliesTo, Writes}
+use Rattle.file.specs.Writes.{frames_width, Reports, Writes}
+use Rattle.file.proofs.Decided.{plain-reports}
 use Rattle.file.proofs.LeftOut.{held-with, replies-with}
 use Rattle.file.proofs.Sound.{sound-read, sound-accepted, its-listing}
 use Rattle.file.proofs.Widths.{fault-few}
 use Rattle.fair_copy.specs.Asking.{asks_of}
-use Rattle.fair_copy.specs.Copy.{IsCopyOf, frames_text, WritesCopy}
+use Rattle.fair_copy.specs.Copy.{IsReadAs, IsCopyOf, frames_text, WritesCopy}
 use Rattle.fair_copy.specs.Laws.{SameCollection}
 use Rattle.fair_copy.proofs.Answering.{its-form, behind-same, behind-replies}
-use Rattle.fair_copy.proofs.Asked.{behind, behind-whole, behind-unlisted}
-use Rattle.fair_copy.proofs.Copied.{typed_by, copy-whole, copy-unlisted}
+use Rattle.fair_copy.proofs.Asked.{behind, behind-plain, behind-whole, behind-unlisted}
+use Rattle.fair_copy.proofs.Copied.{typed_by, copy-whole, copy-plain, copy-unlisted}
 use Rattle.fair_copy.proofs.Fits.{are-whole}
 use Rattle.fair_copy.proofs.Inputs.{input-once, input-fits}
 use Rattle.fair_copy.proofs.Order.{copy-once}
@@ -58,6 +59,10 @@ lists-once fs text out a b =
 pub input-listed-once : (input text out : List ℕ) → WritesListing input text → WritesListing input out → text ≡ out
 input-listed-once = writes-once CopiesAndLists (λ fs t. lists-once fs)
 
+-- a list does not choose salvage
+with-plain : (gs : List Frame) → gs ≢ [] → (list : List Entry) → salvages gs ≡ false → salvages (gs ++ map frame_of list) ≡ false
+with-plain gs begun list none = ap (λ (f : File). f.salvages) (held-with gs begun list) ∙ none
+
 -- with a list behind it a file is the same collection
 module _ (gs : List Frame) (q : Listed) (w : AreWhole gs q) (list : List Entry) where
   appended-same : SameCollection gs q (gs ++ map frame_of list) q
@@ -82,7 +87,7 @@ module _ (gs : List Frame) (q : Listed) (w : AreWhole gs q) (list : List Entry) 
       }
 
 -- what is written of a sound input is the text of its copy and of its list
-module _ (input out : List ℕ) (wrote : WritesListing input out) (fs : List Frame) (q : Listed) (h : IsAsking input fs q) where
+module _ (input out : List ℕ) (wrote : WritesListing input out) (fs : List Frame) (q : Listed) (h : IsReadAs input fs q) where
   the_whole : AreWhole fs q
   the_whole = are-whole input fs q h.sound h.question
 
@@ -149,6 +154,7 @@ module _ (input out : List ℕ) (wrote : WritesListing input out) (fs : List Fra
     list = list;
     is = its_list.listed;
     sound = both-sound;
+    plain = with-plain copy copied-whole.are.begun list (copy-plain fs q the_whole copy its_list.fair);
     question = typed;
     asks = both-asks;
     same = both-same;
@@ -213,8 +219,8 @@ module _ (input out : List ℕ) (wrote : WritesListing input out) (fs : List Fra
           }
 
   -- THEOREM: with the asks of the file between copy and list, the desk writes of it what it writes of the file
-  pub answers-between : AnswersBetween input fs out
-  answers-between = record {
+  pub answers-between : salvages fs ≡ false → AnswersBetween input fs out
+  answers-between free = record {
     copy = frames_text copy;
     list = frames_text (map frame_of list);
     parts = its_list.written ∙ text-append copy (map frame_of list);
@@ -234,18 +240,21 @@ module _ (input out : List ℕ) (wrote : WritesListing input out) (fs : List Fra
           text-append gs (map frame_of list)
           ∙ ap (λ (x : List ℕ). x ++ frames_text (map frame_of list)) (text-append copy (asks_of fs)) in
           let s = subst (λ (x : List ℕ). IsSound x (gs ++ map frame_of list)) e (with-sound gs r v none list l) in
-          let a = said-written (RepliesTo frames_width) _ (gs ++ map frame_of list) s answers in
+          let plain = with-plain gs v.are.begun list (behind-plain fs q the_whole copy its_list.fair) in
+          let a = said-written (Reports frames_width) _ (gs ++ map frame_of list) s answers in
+          let a' = plain-reports {width = frames_width} {fs = gs ++ map frame_of list} {text = answers} plain in
           let b = replies-with gs v.are.begun list answers in
           let c = behind-replies fs q the_whole copy its_list.fair answers in
-          let d = said-written (RepliesTo frames_width) input fs h.sound answers in
-          (λ w. d.1 (c.0 (b.0 (a.0 w))), λ w. a.1 (b.1 (c.1 (d.0 w))))
+          let d' = plain-reports {width = frames_width} {fs = fs} {text = answers} free in
+          let d = said-written (Reports frames_width) input fs h.sound answers in
+          (λ w. d.1 (d'.1 (c.0 (b.0 (a'.0 (a.0 w))))), λ w. a.1 (a'.1 (b.1 (c.1 (d'.0 (d.0 w))))))
 
 -- the question of a sound input of which something is written
 module _ (input out : List ℕ) (wrote : WritesListing input out) (fs : List Frame) (h : IsSound input fs) where
   its-question : (q : Listed) × IsQuestionOf fs q
   its-question = let c = (said-written CopiesAndLists input fs h out).0 wrote in (c.question, c.is)
 
-  asking : IsAsking input fs its-question.0
+  asking : IsReadAs input fs its-question.0
   asking = record { sound = h; question = its-question.1 }
 
   pub its-text-again : WritesListing out out
@@ -254,7 +263,7 @@ module _ (input out : List ℕ) (wrote : WritesListing input out) (fs : List Fra
   pub its-copy : (copy : List ℕ) → WritesCopy out copy ↔ WritesCopy input copy
   its-copy = listed-copied input out wrote fs its-question.0 asking
 
-  pub its-answers : AnswersBetween input fs out
+  pub its-answers : salvages fs ≡ false → AnswersBetween input fs out
   its-answers = answers-between input out wrote fs its-question.0 asking
 
 -- THEOREM: of a faulty input the lister writes what the desk writes
@@ -262,7 +271,7 @@ pub faulty-alike : (input : List ℕ) (before : List Frame) (r : Refusal) → Is
     → WritesListing input text ↔ Writes input text
 faulty-alike input before r h text =
     let a = fault-written CopiesAndLists input before r h text in
-    let b = fault-written (RepliesTo frames_width) input before r h text in
+    let b = fault-written (Reports frames_width) input before r h text in
     (λ x. b.1 (a.0 x), λ x. a.1 (b.0 x))
 
 -- the line of an entry has 17 characters, with its end

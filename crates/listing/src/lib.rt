@@ -2,7 +2,7 @@
 // its fair copy, and behind it the list of its closed sheet.
 #![tactic(auto)]
 
-ghost use Rattle.std.specs.Prelude.{◌≡◌, ◌≢◌, ◌↔◌, ◌≤◌, ℕ, List, [], Err, IfSome, IsOk, IsTrue, OnOk, drop, take};
+ghost use Rattle.std.specs.Prelude.{◌≡◌, ◌≢◌, ◌↔◌, ◌≤◌, ℕ, false, List, [], Err, IfSome, IsOk, IsTrue, OnOk, drop, take};
 ghost use Rattle.std.specs.Io.KnownBytes.{Keeps, Appends};
 ghost use Rattle.std.specs.declared.io.Error.{Error};
 ghost use Rattle.streams.specs.Takes.{TakesStart};
@@ -11,8 +11,9 @@ ghost use Rattle.frames.specs.declared.Frame.{Frame};
 ghost use Rattle.reading.specs.declared.Refusal.{Refusal};
 ghost use Rattle.shell.specs.Reports.{OneOf};
 ghost use Rattle.shell.specs.Writes.{IsSound, IsFaulty};
-ghost use Rattle.file.specs.Writes.{IsAsking, Writes};
-ghost use Rattle.fair_copy.specs.Copy.{WritesCopy};
+ghost use Rattle.reading.specs.Tables.{salvages};
+ghost use Rattle.file.specs.Writes.{Writes};
+ghost use Rattle.fair_copy.specs.Copy.{IsReadAs, WritesCopy};
 ghost use Rattle.listing.specs.Lists.{WritesListing};
 ghost use Rattle.listing.specs.Laws.{ReadsAsListed, HasItsList, AnswersBetween};
 ghost use Rattle.listing.specs.Kept.{IsItsListing};
@@ -46,7 +47,7 @@ pub fn list(input: &[u8], text: &mut [u8; MOST_TEXT]) -> usize
 
     // What is written of a sound input is sound: its list is accepted. It has the copy of the input, and is written again as
     // it is.
-    ensures reads { (fs : List Frame) (q : Listed) → IsAsking input.now fs q
+    ensures reads { (fs : List Frame) (q : Listed) → IsReadAs input.now fs q
         → ReadsAsListed fs q (take result text.new) }
     ensures copied { let out = take result text.new in
         (fs : List Frame) → IsSound input.now fs → (copy : List ℕ)
@@ -54,12 +55,14 @@ pub fn list(input: &[u8], text: &mut [u8; MOST_TEXT]) -> usize
     ensures again { let out = take result text.new in
         (fs : List Frame) → IsSound input.now fs → WritesListing out out }
 
-    // The list of a sound input that has one, and is no contradiction, is what is written behind the copy.
-    ensures its_list { (fs : List Frame) (q : Listed) → IsAsking input.now fs q
+    // The list of a sound input that has one, and is no contradiction, as its facts are typed, is what is written behind the
+    // copy.
+    ensures its_list { (fs : List Frame) (q : Listed) → IsReadAs input.now fs q
         → HasItsList input.now fs q (take result text.new) }
 
-    // The desk answers it, with the asks of the input between copy and list, as it answers the input.
-    ensures answered { (fs : List Frame) → IsSound input.now fs
+    // The desk answers it, with the asks of the input between copy and list, as it answers the input, where that chooses no
+    // salvage.
+    ensures answered { (fs : List Frame) → IsSound input.now fs → salvages fs ≡ false
         → AnswersBetween input.now fs (take result text.new) }
 {
     match shell::answer(input, &Lister, text) {

@@ -24,7 +24,7 @@ use Rattle.streams.specs.Lines.{lines}
 use Rattle.kinds.specs.Asks.{AskDeclared}
 use Rattle.tables.specs.Asks.{ask_by}
 use Rattle.frames.specs.declared.Frame.{Frame}
-use Rattle.frames.specs.declared.Frame.TheVariants.{Declared, ConceptRule, ConceptExclusion, RoleRule, RoleExclusion, ConceptFact, RoleFact, RoleStep, TestStep, Final, Ask, AskFrom, Allowance, Expression, ListedMark}
+use Rattle.frames.specs.declared.Frame.TheVariants.{Declared, ConceptRule, ConceptExclusion, RoleRule, RoleExclusion, ConceptFact, RoleFact, RoleStep, TestStep, Final, Ask, AskFrom, Allowance, Expression, Salvage, ListedMark}
 use Rattle.reading.specs.Tables.{Kind, concept_rules, concept_exclusions, role_rules, role_exclusions, concept_facts, role_facts, steps, finals, asks, listed, record_in, width, most, entries, table, declared_by, expression_given}
 use Rattle.reading.specs.File.{file_of, typed_question, IsQuestion, asked}
 use Rattle.reading.specs.Reading.{Verdict, sound, frames_of, Reading, empty, whole, stopped, onward, Taken, none, more}
@@ -114,6 +114,7 @@ passing-more before f t p h g m kind l = side (Memᴰ.append_cases before m)
     new (TestStep s A u) q go = go q.in_place.0.begun
     new (Final s) q go = go q.in_place.0.begun
     new (Expression row) q go = go q.in_place.0.begun
+    new Salvage q go = go q.in_place.0.begun
     new (ListedMark n s u B) q go = go q.in_place
     new o q go = go q.in_place.begun
 

@@ -8,11 +8,11 @@ use Rattle.meaning.specs.Lent.{concept_fact_width, role_fact_width}
 use Rattle.meaning.specs.Deeds.{SameButLast, SameButDeeds}
 use Rattle.expression.specs.Listed.{Listed}
 use Rattle.frames.specs.declared.Frame.{Frame}
-use Rattle.frames.specs.declared.Frame.TheVariants.{Declared, ConceptFact, RoleFact, RoleStep, TestStep, Final, Allowance, Expression, ListedMark}
+use Rattle.frames.specs.declared.Frame.TheVariants.{Declared, ConceptFact, RoleFact, RoleStep, TestStep, Final, Allowance, Expression, Salvage, ListedMark}
 use Rattle.frames.proofs.Once.{frame-once}
 use Rattle.reading.specs.declared.Refusal.{Refusal}
 use Rattle.reading.specs.declared.Refusal.TheVariants.{OutOfPlace}
-use Rattle.reading.specs.Tables.{Kind, concept_rules, concept_exclusions, role_rules, role_exclusions, concept_facts, role_facts, steps, finals, listed, record_in, width, entries, table, declared_by, allowance_given, expression_given}
+use Rattle.reading.specs.Tables.{Kind, concept_rules, concept_exclusions, role_rules, role_exclusions, concept_facts, role_facts, steps, finals, listed, record_in, width, entries, table, declared_by, allowance_given, expression_given, salvages}
 use Rattle.reading.specs.File.{IsQuestionOf, tables_of}
 use Rattle.reading.specs.Judged.{IsOpen, InPlace, CountsOk, HasRoom, NumbersOk, AskOk, IsShallow, IsExpressed, IsShaped, Judged}
 use Rattle.reading.specs.Reading.{Finds, unread, refused, taken, Verdict, faulty, sound, Reading, empty, whole, stopped, onward}
@@ -94,6 +94,13 @@ expression-same (next (same (Expression row)) s) = refl
 expression-same (next (same f) s) = expression-same s
 expression-same (next (concept A a n m) s) = expression-same s
 expression-same (next (role r a b n m) s) = expression-same s
+
+pub choice-same : {fs gs : List Frame} → Alike fs gs → salvages fs ≡ salvages gs
+choice-same ended = refl
+choice-same (next (same Salvage) s) = refl
+choice-same (next (same f) s) = choice-same s
+choice-same (next (concept A a n m) s) = choice-same s
+choice-same (next (role r a b n m) s) = choice-same s
 
 -- a record more at the front of two tables, with the same fields but the last
 module _ (width : ℕ) (step : (n k : ℕ) → suc k < (width + n) / width → k < n / width) where
@@ -217,6 +224,7 @@ module _ {before after : List Frame} (s : Alike before after) where
         λ h. (open-same.0 h.0, none-typed.0 h.1, sym d ∙ h.2, sym e ∙ h.3),
         λ h. (open-same.1 h.0, none-typed.1 h.1, d ∙ h.2, e ∙ h.3),
       )
+  place-same (same Salvage) = let e = choice-same s in not-none (λ h. sym e ∙ h) (λ h. e ∙ h)
   place-same (same (ListedMark n p t B)) = some-before
   place-same (same f) = open-same
   place-same (concept A a n m) = open-same

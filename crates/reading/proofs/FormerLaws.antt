@@ -1,5 +1,5 @@
 -- What a file was found to be while there were at most 16 states, beside what it is found to be today.
-use Rattle.std.specs.Prelude.{ℕ, ◌<◌, ◌≤◌, ◌≡◌, ◌≢◌, ◌↔◌, ◌+◌, ◌⊎◌, All, IsSome, List, [], ◌∷◌, ◌++◌, Result, Ok, Err, length}
+use Rattle.std.specs.Prelude.{ℕ, false, ◌<◌, ◌≤◌, ◌≡◌, ◌≢◌, ◌↔◌, ◌+◌, ◌⊎◌, All, IsSome, List, [], ◌∷◌, ◌++◌, Result, Ok, Err, length}
 use Rattle.std.proofs.Common.{refl, ap, ◌∙◌, arith, inl, inr, append_assoc}
 use Rattle.std.proofs.lemmas.List.Elements.{All-nil, All-cons, All-head, All-tail}
 use Rattle.std.proofs.Math.Decide.{ℕ_discrete, dec_le, dec_lt}
@@ -8,18 +8,19 @@ use Rattle.laws.specs.First.{fails, holds}
 use Rattle.frames.specs.Digits.{bytes}
 use Rattle.frames.specs.Frames.{FrameOf}
 use Rattle.frames.specs.declared.Frame.{Frame}
-use Rattle.frames.specs.declared.Frame.TheVariants.{Declared, RoleStep, TestStep, Final, Allowance, ListedMark}
+use Rattle.frames.specs.declared.Frame.TheVariants.{Declared, RoleStep, TestStep, Final, Allowance, Salvage, ListedMark}
 use Rattle.frames.specs.declared.Misread.{Misread}
 use Rattle.frames.proofs.Once.{frame-once}
 use Rattle.reading.specs.declared.Refusal.{Refusal}
-use Rattle.reading.specs.Tables.{Kind, steps, finals, entries, entry_in, list_in, declared_by}
+use Rattle.reading.specs.Tables.{Kind, steps, finals, entries, entry_in, list_in, declared_by, is_salvage, salvages}
 use Rattle.reading.specs.Tables as table
 use Rattle.reading.specs.Judged.{InPlace, Judged}
 use Rattle.reading.specs.Reading.{Finds, unread, refused, taken, Verdict, faulty, sound, Reading, empty, whole, stopped, onward}
 use Rattle.meaning.specs.Former.{former_states}
-use Rattle.reading.specs.Former.{former_line, former_allowance, former_steps, former_finals, WasFull, FrameWasRefused, wide, unknown, many, full, WasRefused, long, framed, FormerFinds, was_refused, as_today, FormerReading, IsFormerFault, FormerLine, FormerLimits}
+use Rattle.reading.specs.Former.{former_line, former_allowance, former_steps, former_finals, WasFull, FrameWasRefused, wide, unknown, unknown_choice, many, full, WasRefused, long, framed, FormerFinds, was_refused, as_today, FormerReading, IsFormerFault, FormerLine, FormerLimits}
 use Rattle.reading.proofs.Once.{finds-once, once-by}
 use Rattle.reading.proofs.Passed.{passed}
+use Rattle.reading.proofs.Bounds.{chosen-same, choice-stands}
 use Rattle.reading.proofs.Kept.{declared-later}
 use Rattle.reading.proofs.ListLaws.{list-none, list-same, entry-listed, sound-extends}
 use Rattle.reading.proofs.TableLaws.{added, entries-more, entries-cons, entries-append}
@@ -55,6 +56,9 @@ module _ {before : List Frame} {line : List ℕ} where
   frame-once-refused (unknown n s t B) (unknown m u v C) = refl
   frame-once-refused (unknown n s t B) (full g q k) = absurd k
   frame-once-refused (full f p h) (unknown n s t B) = absurd h
+  frame-once-refused unknown_choice unknown_choice = refl
+  frame-once-refused unknown_choice (full g q k) = absurd k
+  frame-once-refused (full f p h) unknown_choice = absurd h
   frame-once-refused (many c p h) (many d q k) = refl
   frame-once-refused (full f p h) (full g q k) = refl
   frame-once-refused (wide n h) (full g q k) = absurd k
@@ -89,6 +93,7 @@ its-fault : {before : List Frame} {line : List ℕ} {r : Refusal} → WasRefused
 its-fault (long h) = tt
 its-fault (framed f r h i (wide n k)) = tt
 its-fault (framed f r h i (unknown n s t B)) = tt
+its-fault (framed f r h i unknown_choice) = tt
 its-fault (framed f r h i (many c p k)) = tt
 its-fault (framed f r h i (full g p k)) = tt
 
@@ -152,6 +157,7 @@ module _ (before : List Frame) (line : List ℕ) where
       only : (q : Refusal) → FrameWasRefused before line (Final s) q → InPlace before (Final s) × WasFull before (Final s)
       only q (full f i h) = (i, h)
   frame-was (ListedMark n s t B) p = inl (_, unknown n s t B)
+  frame-was Salvage p = inl (_, unknown_choice)
   frame-was f p = inr none
     where
       none : (q : Refusal) → ¬ FrameWasRefused before line f q
@@ -199,10 +205,11 @@ record Few (fs : List Frame) : Type 0 where
   steps : entries table.steps fs ≤ former_steps
   finals : entries table.finals fs ≤ former_finals
   no_list : list_in fs ≡ []
+  no_choice : salvages fs ≡ false
 
 none_few : Few []
 unfolding entries
-none_few = record { states = omega arith; steps = omega arith; finals = omega arith; no_list = list-none }
+none_few = record { states = omega arith; steps = omega arith; finals = omega arith; no_list = list-none; no_choice = refl }
 
 -- a frame that was not refused leaves them few
 module _ (before : List Frame) (line : List ℕ) where
@@ -220,6 +227,7 @@ module _ (before : List Frame) (line : List ℕ) where
     steps = omega (arith, entries-more table.steps before (Declared c), few.steps);
     finals = omega (arith, entries-more table.finals before (Declared c), few.finals);
     no_list = list-same before (Declared c) refl ∙ few.no_list;
+    no_choice = chosen-same before (Declared c) refl ∙ few.no_choice;
   }
   few-more (RoleStep s R t) p n few = record {
     states = states-more (RoleStep s R t) few.states (omega arith);
@@ -228,6 +236,7 @@ module _ (before : List Frame) (line : List ℕ) where
         omega (arith, entries-more table.steps before (RoleStep s R t), room);
     finals = omega (arith, entries-more table.finals before (RoleStep s R t), few.finals);
     no_list = list-same before (RoleStep s R t) refl ∙ few.no_list;
+    no_choice = chosen-same before (RoleStep s R t) refl ∙ few.no_choice;
   }
   few-more (TestStep s A t) p n few = record {
     states = states-more (TestStep s A t) few.states (omega arith);
@@ -236,6 +245,7 @@ module _ (before : List Frame) (line : List ℕ) where
         omega (arith, entries-more table.steps before (TestStep s A t), room);
     finals = omega (arith, entries-more table.finals before (TestStep s A t), few.finals);
     no_list = list-same before (TestStep s A t) refl ∙ few.no_list;
+    no_choice = chosen-same before (TestStep s A t) refl ∙ few.no_choice;
   }
   few-more (Final s) p n few = record {
     states = states-more (Final s) few.states (omega arith);
@@ -244,13 +254,16 @@ module _ (before : List Frame) (line : List ℕ) where
         let room : entries table.finals before < former_finals = below (λ h. n _ (full (Final s) p (omega (arith, h)))) in
         omega (arith, entries-more table.finals before (Final s), room);
     no_list = list-same before (Final s) refl ∙ few.no_list;
+    no_choice = chosen-same before (Final s) refl ∙ few.no_choice;
   }
+  few-more Salvage p n few = absurd (n _ unknown_choice)
   few-more (ListedMark k s t B) p n few = absurd (n _ (unknown k s t B))
   few-more f p n few = record {
     states = states-more f few.states (omega arith);
     steps = omega (arith, entries-more table.steps before f, few.steps);
     finals = omega (arith, entries-more table.finals before f, few.finals);
     no_list = list-same before f refl ∙ few.no_list;
+    no_choice = chosen-same before f refl ∙ few.no_choice;
   }
 
   -- of a line that was taken
@@ -269,7 +282,7 @@ module _ (before : List Frame) (line : List ℕ) where
 
 was-within : {before : List Frame} {ls : List (List ℕ)} {fs : List Frame} → FormerReading before ls (sound fs) → Few before → FormerLimits ls fs
 was-within (whole f fs) few =
-    record { lines = All-nil FormerLine; states = few.states; steps = few.steps; finals = few.finals; no_list = few.no_list }
+    record { lines = All-nil FormerLine; states = few.states; steps = few.steps; finals = few.finals; no_list = few.no_list; no_choice = few.no_choice }
 was-within (onward before line ls f v h rest) few =
     let later = was-within rest (taken-few before line h few) in
     record {
@@ -278,6 +291,7 @@ was-within (onward before line ls f v h rest) few =
       steps = later.steps;
       finals = later.finals;
       no_list = later.no_list;
+      no_choice = later.no_choice;
     }
 
 still-sound : {before : List Frame} {ls : List (List ℕ)} {fs : List Frame} → FormerReading before ls (sound fs) → Reading before ls (sound fs)
@@ -305,6 +319,7 @@ module _ (before : List Frame) (line : List ℕ) (fit : FormerLine line) (rest :
   frame-kept (Allowance n) o few q (wide m h) = h (fit.allowance n o)
   frame-kept (Declared c) o few q (many d p h) = not-first c p few.states h
   frame-kept (ListedMark n s t B) o few q (unknown m u v C) = not-listed (ListedMark n s t B) refl few.no_list
+  frame-kept Salvage o few q unknown_choice = choice-stands before rest few.no_choice
   frame-kept f o few q (full g p h) = not-full f few h
 
   line-kept : (f : Frame) → FrameOf line (Ok f) → Few (before ++ f ∷ rest) → (q : Refusal) → ¬ WasRefused before line q
@@ -324,5 +339,5 @@ was-sound (onward before line ls f (sound fs) (taken g o j) rest) fits few =
 pub former-sound : (ls : List (List ℕ)) (fs : List Frame) → FormerReading [] ls (sound fs) ↔ (Reading [] ls (sound fs) × FormerLimits ls fs)
 former-sound ls fs = (
   λ r. (still-sound r, was-within r none_few),
-  λ h. was-sound h.0 h.1.lines (record { states = h.1.states; steps = h.1.steps; finals = h.1.finals; no_list = h.1.no_list }),
+  λ h. was-sound h.0 h.1.lines (record { states = h.1.states; steps = h.1.steps; finals = h.1.finals; no_list = h.1.no_list; no_choice = h.1.no_choice }),
 )

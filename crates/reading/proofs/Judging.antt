@@ -4,7 +4,7 @@ use Rattle.std.proofs.Common.{refl, arith}
 use Rattle.laws.specs.First as tests
 use Rattle.laws.specs.First.{fails, holds, first-onward, first-passed}
 use Rattle.frames.specs.declared.Frame.{Frame}
-use Rattle.frames.specs.declared.Frame.TheVariants.{Declared, ConceptRule, ConceptExclusion, RoleRule, RoleExclusion, ConceptFact, RoleFact, RoleStep, TestStep, Final, Ask, AskFrom, Allowance, Expression, ListedMark}
+use Rattle.frames.specs.declared.Frame.TheVariants.{Declared, ConceptRule, ConceptExclusion, RoleRule, RoleExclusion, ConceptFact, RoleFact, RoleStep, TestStep, Final, Ask, AskFrom, Allowance, Expression, Salvage, ListedMark}
 use Rattle.reading.specs.declared.File.{File}
 use Rattle.reading.specs.declared.Refusal.{Refusal}
 use Rattle.reading.specs.Tables.{Kind, concept_rules, concept_exclusions, role_rules, role_exclusions, concept_facts, role_facts, steps, finals, asks, listed, record_in, most, entries, table}
@@ -36,6 +36,7 @@ module _ (before : List Frame) where
   in_place (TestStep s A t) = (λ h. (same_open.0 h.0, h.1), λ h. (same_open.1 h.0, h.1))
   in_place (Final s) = (λ h. (same_open.0 h.0, h.1), λ h. (same_open.1 h.0, h.1))
   in_place (Expression row) = (λ h. (same_open.0 h.0, h.1, h.2, h.3), λ h. (same_open.1 h.0, h.1, h.2, h.3))
+  in_place Salvage = (λ h. (same_open.0 h.0, h.1), λ h. (same_open.1 h.0, h.1))
   in_place (ListedMark n s t B) = begun before
   in_place f = same_open
 

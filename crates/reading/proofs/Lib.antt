@@ -2,6 +2,7 @@ pub mod TableLaws
 pub mod ListLaws
 pub mod Passed
 pub mod Bounds
+pub mod TypedLaws
 pub mod Kept
 pub mod Judging
 pub mod RoomLaws
@@ -20,3 +21,8 @@ pub mod Listed
 pub mod DeedLaws
 pub mod Allowance
 pub mod ShelfLaws
+pub mod RetainLaws
+pub mod KeptFrames
+pub mod RetainedLaws
+pub mod FactsRead
+pub mod SalvageLaws

@@ -5,7 +5,7 @@ use Rattle.std.proofs.lemmas.List.{map-append}
 use Rattle.laws.specs.First.{holds}
 use Rattle.streams.specs.Lines.{lines}
 use Rattle.frames.specs.declared.Frame.{Frame}
-use Rattle.frames.specs.declared.Frame.TheVariants.{Declared, RoleStep, TestStep, Final, Allowance, Expression, ListedMark}
+use Rattle.frames.specs.declared.Frame.TheVariants.{Declared, RoleStep, TestStep, Final, Allowance, Expression, Salvage, ListedMark}
 use Rattle.reading.specs.declared.File.{File}
 use Rattle.reading.specs.File.{file_of}
 use Rattle.reading.specs.Judged.{InPlace, HasRoom, NumbersOk, Judged}
@@ -26,6 +26,7 @@ none-before before (RoleStep s R t) p e = p.0.no_list
 none-before before (TestStep s A t) p e = p.0.no_list
 none-before before (Final s) p e = p.0.no_list
 none-before before (Expression row) p e = p.0.no_list
+none-before before Salvage p e = p.0.no_list
 none-before before (ListedMark n s t B) p e = absurd cc
 none-before before f p e = p.no_list
 

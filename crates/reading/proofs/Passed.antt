@@ -1,6 +1,6 @@
 -- A frame that is taken has passed every test, and what one more taken frame keeps, all keep.
-use Rattle.std.specs.Prelude.{ℕ, List, [], ◌∷◌, ◌++◌, Ok}
-use Rattle.laws.specs.First.{first-passed}
+use Rattle.std.specs.Prelude.{ℕ, refl, List, [], ◌∷◌, ◌++◌, Ok}
+use Rattle.laws.specs.First.{first-passed, holds}
 use Rattle.frames.specs.declared.Frame.{Frame}
 use Rattle.reading.specs.Tables.{declared_by}
 use Rattle.reading.specs.Reading.{Finds, taken, Taken, none, more}
@@ -27,6 +27,11 @@ passed before f j =
     let i = first-passed h.1 (λ e. cc) in
     let k = first-passed i.1 (λ e. cc) in
     record { in_place = a.0; counts = b.0; room = c.0; numbers = d.0; ask = g.0; shallow = h.0; expressed = i.0; shaped = k.0 }
+
+pub judged_passed : (before : List Frame) (f : Frame) → Passed before f → Judged before f (Ok tt)
+judged_passed before f p =
+    holds p.in_place (holds p.counts (holds p.room (holds p.numbers (holds p.ask
+    (holds p.shallow (holds p.expressed (holds p.shaped refl)))))))
 
 pub judged_ok : {before : List Frame} {line : List ℕ} {f : Frame} → Finds before line (Ok f) → Judged before f (Ok tt)
 judged_ok (taken f o j) = j

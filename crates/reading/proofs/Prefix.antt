@@ -1,4 +1,4 @@
--- The first 3,238,889 bytes of an input decide what reading finds: a sound file has at most 7,714 lines of at most 130
+-- The first 3,239,020 bytes of an input decide what reading finds: a sound file has at most 7,715 lines of at most 130
 -- characters and 131,072 entries of 16, and their ends.
 use Rattle.std.specs.Prelude.{ℕ, zero, suc, ◌+◌, ◌-◌, ◌*◌, ◌<◌, ◌≤◌, ◌≡◌, ◌≢◌, ◌==◌, Bool, true, false, List, [], ◌∷◌, ◌++◌, Ok, Err, length, get_or, take}
 use Rattle.std.proofs.Common.{refl, sym, ap, ◌∙◌, subst, take_all, take-take, length-append, arith}
@@ -38,7 +38,7 @@ entry_bytes = 17
 -- the bytes that hold what may stand behind some frames: one line more than there can be beside the list, and as many entries
 abbrev bytes_behind : List Frame → ℕ
 bytes_behind fs =
-    line_bytes * (7715 + entries listed fs - length fs) + entry_bytes * (most_listed - entries listed fs)
+    line_bytes * (7716 + entries listed fs - length fs) + entry_bytes * (most_listed - entries listed fs)
 
 alike-back : {n : ℕ} {ls ms : List (List ℕ)} → Alike n ls ms → Alike n ms ls
 alike-back (far h) = far h
@@ -204,12 +204,12 @@ by-size (suc k) x n h =
 pub lines-alike : (x : List ℕ) (n : ℕ) → Alike n (lines x) (lines (take n x))
 lines-alike x n = by-size n x n (omega arith)
 
-none-behind : bytes_behind [] ≡ 3238889
+none-behind : bytes_behind [] ≡ 3239020
 unfolding entries
 none-behind = refl
 
--- THEOREM: what reading finds of the first 3,238,889 bytes of an input, or of any more of them, it finds of the whole, and the other way
-module _ (x : List ℕ) (n : ℕ) (h : 3238889 ≤ n) (v : Verdict) where
+-- THEOREM: what reading finds of the first 3,239,020 bytes of an input, or of any more of them, it finds of the whole, and the other way
+module _ (x : List ℕ) (n : ℕ) (h : 3239020 ≤ n) (v : Verdict) where
   pub reading-start : Reading [] (lines x) v → Reading [] (lines (take n x)) v
   reading-start = reading-alike (lines-alike x n) none (omega (arith, none-behind))
 

@@ -11,7 +11,7 @@ use Rattle.expression.specs.Listed.{Listed}
 use Rattle.expression.specs.Answer.{IsAutomatonOf}
 use Rattle.expression.proofs.Clauses.{automaton-once}
 use Rattle.frames.specs.declared.Frame.{Frame}
-use Rattle.frames.specs.declared.Frame.TheVariants.{Declared, ConceptRule, ConceptExclusion, RoleRule, RoleExclusion, ConceptFact, RoleFact, RoleStep, TestStep, Final, Ask, AskFrom, Allowance, Expression, ListedMark}
+use Rattle.frames.specs.declared.Frame.TheVariants.{Declared, ConceptRule, ConceptExclusion, RoleRule, RoleExclusion, ConceptFact, RoleFact, RoleStep, TestStep, Final, Ask, AskFrom, Allowance, Expression, Salvage, ListedMark}
 use Rattle.reading.specs.declared.File.{File}
 use Rattle.reading.specs.Tables.{declared_by, expression_given}
 use Rattle.reading.specs.File.{typed_question, IsQuestion, lent_tables, LendsTables}
@@ -71,6 +71,7 @@ expressing-more before (TestStep s A u) t p h = expressing-later before (TestSte
 expressing-more before (Final s) t p h = expressing-later before (Final s) p.in_place.0.begun refl h
 expressing-more before (Ask a b) t p h = expressing-later before (Ask a b) p.in_place.begun refl h
 expressing-more before (AskFrom a) t p h = expressing-later before (AskFrom a) p.in_place.begun refl h
+expressing-more before Salvage t p h = expressing-later before Salvage p.in_place.0.begun refl h
 expressing-more before (ListedMark n s u B) t p h = expressing-later before (ListedMark n s u B) p.in_place refl h
 
 expressing : (fs : List Frame) → Taken fs → Expressing fs

@@ -1,13 +1,13 @@
 -- A frame that passes its tests leaves less room.
-use Rattle.std.specs.Prelude.{ℕ, zero, suc, ◌+◌, ◌-◌, ◌^◌, ◌<◌, ◌≡◌, List, [], ◌∷◌, ◌++◌, Option, None, Some, Ok, OnOk, Result, length, min}
+use Rattle.std.specs.Prelude.{ℕ, zero, suc, Bool, true, false, ◌+◌, ◌-◌, ◌^◌, ◌<◌, ◌≡◌, List, [], ◌∷◌, ◌++◌, Option, None, Some, Ok, OnOk, Result, length, min}
 use Rattle.std.proofs.Common.{refl, arith, length-append}
 use Rattle.kinds.specs.Kinds.{number_of}
 use Rattle.frames.specs.declared.Frame.{Frame}
-use Rattle.frames.specs.declared.Frame.TheVariants.{Declared, ConceptRule, ConceptExclusion, RoleRule, RoleExclusion, ConceptFact, RoleFact, RoleStep, TestStep, Final, Ask, AskFrom, Allowance, Expression, ListedMark}
+use Rattle.frames.specs.declared.Frame.TheVariants.{Declared, ConceptRule, ConceptExclusion, RoleRule, RoleExclusion, ConceptFact, RoleFact, RoleStep, TestStep, Final, Ask, AskFrom, Allowance, Expression, Salvage, ListedMark}
 use Rattle.reading.specs.declared.File.{File}
 use Rattle.reading.specs.declared.Refusal.{Refusal}
 use Rattle.reading.specs.File.{file_with, RoomIn}
-use Rattle.reading.specs.Room.{table_room, list_room, once_room, first_room, room_left}
+use Rattle.reading.specs.Room.{table_room, list_room, once_room, choice_room, first_room, room_left}
 use Rattle.reading.specs.Tables.{Kind, concept_rules, concept_exclusions, role_rules, role_exclusions, concept_facts, role_facts, steps, finals, asks, width, most_listed}
 use Rattle.reading.specs.Turns.{FrameJudged, Passes}
 use Rattle.reading.proofs.Judging.{first}
@@ -24,6 +24,10 @@ list_less n room = omega arith
 once_less : {A : Type 0} (o : Option A) (x : A) → o ≡ None → once_room (Some x) < once_room o
 unfolding once_room
 once_less o x e = rw e (omega arith)
+
+choice_less : (b : Bool) → b ≡ false → choice_room true < choice_room b
+unfolding choice_room
+choice_less b e = rw e (omega arith)
 
 -- behind any line no line is the first
 first-none : (n : ℕ) → 0 < n → first_room n ≡ 0
@@ -64,6 +68,7 @@ room_less file (AskFrom a) p =
     let less = table_less asks file.asks (1 ∷ a.0 ∷ 0 ∷ []) (omega arith) refl p.room in omega (arith, counted-first file.lines, less)
 room_less file (Allowance n) p = omega (arith, counted-first file.lines, once_less file.allowance n p.in_place.1)
 room_less file (Expression row) p = omega (arith, counted-first file.lines, once_less file.expression row p.in_place.1)
+room_less file Salvage p = omega (arith, counted-first file.lines, choice_less file.salvages p.in_place.1)
 room_less file (ListedMark n s t B) p = omega (arith, counted-first file.lines, list_less file.listed p.room)
 
 pub room_kept : (file new : File) (f : Frame) (r : Result (Unit {0}) Refusal) → FrameJudged file f (Ok tt)

@@ -1,5 +1,5 @@
 -- What a shelf of records holds, as the flat list that callers see.
-use Rattle.std.specs.Prelude.{◌≡◌, refl, List, [], ◌∷◌, ◌++◌, ℕ, zero, suc, ◌+◌, ◌*◌, ◌<◌, ◌≤◌, length, take, slice_set}
+use Rattle.std.specs.Prelude.{◌≡◌, refl, Bool, true, false, List, [], ◌∷◌, ◌++◌, ℕ, zero, suc, ◌+◌, ◌*◌, ◌<◌, ◌≤◌, length, take, slice_set}
 use Rattle.std.proofs.Common.{ap, ◌∙◌, arith}
 use Rattle.std.proofs.Math.Nat.{mul-le-mul_left, lt_of_not-le}
 use Rattle.std.proofs.lemmas.List.{take_more_set, length-take-le, append-nil}
@@ -8,11 +8,19 @@ use Rattle.laws.specs.Member.{all-out, all-in}
 use Rattle.meaning.specs.Lent.{Whole}
 use Rattle.sorted.specs.Rows.{rows, flat, AreWide, AreTidied, IsTidied}
 use Rattle.sorted.proofs.Chunks.{length-flat, flat-rows, rows-flat, rows-wide, whole-flat}
+use Rattle.salvage.specs.Salvages.{marked}
+use Rattle.reading.specs.Records.{kept_records}
 use Rattle.reading.specs.Shelves.{HoldsRecords}
 
 wide-more : (w : ℕ) (l : List (List ℕ)) (r : List ℕ) → AreWide w l → length r ≡ w → AreWide w (l ++ r ∷ [])
 wide-more w [] r h e = (e, tt)
 wide-more w (s ∷ l) r h e = (h.0, wide-more w l r h.1 e)
+
+wide-marked : (w : ℕ) (l : List (List ℕ)) (marks : List Bool) → AreWide w l → AreWide w (marked true l marks)
+wide-marked w [] marks h = tt
+wide-marked w (r ∷ l) [] h = h
+wide-marked w (r ∷ l) (true ∷ marks) h = (h.0, wide-marked w l marks h.1)
+wide-marked w (r ∷ l) (false ∷ marks) h = wide-marked w l marks h.1
 
 module _ {w n used : ℕ} {records : List (List ℕ)} (h : HoldsRecords w n used records) (long : length records ≡ n) where
   pub held-long : length (flat (take used records)) ≡ w * used
@@ -74,3 +82,11 @@ module _ {w n used : ℕ} {records : List (List ℕ)} (h : HoldsRecords w n used
         whole = whole-flat w h.place.wide (take k new) kept-wide;
         tidied = rw (rows-flat w h.place.wide (take used records) h.wide, rows-flat w h.place.wide (take k new) kept-wide) a;
       }
+
+    -- and those that are marked
+    module _ (marks : List Bool) (front : take k new ≡ marked true (take used records) marks) where
+      pub holds-marked : HoldsRecords w n k new
+      holds-marked = record { place = h.place; few = few; wide = rw front (wide-marked w (take used records) marks h.wide) }
+
+      pub held-marked : flat (take k new) ≡ kept_records w (flat (take used records)) marks
+      held-marked = rw (rows-flat w h.place.wide (take used records) h.wide) (ap flat front)

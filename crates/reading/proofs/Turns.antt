@@ -4,7 +4,7 @@ use Rattle.std.proofs.Common.{refl, ap, ◌∙◌, arith}
 use Rattle.kinds.specs.Kinds.{most_states, CountsFit}
 use Rattle.frames.specs.Frames.{FrameOf}
 use Rattle.frames.specs.declared.Frame.{Frame}
-use Rattle.frames.specs.declared.Frame.TheVariants.{Declared, ConceptRule, ConceptExclusion, RoleStep, TestStep, Final, Allowance, Expression, ListedMark}
+use Rattle.frames.specs.declared.Frame.TheVariants.{Declared, ConceptRule, ConceptExclusion, RoleStep, TestStep, Final, Allowance, Expression, Salvage, ListedMark}
 use Rattle.frames.specs.declared.Misread.{Misread}
 use Rattle.frames.specs.Written.{byte, FitsLine}
 use Rattle.frames.proofs.WrittenBack.{read-fits}
@@ -36,6 +36,7 @@ fitting-more before (RoleStep s R u) t p h n = fitting-later before (RoleStep s 
 fitting-more before (TestStep s A u) t p h n = fitting-later before (TestStep s A u) h p.in_place.0.begun
 fitting-more before (Final s) t p h n = fitting-later before (Final s) h p.in_place.0.begun
 fitting-more before (Expression row) t p h n = fitting-later before (Expression row) h p.in_place.0.begun
+fitting-more before Salvage t p h n = fitting-later before Salvage h p.in_place.0.begun
 fitting-more before (ListedMark m s u B) t p h n = fitting-later before (ListedMark m s u B) h p.in_place
 fitting-more before f t p h n = fitting-later before f h p.in_place.begun
 

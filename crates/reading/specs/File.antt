@@ -1,6 +1,6 @@
 -- What each ask is as a call of the library (docs/RULES.md, section 8); and what is held of the
 -- frames that are read, each fact about them in its own field.
-use Rattle.std.specs.Prelude.{ℕ, ◌+◌, ◌*◌, ◌^◌, ◌<◌, ◌≤◌, ◌≡◌, ◌-◌, List, [], ◌∷◌, ◌++◌, Option, None, Some, IfSome, ⊤, length, min, unwrap_or}
+use Rattle.std.specs.Prelude.{ℕ, true, false, ◌+◌, ◌*◌, ◌^◌, ◌<◌, ◌≤◌, ◌≡◌, ◌-◌, List, [], ◌∷◌, ◌++◌, Option, None, Some, IfSome, ⊤, length, min, nat_lt, if◌then◌else◌, unwrap_or}
 use Rattle.kinds.specs.Kinds.{number_of}
 use Rattle.meaning.specs.Lent.{Tables, Call}
 use Rattle.meaning.specs.Demands.{most_rounds}
@@ -10,9 +10,10 @@ use Rattle.tables.specs.Asks.{read_ask}
 use Rattle.expression.specs.Listed.{Listed}
 use Rattle.expression.specs.Answer.{IsAutomatonOf}
 use Rattle.frames.specs.declared.Frame.{Frame}
-use Rattle.frames.specs.declared.Frame.TheVariants.{Declared, ConceptRule, ConceptExclusion, RoleRule, RoleExclusion, ConceptFact, RoleFact, RoleStep, TestStep, Final, Ask, AskFrom, Allowance, Expression, ListedMark}
+use Rattle.frames.specs.declared.Frame.TheVariants.{Declared, ConceptRule, ConceptExclusion, RoleRule, RoleExclusion, ConceptFact, RoleFact, RoleStep, TestStep, Final, Ask, AskFrom, Allowance, Expression, Salvage, ListedMark}
+use Rattle.salvage.specs.declared.Typed.{Typed}
 use Rattle.reading.specs.declared.File.{File}
-use Rattle.reading.specs.Tables.{Kind, concept_rules, concept_exclusions, role_rules, role_exclusions, concept_facts, role_facts, steps, finals, asks, listed, width, most, most_listed, entries, table, declared_by, allowance_given, expression_given, rounds_allowed}
+use Rattle.reading.specs.Tables.{Kind, concept_rules, concept_exclusions, role_rules, role_exclusions, concept_facts, role_facts, steps, finals, asks, listed, width, most, most_listed, most_typed, entries, table, declared_by, allowance_given, expression_given, salvages, typed_in, typed_lines, rounds_allowed}
 
 -- the question of some frames, by their expression if there is one, and by the steps and final
 -- states that they type: of an expression, those of its automaton
@@ -70,6 +71,8 @@ file_of fs = record {
   asks = table asks fs;
   lines = length fs;
   listed = entries listed fs;
+  salvages = salvages fs;
+  typed = typed_lines fs;
 }
 
 -- the question of what is held
@@ -138,6 +141,7 @@ IsInPlace file (TestStep s A t) = HoldsOpen file × (file.expression ≡ None)
 IsInPlace file (Final s) = HoldsOpen file × (file.expression ≡ None)
 IsInPlace file (Expression row) =
     HoldsOpen file × (file.expression ≡ None) × (file.steps ≡ []) × (file.finals ≡ [])
+IsInPlace file Salvage = HoldsOpen file × (file.salvages ≡ false)
 IsInPlace file (ListedMark n s t B) = 0 < file.lines
 IsInPlace file other = HoldsOpen file
 
@@ -188,8 +192,17 @@ fields_with (Ask a b) t = record t { asks = t.asks ++ (0 ∷ a.0 ∷ b.0 ∷ [])
 fields_with (AskFrom a) t = record t { asks = t.asks ++ (1 ∷ a.0 ∷ 0 ∷ []) }
 fields_with (Allowance n) t = record t { allowance = Some n }
 fields_with (Expression row) t = record t { expression = Some row }
+fields_with Salvage t = record t { salvages = true }
 fields_with (ListedMark n s t B) file = record file { listed = file.listed + 1 }
+
+-- what a line types, noted behind what those before it type, as far as there is room
+abbrev pub typed_with : List Typed → Option Typed → List Typed
+typed_with l None = l
+typed_with l (Some x) = if nat_lt (length l) most_typed then l ++ x ∷ [] else l
 
 -- the lines are counted as far as 64 bits count
 abbrev pub file_with : Frame → File → File
-file_with f t = record (fields_with f t) { lines = min (t.lines + 1) (2 ^ 64 - 1) }
+file_with f t = record (fields_with f t) {
+  lines = min (t.lines + 1) (2 ^ 64 - 1);
+  typed = typed_with t.typed (typed_in f);
+}

@@ -1,6 +1,6 @@
 -- What a file was found to be while there were at most 16 states (docs/RULES.md, section 8): each
--- line what it is found to be today, or refused for one of five reasons that refuse no line today.
-use Rattle.std.specs.Prelude.{ℕ, ◌<◌, ◌≤◌, ◌≡◌, ◌≢◌, ◌↔◌, ◌⊎◌, ⊤, All, List, [], Result, Ok, Err, length}
+-- line what it is found to be today, or refused for one of six reasons that refuse no line today.
+use Rattle.std.specs.Prelude.{ℕ, false, ◌<◌, ◌≤◌, ◌≡◌, ◌≢◌, ◌↔◌, ◌⊎◌, ⊤, All, List, [], Result, Ok, Err, length}
 use Rattle.kinds.specs.declared.Concept.{Concept}
 use Rattle.kinds.specs.declared.Counts.{Counts}
 use Rattle.kinds.specs.declared.State.{State}
@@ -8,12 +8,12 @@ use Rattle.meaning.specs.Former.{former_states}
 use Rattle.frames.specs.Digits.{bytes}
 use Rattle.frames.specs.Frames.{FrameOf}
 use Rattle.frames.specs.declared.Frame.{Frame}
-use Rattle.frames.specs.declared.Frame.TheVariants.{Declared, RoleStep, TestStep, Final, Allowance, ListedMark}
+use Rattle.frames.specs.declared.Frame.TheVariants.{Declared, RoleStep, TestStep, Final, Allowance, Salvage, ListedMark}
 use Rattle.reading.specs.declared.Refusal.{Refusal}
 use Rattle.reading.specs.declared.Refusal.TheVariants.{BadCount, BadTable, BadLine, BadFrame}
 use Rattle.reading.specs.Judged.{InPlace}
 use Rattle.reading.specs.Reading.{Finds, Verdict, faulty, sound, ReadingBy, Reading}
-use Rattle.reading.specs.Tables.{steps, finals, entries, list_in, declared_by}
+use Rattle.reading.specs.Tables.{steps, finals, entries, list_in, declared_by, salvages}
 
 -- the most characters of a line, the bytes of a frame 0C with its kind, and the most steps and final
 -- states of a file; the most states are `former_states`
@@ -37,12 +37,13 @@ WasFull before (Final s) = former_finals ≤ entries finals before
 WasFull before other = ⊥
 
 module _ (before : List Frame) (line : List ℕ) where
-  -- the frame of a line was refused: with 10 a long allowance, and an entry of a list, whose kind
-  -- was not known; and where it is in its place, with 4 a line 1 of more states, and with 5 a
-  -- record more
+  -- the frame of a line was refused: with 10 a long allowance, and an entry of a list and the
+  -- choice of salvage, whose kinds were not known; and where it is in its place, with 4 a line 1 of
+  -- more states, and with 5 a record more
   pub data FrameWasRefused : Frame → Refusal → Type 0 where
     wide : (n : ℕ) → bytes line ≢ former_allowance → FrameWasRefused (Allowance n) BadFrame
     unknown : (n : ℕ) (s t : State) (B : Concept) → FrameWasRefused (ListedMark n s t B) BadFrame
+    unknown_choice : FrameWasRefused Salvage BadFrame
     many : (c : Counts) → InPlace before (Declared c) → former_states < c.states
         → FrameWasRefused (Declared c) BadCount
     full : (f : Frame) → InPlace before f → WasFull before f → FrameWasRefused f BadTable
@@ -86,13 +87,15 @@ pub record FormerLine (line : List ℕ) : Type 0 where
   pub short : length line ≤ former_line
   pub allowance : (n : ℕ) → FrameOf line (Ok (Allowance n)) → bytes line ≡ former_allowance
 
--- and a file has no more states, steps and final states than it might have then, and no list
+-- and a file has no more states, steps and final states than it might have then, no list, and no
+-- choice of salvage
 pub record FormerLimits (ls : List (List ℕ)) (fs : List Frame) : Type 0 where
   pub lines : All FormerLine ls
   pub states : (declared_by fs).states ≤ former_states
   pub steps : entries steps fs ≤ former_steps
   pub finals : entries finals fs ≤ former_finals
   pub no_list : list_in fs ≡ []
+  pub no_choice : salvages fs ≡ false
 
 -- a file that was sound is sound, with the same frames, and has no more than that; and each such
 -- file was sound

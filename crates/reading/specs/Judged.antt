@@ -1,6 +1,6 @@
--- The number that refuses a frame, or none (docs/RULES.md, sections 8 and 12): of its tests, in
+-- The number that refuses a frame, or none (docs/RULES.md, sections 8, 12 and 13): of its tests, in
 -- their order, the first that fails.
-use Rattle.std.specs.Prelude.{ℕ, ◌+◌, ◌<◌, ◌≡◌, ◌≢◌, List, [], Result, Ok, Err, None, IsSome, ⊤, ◌∷◌}
+use Rattle.std.specs.Prelude.{ℕ, false, ◌+◌, ◌<◌, ◌≡◌, ◌≢◌, List, [], Result, Ok, Err, None, IsSome, ⊤, ◌∷◌}
 use Rattle.kinds.specs.declared.Counts.{Counts}
 use Rattle.kinds.specs.Kinds.{state, CountsFit, StateDeclared, IndividualDeclared, ConceptDeclared}
 use Rattle.laws.specs.First.{FirstOf, ◌else◌}
@@ -9,20 +9,20 @@ use Rattle.expression.specs.Depth.{TooDeep}
 use Rattle.expression.specs.Fits.{MarksDeclared}
 use Rattle.expression.specs.Answer.{HasMarks}
 use Rattle.frames.specs.declared.Frame.{Frame}
-use Rattle.frames.specs.declared.Frame.TheVariants.{Declared, ConceptRule, ConceptExclusion, RoleRule, RoleExclusion, ConceptFact, RoleFact, RoleStep, TestStep, Final, Ask, AskFrom, Allowance, Expression, ListedMark}
+use Rattle.frames.specs.declared.Frame.TheVariants.{Declared, ConceptRule, ConceptExclusion, RoleRule, RoleExclusion, ConceptFact, RoleFact, RoleStep, TestStep, Final, Ask, AskFrom, Allowance, Expression, Salvage, ListedMark}
 use Rattle.reading.specs.declared.Refusal.{Refusal}
 use Rattle.reading.specs.declared.Refusal.TheVariants.{BadCount, BadTable, BadNumber, BadAsk, OutOfPlace, NoExpression, AnotherShape}
 use Rattle.reading.specs.declared.Refusal.TheVariants as refusal
-use Rattle.reading.specs.Tables.{Kind, steps, finals, record_in, most, entries, table, list_in, declared_by, allowance_given, expression_given}
+use Rattle.reading.specs.Tables.{Kind, steps, finals, record_in, most, entries, table, list_in, declared_by, allowance_given, expression_given, salvages}
 
 -- line 1 stands before, and no list has begun, which ends a file
 pub record IsOpen (before : List Frame) : Type 0 where
   pub begun : before ≢ []
   pub no_list : list_in before ≡ []
 
--- not 11: line 1 declares, and no other line does; one allowance is given at most, and the
--- question is given by one expression or by steps and final states; behind the first entry of a
--- list there is nothing but entries
+-- not 11: line 1 declares, and no other line does; one allowance is given at most, and salvage is
+-- chosen once at most; the question is given by one expression or by steps and final states; behind
+-- the first entry of a list there is nothing but entries
 module _ (before : List Frame) where
   abbrev pub InPlace : Frame → Type 0
   InPlace (Declared c) = before ≡ []
@@ -33,6 +33,7 @@ module _ (before : List Frame) where
   InPlace (Expression row) =
       IsOpen before × (expression_given before ≡ None)
       × (table steps before ≡ []) × (table finals before ≡ [])
+  InPlace Salvage = IsOpen before × (salvages before ≡ false)
   InPlace (ListedMark n s t B) = before ≢ []
   InPlace other = IsOpen before
 

@@ -9,7 +9,7 @@ use Rattle.reading.specs.declared.Fault.{Fault}
 use Rattle.reading.specs.declared.File.{File}
 use Rattle.reading.specs.declared.Refusal.{Refusal}
 use Rattle.reading.specs.Refusal.{refusal_number}
-use Rattle.reading.specs.Tables.{Kind, steps, asks, listed, most, most_listed, most_lines, entries, Entry, entry_in, frame_of, list_in, declared_by, is_declared, is_allowance, is_expression}
+use Rattle.reading.specs.Tables.{Kind, steps, asks, listed, most, most_listed, most_lines, entries, Entry, entry_in, frame_of, list_in, declared_by, is_declared, is_allowance, is_expression, is_salvage}
 use Rattle.reading.specs.File.{file_of, IsQuestionOf, asked, LendsTables}
 use Rattle.reading.specs.Judged.{NumbersOk, Judged}
 use Rattle.reading.specs.Reading.{Finds, Verdict, sound, frames_of, Reading, Taken}
@@ -71,20 +71,21 @@ QuestionOnce = (fs : List Frame) (q r : Listed) → IsQuestionOf fs q → IsQues
 abbrev pub LentOnce : Type 0
 LentOnce = (file : File) (t u : Tables) → LendsTables file t → LendsTables file u → t ≡ u
 
--- no table holds more than its most; at most one frame declares, one gives an allowance, and one an
--- expression, which takes the place of a step
+-- no table holds more than its most; at most one frame declares, one gives an allowance, one
+-- chooses salvage, and one gives an expression, which takes the place of a step
 pub record Within (fs : List Frame) : Type 0 where
   pub few : (kind : Kind) → entries kind fs ≤ most kind
   pub declared : count_by is_declared fs ≤ 1
   pub allowances : count_by is_allowance fs ≤ 1
+  pub choices : count_by is_salvage fs ≤ 1
   pub expressions : count_by is_expression fs + entries steps fs ≤ most steps
 
 -- frames that are taken stay within that
 abbrev pub TakenWithin : Type 0
 TakenWithin = (fs : List Frame) → Taken fs → Within fs
 
--- and any frames that do, taken or not, are at most 138,786, with the list: line 1, the allowance,
--- and as many as the tables have records
+-- and any frames that do, taken or not, are at most 138,787, with the list: line 1, the allowance,
+-- the choice of salvage, and as many as the tables have records
 abbrev pub LinesBounded : Type 0
 LinesBounded = (fs : List Frame) → Within fs → length fs ≤ most_lines
 
@@ -102,10 +103,10 @@ pub data Alike : ℕ → List (List ℕ) → List (List ℕ) → Type 0 where
 abbrev pub StartAlike : Type 0
 StartAlike = (input : List ℕ) (n : ℕ) → Alike n (lines input) (lines (take n input))
 
--- the first 3,238,889 bytes of an input, or more of them, are found to be what the whole is: 7,715
+-- the first 3,239,020 bytes of an input, or more of them, are found to be what the whole is: 7,716
 -- lines of 131 bytes, and 131,072 of an entry, which have 17
 abbrev pub StartDecides : Type 0
-StartDecides = (input : List ℕ) (n : ℕ) → 3238889 ≤ n → (v : Verdict)
+StartDecides = (input : List ℕ) (n : ℕ) → 3239020 ≤ n → (v : Verdict)
     → Reading [] (lines (take n input)) v ↔ Reading [] (lines input) v
 
 -- frames that were taken are those of a collection, and then those of a list

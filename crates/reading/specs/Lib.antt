@@ -1,4 +1,5 @@
 pub mod Shelves
+pub mod Records
 pub mod Refusal
 pub mod Tables
 pub mod File
@@ -6,6 +7,8 @@ pub mod Judged
 pub mod Reading
 pub mod Reads
 pub mod Room
+pub mod Salvage
+pub mod Retained
 pub mod Turns
 pub mod Next
 pub mod Front
@@ -13,3 +16,4 @@ pub mod Laws
 pub mod Deeds
 pub mod Former
 pub mod Tidy
+pub mod SalvageLaws

@@ -1,6 +1,6 @@
 -- How many more numbers, entries and lines that are given once go into what is held: a line that is
 -- taken leaves fewer.
-use Rattle.std.specs.Prelude.{ℕ, zero, suc, ◌+◌, ◌-◌, ◌*◌, List, Option, None, Some, length}
+use Rattle.std.specs.Prelude.{ℕ, zero, suc, Bool, true, false, ◌+◌, ◌-◌, ◌*◌, List, Option, None, Some, length}
 use Rattle.reading.specs.declared.File.{File}
 use Rattle.reading.specs.Tables.{Kind, concept_rules, concept_exclusions, role_rules, role_exclusions, concept_facts, role_facts, steps, finals, asks, width, most, most_listed}
 
@@ -16,7 +16,12 @@ unfoldable pub once_room : {A : Type 0} → Option A → ℕ
 once_room None = 1
 once_room (Some given) = 0
 
--- and so it is of line 1
+-- and so it is of the choice of salvage
+unfoldable pub choice_room : Bool → ℕ
+choice_room false = 1
+choice_room true = 0
+
+-- and of line 1
 unfoldable pub first_room : ℕ → ℕ
 first_room zero = 1
 first_room (suc lines) = 0
@@ -24,6 +29,7 @@ first_room (suc lines) = 0
 abbrev pub room_left : File → ℕ
 room_left file =
     first_room file.lines + once_room file.allowance + once_room file.expression
+    + choice_room file.salvages
     + table_room concept_rules file.concept_rules
     + table_room concept_exclusions file.concept_exclusions
     + table_room role_rules file.role_rules

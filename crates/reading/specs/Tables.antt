@@ -1,5 +1,6 @@
--- What a list of frames says (docs/RULES.md, sections 3, 8 and 12): what line 1 declares, the
--- allowance, the tables, each with the records of its kind, and the list that ends it.
+-- What a list of frames says (docs/RULES.md, sections 3, 8, 12 and 13): what line 1 declares, the
+-- allowance, the tables, each with the records of its kind, the list that ends it, and whether it
+-- chooses salvage.
 use Rattle.std.specs.Prelude.{ℕ, Bool, true, false, List, [], ◌∷◌, Option, None, Some, unwrap_or, is_some, count_by}
 use Rattle.std.specs.List.{flat_map, filter_map}
 use Rattle.kinds.specs.declared.Concept.{Concept}
@@ -10,7 +11,9 @@ use Rattle.meaning.specs.Demands.{most_rounds}
 use Rattle.meaning.specs.Lent.{rule_width, concept_fact_width, role_fact_width, step_width, final_width, most_concept_rules, most_concept_exclusions, most_role_rules, most_role_exclusions, most_concept_facts, most_role_facts, most_steps, most_finals}
 use Rattle.tables.specs.Asks.{ask_width}
 use Rattle.frames.specs.declared.Frame.{Frame}
-use Rattle.frames.specs.declared.Frame.TheVariants.{Declared, ConceptRule, ConceptExclusion, RoleRule, RoleExclusion, ConceptFact, RoleFact, RoleStep, TestStep, Final, Ask, AskFrom, Allowance, Expression, ListedMark}
+use Rattle.frames.specs.declared.Frame.TheVariants.{Declared, ConceptRule, ConceptExclusion, RoleRule, RoleExclusion, ConceptFact, RoleFact, RoleStep, TestStep, Final, Ask, AskFrom, Allowance, Expression, Salvage, ListedMark}
+use Rattle.salvage.specs.declared.Typed.{Typed}
+use Rattle.salvage.specs.declared.Typed.TheVariants as typed
 
 -- the eight tables of a collection, with both kinds of step in one, the asks, and the list that
 -- ends a file
@@ -74,9 +77,14 @@ most finals = most_finals
 most asks = most_asks
 most listed = most_listed
 
--- the most lines of a file: line 1, the allowance, and as many as the tables have records
+-- the most lines of a file: line 1, the allowance, the choice of salvage, and as many as the tables
+-- have records
 abbrev pub most_lines : ℕ
-most_lines = 138786
+most_lines = 138787
+
+-- and the most of them before the list
+abbrev pub most_typed : ℕ
+most_typed = 7715
 
 -- how many records the frames add to a table
 unfoldable pub entries : Kind → List Frame → ℕ
@@ -120,6 +128,23 @@ expression_given [] = None
 expression_given (Expression row ∷ fs) = Some row
 expression_given (f ∷ fs) = expression_given fs
 
+-- salvage is chosen
+abbrev pub salvages : List Frame → Bool
+salvages [] = false
+salvages (Salvage ∷ fs) = true
+salvages (f ∷ fs) = salvages fs
+
+-- what a line types; an entry of a list stands behind all facts, and is left out
+abbrev pub typed_in : Frame → Option Typed
+typed_in (ConceptFact A a n) = Some typed.ConceptFact
+typed_in (RoleFact r a b n) = Some typed.RoleFact
+typed_in (ListedMark n s t B) = None
+typed_in f = Some typed.Other
+
+-- and what each line before the list types
+unfoldable pub typed_lines : List Frame → List Typed
+typed_lines fs = filter_map typed_in fs
+
 -- the frames that add no record
 abbrev pub is_declared : Frame → Bool
 is_declared (Declared c) = true
@@ -132,6 +157,10 @@ is_allowance f = false
 abbrev pub is_expression : Frame → Bool
 is_expression (Expression row) = true
 is_expression f = false
+
+abbrev pub is_salvage : Frame → Bool
+is_salvage Salvage = true
+is_salvage f = false
 
 -- the rounds that a file allows: where it does not say, as many as always suffice
 abbrev pub rounds_allowed : List Frame → ℕ

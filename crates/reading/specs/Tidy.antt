@@ -33,3 +33,5 @@ pub record TidiesTables (old new : File) : Type 0 where
   pub asks : new.asks ≡ old.asks
   pub lines : new.lines ≡ old.lines
   pub listed : new.listed ≡ old.listed
+  pub salvages : new.salvages ≡ old.salvages
+  pub typed : new.typed ≡ old.typed

@@ -97,8 +97,9 @@ impl File {
         0 < self.lines && self.listed == 0
     }
 
-    // 11: line 1 declares, and no other line does; one allowance is given at most; the question is given by one expression or
-    // by steps and final states; and behind the first entry of a list there is nothing but entries.
+    // 11: line 1 declares, and no other line does; one allowance is given at most, and salvage is chosen once at most; the
+    // question is given by one expression or by steps and final states; and behind the first entry of a list there is nothing
+    // but entries.
     fn is_in_place(&self, frame: &Frame) -> bool
         ensures { IsTrue result ↔ IsInPlace self.now frame.now }
     {
@@ -109,6 +110,7 @@ impl File {
                 self.is_open() && self.expression.is_none()
             }
             Frame::Expression(_) => self.is_open() && self.has_no_question(),
+            Frame::Salvage => self.is_open() && !self.salvages,
             Frame::ListedMark(_, _, _, _) => 0 < self.lines,
             _ => self.is_open(),
         }
@@ -129,7 +131,9 @@ impl File {
             Frame::Final(_) => self.finals.has_room(),
             Frame::Ask(_, _) | Frame::AskFrom(_) => self.asks.has_room(),
             Frame::ListedMark(_, _, _, _) => self.listed < LISTED,
-            Frame::Declared(_) | Frame::Allowance(_) | Frame::Expression(_) => true,
+            Frame::Declared(_) | Frame::Allowance(_) | Frame::Expression(_) | Frame::Salvage => {
+                true
+            }
         }
     }
 

@@ -13,7 +13,8 @@ ghost use Rattle.reading.specs.Laws.{IsListed};
 ghost use Rattle.reading.specs.File.{file_of, file_with, allowance_in, Asks, LendsTables, HoldsOpen, HasShelfRoom, IsSmall};
 ghost use Rattle.reading.specs.Reads.{BeginsList, IsOpenFor, IsRead, ReadsOn, ReadsUpTo, fault_after, told_at_end};
 ghost use Rattle.reading.specs.Room.{room_left};
-ghost use Rattle.reading.specs.Tables.{most_lines};
+ghost use Rattle.reading.specs.Retained.{retained, KeepsMarked};
+ghost use Rattle.reading.specs.Tables.{most_lines, typed_in};
 ghost use Rattle.reading.specs.Tidy.{SpellsOut, TidiesTables};
 ghost use Rattle.reading.specs.Turns.{ExpressionJudged, RowJudged, TakesLine};
 ghost use Rattle.reading.specs.Next.{Proceeds};
@@ -24,6 +25,8 @@ use frames::kind::Kind;
 use frames::marks::Marks;
 use frames::{Frame, Front, Misread};
 use kinds::{Ask, Concept, Counts, Rounds, State};
+use retain::marks_of;
+use salvage::Typed;
 use shelf::Shelf;
 use sorted::FINAL_WIDTH;
 use std::io;
@@ -34,11 +37,14 @@ use tables::collection::{
     ROLE_RULES, STEPS,
 };
 use tables::{Collection, ConceptFact, ConceptPair, RoleFact, RolePair, Step, Table};
+use typed::{MOST_TYPED, TypedLines};
 
 pub mod expressed;
 mod judge;
+mod retain;
 pub mod shelf;
 pub mod theorems;
+pub mod typed;
 
 // The most asks of a file.
 pub const ASKS: usize = 256;
@@ -103,8 +109,9 @@ struct Question<'a> {
     finals: Table<'a, State>,
 }
 
-// What is read of a file: what line 1 declares, the allowance and the expression where they are given, the tables, and how
-// many lines were read, and of them how many entries of a list.
+// What is read of a file: what line 1 declares, the allowance and the expression where they are given, the tables, how many
+// lines were read, and of them how many entries of a list, whether salvage is chosen, and what each line before the list
+// types.
 #[derive(Drop)]
 pub struct File {
     pub counts: Counts,
@@ -121,6 +128,8 @@ pub struct File {
     pub asks: Shelf<Ask, { Ask::WIDTH }, { ASKS }>,
     pub lines: usize,
     pub listed: usize,
+    pub salvages: bool,
+    pub typed: TypedLines,
 }
 
 impl Refusal {
@@ -169,6 +178,19 @@ fn most_rounds(counts: Counts) -> Rounds
         .saturating_mul(others)
 }
 
+// What the line of a frame types. An entry of a list stands behind all facts, and is left out.
+#[inline(always)]
+fn typed_in(frame: &Frame) -> Option<Typed>
+    ensures { result ≡ typed_in frame.now }
+{
+    match frame {
+        Frame::ConceptFact(_, _, _) => Some(Typed::ConceptFact),
+        Frame::RoleFact(_, _, _, _) => Some(Typed::RoleFact),
+        Frame::ListedMark(_, _, _, _) => None,
+        _ => Some(Typed::Other),
+    }
+}
+
 fn number(c: Concept) -> u16
     requires { number_of c < 2 ^ 16 }
     ensures { result ≡ number_of c }
@@ -178,7 +200,7 @@ fn number(c: Concept) -> u16
 
 impl File {
     // Nothing read yet.
-    #[tactic(auto, unfolding(crate::specs::Tables::table, crate::specs::Tables::entries))]
+    #[tactic(auto, unfolding(crate::specs::Tables::table, crate::specs::Tables::entries, crate::specs::Tables::typed_lines))]
     pub fn new() -> File
         ensures { result ≡ file_of [] }
     {
@@ -197,6 +219,8 @@ impl File {
             asks: Shelf::new(),
             lines: 0,
             listed: 0,
+            salvages: false,
+            typed: TypedLines::new(),
         }
     }
 
@@ -288,6 +312,22 @@ impl File {
         self.finals.tidy();
     }
 
+    // The facts whose lines are marked false leave their tables, and their lines are counted no more.
+    #[inline(never)]
+    #[tactic(auto, using(crate::proofs::RetainedLaws::keeps_marked))]
+    pub fn keep_marked(&mut self, marks: &[bool])
+        ensures held { self.new ≡ retained self.old marks.now }
+        ensures frames { KeepsMarked self.old marks.now self.new }
+    {
+        let mut row = [true; MOST_TYPED];
+        let concepts = marks_of(Typed::ConceptFact, self.typed.as_slice(), marks, &mut row);
+        self.concept_facts.keep_marked(&row[..concepts]);
+        let roles = marks_of(Typed::RoleFact, self.typed.as_slice(), marks, &mut row);
+        self.role_facts.keep_marked(&row[..roles]);
+        let dropped = self.typed.keep_marked(marks);
+        self.lines = self.lines.saturating_sub(dropped);
+    }
+
     // An expression kept with its automaton, or refused. It is a call of its own, never put into `keep`, which would else
     // make room for an automaton at each line.
     #[inline(never)]
@@ -312,6 +352,7 @@ impl File {
         ensures ok { OnOk result (self.new ≡ file_with frame self.old) }
         ensures err { OnErr result (self.new ≡ self.old) }
     {
+        let typed = typed_in(&frame);
         match frame {
             Frame::Declared(counts) => self.counts = counts,
             Frame::ConceptRule(c, d) => self.concept_rules.push([number(c), number(d)]),
@@ -327,7 +368,11 @@ impl File {
             Frame::AskFrom(i) => self.asks.push([1, i.0, 0]),
             Frame::Allowance(rounds) => self.allowance = Some(rounds),
             Frame::Expression(marks) => self.express(marks)?,
+            Frame::Salvage => self.salvages = true,
             Frame::ListedMark(_, _, _, _) => self.listed += 1,
+        }
+        if let Some(typed) = typed {
+            self.typed.push(typed);
         }
         self.lines = self.lines.saturating_add(1);
         Ok(())
@@ -370,7 +415,11 @@ impl File {
             Kind::Final => self.take_kind(Kind::Final, &front),
             Kind::Ask => self.take_kind(Kind::Ask, &front),
             Kind::AskFrom => self.take_kind(Kind::AskFrom, &front),
-            Kind::Declared | Kind::Allowance | Kind::Expression | Kind::ListedMark => 0,
+            Kind::Declared
+            | Kind::Allowance
+            | Kind::Expression
+            | Kind::Salvage
+            | Kind::ListedMark => 0,
         }
     }
 

@@ -2,7 +2,9 @@
 ghost use Rattle.std.specs.Prelude.{◌≡◌, ◌+◌, ◌*◌, ◌/◌, ◌^◌, ◌<◌, ◌≤◌, ◌↔◌, ◌++◌, [], IsTrue, length, take};
 ghost use Rattle.meaning.specs.Lent.{Whole};
 ghost use Rattle.sorted.specs.Rows.{rows, HasPlace, AreTidied, IsTidied};
+ghost use Rattle.reading.specs.Records.{kept_records};
 
+use crate::retain::keep_first;
 use sorted::tidy;
 use std::marker::{Model, PhantomData};
 use tables::{Record, Table};
@@ -100,6 +102,13 @@ impl<R: Record, const W: usize, const N: usize> Shelf<R, W, N> {
         ensures { IsTidied W self.old self.new }
     {
         self.used = tidy_front(&mut self.records, self.used);
+    }
+
+    // The records that are marked stay, with those beyond the marks.
+    pub(crate) fn keep_marked(&mut self, marks: &[bool])
+        ensures { self.new ≡ kept_records W self.old marks.now }
+    {
+        self.used = keep_first(&mut self.records, self.used, marks);
     }
 
     pub fn table(&self) -> Table<'_, R>

@@ -6,6 +6,9 @@ ghost use Rattle.reading.specs.Laws.{TakenWithin, LinesBounded, StartAlike, Star
 ghost use Rattle.reading.specs.Laws.{SoundExtends, ListLast, ListOnly, ListCounted, ListBegins, EntryTaken, EntriesHeld};
 ghost use Rattle.reading.specs.Former.{FormerOnce, FormerFound, FormerSound, FormerElse};
 ghost use Rattle.reading.specs.Deeds.{ReadsWithoutDeeds, ConceptFactsKept, RoleFactsKept};
+ghost use Rattle.reading.specs.SalvageLaws.{ReadFormed, FactsRead, TypedNamesAll, EntriesRead, SalvageDecides, SalvageDropsFacts};
+ghost use Rattle.reading.specs.SalvageLaws.{DecidesSome, DecidesOnce, DecidesWithoutDeeds, DecidesTaken, DecidesSays};
+ghost use Rattle.reading.specs.SalvageLaws.{KeptSalvaged, DecidesSane, KeptTaken, KeptHeld};
 
 // What is found is one thing.
 pub fn once()
@@ -58,4 +61,27 @@ pub fn former()
     ensures found { FormerFound }
     ensures sound { FormerSound }
     ensures any_other { FormerElse }
+{}
+
+// A file that chooses salvage: the entries of its facts, whose salvage decides which lines are dropped.
+pub fn entries()
+    ensures formed { ReadFormed }
+    ensures facts { FactsRead }
+    ensures named { TypedNamesAll }
+    ensures read { EntriesRead }
+    ensures decides { SalvageDecides }
+    ensures drops { SalvageDropsFacts }
+{}
+
+// And the frames over which it is answered.
+pub fn decided()
+    ensures some { DecidesSome }
+    ensures once { DecidesOnce }
+    ensures deeds { DecidesWithoutDeeds }
+    ensures taken { DecidesTaken }
+    ensures says { DecidesSays }
+    ensures salvaged { KeptSalvaged }
+    ensures sane { DecidesSane }
+    ensures kept_taken { KeptTaken }
+    ensures kept_held { KeptHeld }
 {}

@@ -1,4 +1,4 @@
--- An input writes one text; its first 3,238,889 bytes decide it; two outcomes of a call are one.
+-- An input writes one text; its first 3,239,020 bytes decide it; two outcomes of a call are one.
 use Rattle.std.specs.Prelude.{ℕ, ◌+◌, ◌≡◌, refl, List, ◌++◌, length, take, drop}
 use Rattle.std.proofs.Math.Path.{ap₂}
 use Rattle.std.proofs.Common.{sym, ap, ◌∙◌, subst, take-append-drop, length-take, arith}
@@ -63,7 +63,7 @@ module _ (Says : Saying) where
   said-written input fs h text =
       (λ w. text-of Verdicts Says input (found-once input) (sound fs) h w, λ s. written Verdicts Says input (sound fs) h s)
 
-  -- THEOREM: any input writes what its first 3,238,889 bytes write, and they write what it writes
+  -- THEOREM: any input writes what its first 3,239,020 bytes write, and they write what it writes
   pub start-writes : StartWrites Says
   start-writes input n h text = (whole, start)
     where
@@ -93,6 +93,6 @@ module _ (Says : Saying) where
   pub served-once : ServedOnce Says
   served-once one input old x y a b = a.so ∙ ap (λ (text : List ℕ). old ++ text) (writes-once one input a.text b.text a.is b.is) ∙ sym b.so
 
--- THEOREM: the first faulty line of any input has a number of at most 138,787
+-- THEOREM: the first faulty line of any input has a number of at most 138,788
 pub faults-near : FaultsNear
 faults-near input before r h = omega (arith, within-lines before (verdict-taken (lines input) (faulty before r) h))

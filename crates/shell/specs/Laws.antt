@@ -9,10 +9,10 @@ use Rattle.shell.specs.Faults.{fault_line}
 use Rattle.shell.specs.Reports.{OneOf}
 use Rattle.shell.specs.Writes.{IsSound, IsFaulty, Saying, WritesOf}
 
--- a faulty input's first faulty line has a number of at most 138,787
+-- a faulty input's first faulty line has a number of at most 138,788
 abbrev pub FaultsNear : Type 0
 FaultsNear = (input : List ℕ) (before : List Frame) (r : Refusal) → IsFaulty input before r
-    → length before + 1 ≤ 138787
+    → length before + 1 ≤ 138788
 
 module _ (Says : Saying) where
   -- a faulty input writes the line of that number, from 1, and of the number that refuses the line
@@ -26,9 +26,9 @@ module _ (Says : Saying) where
   SaidWritten = (input : List ℕ) (fs : List Frame) → IsSound input fs
       → (text : List ℕ) → WritesOf Says input text ↔ Says fs text
 
-  -- the first 3,238,889 bytes of an input, or more of them, write what the whole writes
+  -- the first 3,239,020 bytes of an input, or more of them, write what the whole writes
   abbrev pub StartWrites : Type 0
-  StartWrites = (input : List ℕ) (n : ℕ) → 3238889 ≤ n → (text : List ℕ)
+  StartWrites = (input : List ℕ) (n : ℕ) → 3239020 ≤ n → (text : List ℕ)
       → WritesOf Says (take n input) text ↔ WritesOf Says input text
 
   -- of frames that were taken one after the other one text is said

@@ -2,3 +2,4 @@
 pub mod BaseListHolds
 pub mod CasesHold
 pub mod SheetComputed
+pub mod SalvagesHold

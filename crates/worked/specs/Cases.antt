@@ -82,10 +82,10 @@ abbrev signs_holds : List ℕ
 signs_holds = 0 ∷ 0 ∷ 0 ∷ 1 ∷ 0 ∷ 1 ∷ 3 ∷ 2 ∷ []
 
 -- holds(0, 0), and signs(0, 1)
-abbrev self_held : List ℕ
+abbrev pub self_held : List ℕ
 self_held = 1 ∷ 0 ∷ 0 ∷ 0 ∷ []
 
-abbrev signed_to : List ℕ
+abbrev pub signed_to : List ℕ
 signed_to = 0 ∷ 0 ∷ 1 ∷ 0 ∷ []
 
 -- holds, then signs

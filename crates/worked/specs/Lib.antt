@@ -1,3 +1,4 @@
 pub mod BaseList
 pub mod Cases
+pub mod Clashing
 pub mod Laws

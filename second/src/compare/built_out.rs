@@ -1,20 +1,25 @@
-//! Part (e) of the comparison: modules `library` and `desk` against the built-out model, on small collections.
+//! Part (e) of the comparison: modules `library` and `desk` against the built-out model, on small collections; and on those in which
+//! salvage is chosen.
 
 use super::dice::Dice;
 use super::expressions::{self, expressed};
 use super::generate::{deep_end, small, Asked};
 use super::outputs::FROM;
 use super::parts::{Difference, Outcome};
+use super::salvages::with_choice;
 use super::tally::Tally;
+use super::throw::{throw_exclusions, throw_facts, Amounts};
 use super::wide::{is_wide, joined, widened};
 use super::{shown, text};
 use crate::area::{self, AREA};
 use crate::ask::Ask;
 use crate::collection::Collection;
 use crate::desk::desk;
+use crate::desk::read::read;
 use crate::library::{self, ask, ask_from, Call};
 use crate::listing::{listing, Entry};
 use crate::model::{known::Known, letter, Answer, Model, TooLarge};
+use crate::salvage::{with_facts, Fact};
 use std::collections::BTreeSet;
 
 /// What an ask of one individual can be: each number, and a yes where every pair from it is no.
@@ -51,7 +56,7 @@ pub fn model_part(mut dice: Dice, tally: &mut Tally) -> Outcome {
             joined(&mut dice, asked)
         }
     };
-    let allowance = asked.allowance.unwrap_or(asked.collection.counts.most_rounds());
+    let allowance = allowance_of(&asked);
     let known = Known::of(&asked.collection);
     let Ok(said) = say(&asked, &known, allowance) else {
         tally.skipped += 1;
@@ -87,7 +92,66 @@ pub fn model_part(mut dice: Dice, tally: &mut Tally) -> Outcome {
     }
     let met = shown::agrees(&input, &known).map_err(differs)?;
     met.into_iter().for_each(|what| tally.met(what));
+    salvage_part(dice, asked, tally)
+}
+
+/// What a file that chooses salvage can be.
+pub const SALVAGED: [&str; 2] = ["facts that the model drops", "no fact that the model drops"];
+
+/// The same with salvage, and mostly with more that clashes. The model says of each fact, with those kept before it, whether it
+/// is a contradiction; and what is answered over the kept ones.
+fn salvage_part(mut dice: Dice, mut asked: Asked, tally: &mut Tally) -> Outcome {
+    let dice = &mut dice;
+    if dice.percent(60) {
+        let (concepts, roles) = (dice.between(1, 3), dice.below(2));
+        throw_exclusions(dice, &mut asked.collection, concepts, roles);
+        let amounts = Amounts { facts: dice.below(4), role_facts: dice.below(4), ..Amounts::default() };
+        throw_facts(dice, &mut asked.collection, &amounts);
+    }
+    let plain = text::lines(dice, &asked);
+    let lines = with_choice(dice, &plain);
+    let input = text::input(dice, &lines);
+    let differs = |(expected, found): (String, String)| Difference { input: input.clone(), expected, found };
+    let file = read(&input).map_err(|fault| differs(("a sound file".into(), format!("{fault:?}"))))?;
+    let (facts, places): (Vec<Fact>, Vec<usize>) = file.facts().into_iter().unzip();
+    let Ok((kept, over)) = kept_by_model(&asked, &facts) else { return Ok(()) };
+    let Ok(said) = say(&over, &Known::of(&over.collection), allowance_of(&over)) else { return Ok(()) };
+    let order: Vec<u16> = facts.iter().map(|fact| u16::from(matches!(fact, Fact::Role(_)))).collect();
+    let told = library::salvage(&Call::of(&file.collection, 0), &order, facts.len());
+    if told.as_ref() != Ok(&kept) {
+        return Err(differs((format!("the model keeps {kept:?}"), format!("library {told:?}"))));
+    }
+    let dropped = places.into_iter().zip(&kept).filter(|(_, kept)| !**kept).map(|(line, _)| line);
+    let told: String = dropped.map(|line| format!("92{line:04X}\n")).collect();
+    let expected = told + &desk_lines(&over, &input, &said);
+    let found = String::from_utf8_lossy(&desk(&input)).into_owned();
+    if expected != found {
+        return Err(differs((expected, found)));
+    }
+    shown::agrees(&input, &Known::of(&over.collection)).map_err(differs)?;
+    let met = shown::dropped_agree(&input).map_err(differs)?;
+    tally.met(SALVAGED[usize::from(!kept.contains(&false))]);
+    met.into_iter().for_each(|what| tally.met(what));
     Ok(())
+}
+
+/// For each fact whether it is kept, and the same collection and asks without the others.
+fn kept_by_model(asked: &Asked, facts: &[Fact]) -> Result<(Vec<bool>, Asked), TooLarge> {
+    let mut before: Vec<Fact> = Vec::new();
+    let mut marks = Vec::new();
+    for fact in facts {
+        let with = with_facts(&asked.collection, &[&before[..], &[*fact]].concat());
+        let kept = !Model::of(&Known::of(&with))?.is_contradiction();
+        marks.push(kept);
+        before.extend(kept.then_some(*fact));
+    }
+    let (asks, expression) = (asked.asks.clone(), asked.expression.clone());
+    let collection = with_facts(&asked.collection, &before);
+    Ok((marks, Asked { collection, asks, allowance: asked.allowance, expression }))
+}
+
+fn allowance_of(asked: &Asked) -> u32 {
+    asked.allowance.unwrap_or(asked.collection.counts.most_rounds())
 }
 
 fn count(said: &Said, asks: &[Ask], tally: &mut Tally) {

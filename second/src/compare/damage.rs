@@ -149,15 +149,15 @@ pub fn spoilt(dice: &mut Dice, input: &[u8]) -> (Vec<u8>, usize, u8) {
 }
 
 /// The kinds of frames that have one length.
-const KINDS: [usize; 14] = [1, 2, 3, 4, 5, 6, 7, 8, 9, 10, 11, 12, 14, 16];
+const KINDS: [usize; 15] = [1, 2, 3, 4, 5, 6, 7, 8, 9, 10, 11, 12, 14, 15, 16];
 
 /// How many bytes a frame of each kind has, its kind included; 06, 07 and 0C may have two more, and 0D any number.
-const LENGTHS: [usize; 17] = [0, 6, 3, 3, 3, 3, 3, 4, 4, 4, 2, 3, 3, 0, 2, 0, 8];
+const LENGTHS: [usize; 17] = [0, 6, 3, 3, 3, 3, 3, 4, 4, 4, 2, 3, 3, 0, 2, 1, 8];
 
 fn bad_frame(dice: &mut Dice) -> (Vec<u8>, Vec<u8>) {
     let unknown = dice.percent(40);
     let kind = if unknown {
-        dice.pick(&[0, 0x0F, 0x0F, 0x11, 0x1A, 0x81, 0x8B, 0x8E, 0xFF])
+        dice.pick(&[0, 0x11, 0x11, 0x1A, 0x81, 0x8B, 0x8E, 0x92, 0xFF])
     } else {
         dice.pick(&KINDS)
     };
@@ -273,8 +273,14 @@ fn bad_counts_frame(dice: &mut Dice) -> [u8; 6] {
 fn bad_place(dice: &mut Dice) -> Damaged {
     let (_, mut lines) = sound_lines(dice);
     let at = dice.between(2, lines.len() + 1);
-    match dice.below(6) {
+    match dice.below(7) {
         0 => Damaged { lines: Vec::new(), at: 1, number: 11, also: Vec::new() },
+        6 => {
+            let later = dice.between(at, lines.len() + 1);
+            lines.insert(at - 1, b"0F".to_vec());
+            lines.insert(later, b"0F".to_vec());
+            Damaged { lines, at: later + 1, number: 11, also: Vec::new() }
+        }
         1 => {
             let again = lines[0].clone();
             lines.insert(at - 1, again);
@@ -295,8 +301,15 @@ fn bad_place(dice: &mut Dice) -> Damaged {
             Damaged { lines, at: later + 1, number: 11, also: Vec::new() }
         }
         4 => {
-            let first: &[u8] =
-                dice.pick(&[&b"02FFFF"[..], b"07000000", b"0BFFFF", b"0EFF", b"0A20", b"1000000000200000"]);
+            let first: &[u8] = dice.pick(&[
+                &b"02FFFF"[..],
+                b"07000000",
+                b"0BFFFF",
+                b"0EFF",
+                b"0A20",
+                b"1000000000200000",
+                b"0F",
+            ]);
             let also = if matches!(first[1], b'B' | b'E') { 8 } else { 6 };
             lines.insert(0, first.to_vec());
             Damaged { lines, at: 1, number: 11, also: vec![also] }

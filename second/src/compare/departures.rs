@@ -164,7 +164,7 @@ fn not_declared(dice: &mut Dice, counts: &Counts) -> Vec<u8> {
 
 /// A frame of another kind, sound but for its place, or with what would be refused later.
 fn another_frame(dice: &mut Dice, line_1: &[u8]) -> Vec<u8> {
-    let frames: [&[u8]; 16] = [
+    let frames: [&[u8]; 17] = [
         line_1,
         b"020000",
         b"02FFFF",
@@ -181,6 +181,7 @@ fn another_frame(dice: &mut Dice, line_1: &[u8]) -> Vec<u8> {
         b"0EFF",
         b"0C00000001",
         b"0D83",
+        b"0F",
     ];
     dice.pick(&frames).to_vec()
 }

@@ -64,7 +64,7 @@ pub fn small(dice: &mut Dice) -> Asked {
 }
 
 /// Most contradictions here are two roles or more below the individuals.
-fn deep_clash(dice: &mut Dice) -> Asked {
+pub fn deep_clash(dice: &mut Dice) -> Asked {
     let mut collection = Collection::empty(counts(dice, 2, 3, (1, 3), (1, 4)));
     let amounts = Amounts { rules: dice.below(2), steps: dice.below(8), finals: 1, ..Amounts::default() };
     throw_records(dice, &mut collection, &amounts);

@@ -1,16 +1,17 @@
-//! Long inputs for the desk: beyond the 501,475 bytes that 7,715 lines of 64 characters have.
+//! Long inputs for the desk: beyond the 501,540 bytes that 7,716 lines of 64 characters have.
 
 use super::damage::Damaged;
 use super::dice::Dice;
 use super::generate::{full, Asked};
+use super::salvages::with_choice;
 use super::text;
 use super::throw::throw_exclusions;
 use crate::numbers::Role;
 
-/// 7,715 lines of 64 characters and their ends; a sound file has at most 7,714 lines, and one with an expression far fewer.
+/// 7,716 lines of 64 characters and their ends; a sound file has at most 7,715 lines, and one with an expression far fewer.
 pub const MOST_READ: usize = 65 * (MOST_SOUND_LINES + 1);
 
-const MOST_SOUND_LINES: usize = 7_714;
+const MOST_SOUND_LINES: usize = 7_715;
 
 pub fn long(dice: &mut Dice) -> Damaged {
     match dice.below(6) {
@@ -41,24 +42,26 @@ fn empty_lines(dice: &mut Dice) -> Damaged {
     Damaged { lines, at: 2, number: 9, also: Vec::new() }
 }
 
-/// All tables full, 256 asks and an allowance: whatever comes next is a fault, on line 7,715.
+/// All tables full, 256 asks, an allowance and salvage: whatever comes next is a fault, on line 7,716.
 fn fault_after_the_fullest_file(dice: &mut Dice) -> Damaged {
     let mut asked = full(dice);
     asked.allowance = Some(dice.below(65_536) as u32);
     fill_exclusions(dice, &mut asked);
-    let mut lines = text::lines(dice, &asked);
+    let plain = text::lines(dice, &asked);
+    let mut lines = with_choice(dice, &plain);
     assert_eq!(lines.len(), MOST_SOUND_LINES, "the fullest file");
     let mut next = |bytes: &[u8], number, also| {
         lines.push(bytes.to_vec());
         (number, also)
     };
-    let (number, also) = match dice.below(7) {
+    let (number, also) = match dice.below(8) {
         0 => next(b"0C0001", 11, vec![]),
         1 => next(b"01FFFFFFFFFF", 11, vec![4]),
         2 => next(b"07000000", 5, vec![]),
         3 => next(&[b'A'; 700_000], 9, vec![10]),
         4 => next(&[b'A'; 64], 10, vec![]),
         5 => next(b"0EFF", 5, vec![8]),
+        6 => next(b"0F", 11, vec![]),
         _ => next(b"0BFFFF", 5, vec![8]),
     };
     // What follows the faulty line is never looked at.

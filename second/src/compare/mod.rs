@@ -1,8 +1,9 @@
-//! `second compare`: thousands of cases from a seed, fourteen parts, a histogram of what was hit, and the count at the end.
+//! `second compare`: thousands of cases from a seed, sixteen parts, a histogram of what was hit, and the count at the end.
 
 mod built_out;
 mod calls;
 mod child;
+mod clashing;
 mod copies;
 mod damage;
 mod deeds;
@@ -22,8 +23,10 @@ pub mod protocol;
 mod retyped;
 mod rounds;
 mod rows;
+mod salvages;
 pub mod sample;
 mod shown;
+mod sifted;
 mod tally;
 mod text;
 mod throw;
@@ -69,6 +72,8 @@ const TWICE: u64 = 11;
 const LISTS: u64 = 12;
 const LISTED: u64 = 13;
 const DEPARTS: u64 = 14;
+const SALVAGES: u64 = 15;
+const SIFTED: u64 = 16;
 const MOST_SHOWN: u64 = 5;
 
 /// What the desk program can answer with, in an answer or a refusal.
@@ -113,7 +118,7 @@ pub fn compare(options: &Options) -> (u64, u64) {
     );
     println!("e. modules library and desk against the built-out model, on small collections");
     let work = || |dice, tally: &mut Tally| built_out::model_part(dice, tally);
-    let met = [&shown::MET[..], &built_out::MET[..]].concat();
+    let met = [&shown::MET[..], &shown::DROPPED, &built_out::MET, &built_out::SALVAGED].concat();
     judge(&mut total, run(options, MODEL, work), &wanted(&[0, 1, 2, 3], &met));
     println!("f. the library's call for one individual, likewise with both areas");
     through_drivers(options, &mut total, (FROM, wanted(&ANSWERS, &ASKED_MET)), parts::from_part);
@@ -144,6 +149,15 @@ pub fn compare(options: &Options) -> (u64, u64) {
     let met = listings::departs_met();
     let departs = wanted(&listings::DEPARTS_NUMBERS, &met);
     through_drivers(options, &mut total, (DEPARTS, departs), parts::departs_part);
+    println!("o. files whose facts clash: the desk, the copyist and the lister, with salvage and without");
+    salvages(options, &mut total);
+    println!("p. which facts salvage keeps, through the C boundary, with the row of their marks");
+    through_drivers(
+        options,
+        &mut total,
+        (SIFTED, wanted(&sifted::NUMBERS, &sifted::MET)),
+        parts::sifted_part,
+    );
     total
 }
 
@@ -160,14 +174,28 @@ fn copies(options: &Options, total: &mut (u64, u64)) {
     judge(total, run(options, COPIES, work), &wanted);
 }
 
-/// The part of the lists, which all three programs read.
-fn lists(options: &Options, total: &mut (u64, u64)) {
+/// The commands of all three programs; where one lacks, it has been said.
+fn three(options: &Options) -> Option<[Words; 3]> {
     let words = |command: &Option<String>| command.as_deref().and_then(Words::of);
     let commands = [&options.desk, &options.copyist, &options.lister].map(words);
     let [Some(desk), Some(copyist), Some(lister)] = commands else {
         println!("  skipped: a --desk, a --copyist and a --lister command are needed");
-        return;
+        return None;
     };
+    Some([desk, copyist, lister])
+}
+
+/// The part of the files whose facts clash, likewise.
+fn salvages(options: &Options, total: &mut (u64, u64)) {
+    let Some([desk, copyist, lister]) = three(options) else { return };
+    let programs = salvages::Programs { desk, copyist, lister };
+    let work = || |dice, tally: &mut Tally| salvages::salvages_part(&programs, dice, tally);
+    judge(total, run(options, SALVAGES, work), &wanted(&salvages::NUMBERS, &salvages::salvages_met()));
+}
+
+/// The part of the lists, which all three programs read.
+fn lists(options: &Options, total: &mut (u64, u64)) {
+    let Some([desk, copyist, lister]) = three(options) else { return };
     let programs = lists::Programs { desk, copyist, lister };
     let work = || |dice, tally: &mut Tally| lists::lists_part(&programs, dice, tally);
     judge(total, run(options, LISTS, work), &wanted(&lists::NUMBERS, &lists::lists_met()));

@@ -41,7 +41,12 @@ pub fn rounds(output: &[u8]) -> usize {
 /// Whether the allowance was below the rounds needed; the answers of one file then all say so.
 pub fn is_spent(output: &[u8]) -> bool {
     let text = String::from_utf8_lossy(output);
-    text.lines().any(|line| !line.starts_with("8A") && !line.starts_with("8F") && number(line) == 3)
+    text.lines().any(|line| is_answer(line) && !line.starts_with("8F") && number(line) == 3)
+}
+
+/// Whether a line is neither that of a round nor that of a dropped fact.
+fn is_answer(line: &str) -> bool {
+    !line.starts_with("8A") && !line.starts_with("92")
 }
 
 /// The line that an output calls faulty.
@@ -53,13 +58,14 @@ pub fn faulty_line(output: &[u8]) -> Option<usize> {
 /// The numbers in an output's answers, or in its refusal.
 pub fn numbers(output: &[u8]) -> BTreeSet<u8> {
     let text = String::from_utf8_lossy(output);
-    text.lines().filter(|line| !line.starts_with("8A")).map(|line| number(line) as u8).collect()
+    text.lines().filter(|line| is_answer(line)).map(|line| number(line) as u8).collect()
 }
 
 /// Counts what was met in an output, once for a case.
 pub fn count(output: &[u8], tally: &mut Tally) {
     let text = String::from_utf8_lossy(output);
-    let (rounds, others): (Vec<&str>, Vec<&str>) = text.lines().partition(|line| line.starts_with("8A"));
+    let lines = text.lines().filter(|line| !line.starts_with("92"));
+    let (rounds, others): (Vec<&str>, Vec<&str>) = lines.partition(|line| line.starts_with("8A"));
     let numbers: BTreeSet<usize> = others.iter().map(|line| number(line)).collect();
     numbers.iter().for_each(|number| tally.number(*number as u8));
     let Some(first) = others.first() else { return };

@@ -15,6 +15,8 @@ use super::outputs;
 use super::protocol;
 use super::rounds::rounds_lent;
 use super::rows::{met, mixed_lent, mixed_met, row_lent};
+use super::salvages::with_choice;
+use super::sifted::{self, sifted, Sifted};
 use super::tally::Tally;
 use super::text;
 use super::twice::{self, twice};
@@ -78,7 +80,12 @@ fn desk_case(dice: &mut Dice, tally: &mut Tally) -> (Vec<u8>, Option<Damaged>) {
         if asked.expression.is_some() {
             tally.kind("with an expression");
         }
-        let lines = text::lines(dice, &asked);
+        let mut lines = text::lines(dice, &asked);
+        // Full tables take some seconds, and have a part of their own with the others.
+        if kind != "full" && dice.percent(15) {
+            tally.kind("with salvage");
+            lines = with_choice(dice, &lines);
+        }
         return (text::input(dice, &lines), None);
     }
     let damaged = if kind == "long" { long(dice) } else { damaged(dice) };
@@ -365,6 +372,23 @@ pub fn departs_part(driver: &mut Driver, mut dice: Dice, tally: &mut Tally) -> O
     let Some(call) = lent_with_others(&mut dice, &departs.call) else { return Ok(()) };
     tally.met(CHANGED);
     replies(driver, protocol::request_departs(&Departs { call, ..departs }), &expected)
+}
+
+/// Part (p): which facts salvage keeps, likewise: the number, the row of marks and what lies behind it.
+pub fn sifted_part(driver: &mut Driver, mut dice: Dice, tally: &mut Tally) -> Outcome {
+    let (sifted, met) = sifted(&mut dice);
+    tally.kind(sifted.kind);
+    let (kept, expected) = protocol::answer_sifted(&sifted);
+    let number = kept.as_ref().err().copied().unwrap_or(0);
+    told(tally, number, &sifted.call, &sifted.planted);
+    let of_marks = kept.as_ref().ok().and_then(|kept| sifted::of_marks(kept));
+    met.into_iter().chain(of_marks).for_each(|what| tally.met(what));
+    let request = protocol::request_sifted(&sifted);
+    made_for(&request, sifted.planted.iter().min().copied(), number)?;
+    replies(driver, request, &expected)?;
+    let Some(call) = lent_with_others(&mut dice, &sifted.call) else { return Ok(()) };
+    tally.met(CHANGED);
+    replies(driver, protocol::request_sifted(&Sifted { call, ..sifted }), &expected)
 }
 
 /// The number of a call, and what it was given before.

@@ -3,12 +3,13 @@
 use super::calls::{Asks, CountRow, Lent, Row};
 use super::listings::{Departs, Listed};
 use super::moved::Moved;
+use super::sifted::Sifted;
 use super::twice::Twice;
 use super::typed::Typed;
 use crate::area::{from_16, to_16, AREA};
 use crate::library::{
-    ask, ask_all, ask_from, ask_row, departs, entry_numbers, list_of, made_of, marks, same_records, Call,
-    Made, LONGEST_LIST,
+    ask, ask_all, ask_from, ask_row, departs, entry_numbers, list_of, made_of, marks, salvage, same_records,
+    Call, Made, LONGEST_LIST,
 };
 use crate::listing::Entry;
 
@@ -30,6 +31,9 @@ pub const MOST_MADE: usize = 8_192;
 
 /// The most numbers that a row for a list has, or a list: some more than the longest list.
 pub const MOST_LIST: usize = LONGEST_LIST + 1_024;
+
+/// The longest row for the marks of facts: more than there can be facts.
+pub const MOST_KEPT: usize = 8_192;
 
 /// What stands before the call where a number is to be told, and where a count is.
 const UNTOLD: u16 = 0xFFFF;
@@ -61,6 +65,9 @@ const TWICE: char = 'P';
 const LISTED: char = 'U';
 const DEPARTS: char = 'V';
 
+/// Likewise one that asks which facts salvage keeps.
+const SALVAGE: char = 'W';
+
 /// The reply line to any line.
 pub fn reply(line: &str) -> String {
     let replied = match line.chars().next() {
@@ -71,6 +78,7 @@ pub fn reply(line: &str) -> String {
         Some(TWICE) => read_twice(&line[1..]).map(|calls| answer_twice(&calls).1),
         Some(LISTED) => read_listed(&line[1..]).map(|listed| answer_listed(&listed).1),
         Some(DEPARTS) => read_departs(&line[1..]).map(|departs| answer_departs(&departs).1),
+        Some(SALVAGE) => read_sifted(&line[1..]).map(|sifted| answer_sifted(&sifted).1),
         _ => read_request(line).map(|lent| answer(&lent).1),
     };
     replied.unwrap_or("!".to_string())
@@ -372,6 +380,33 @@ pub fn answer_departs(asked: &Departs) -> (u8, String) {
         Ok(Some(place)) => (15, place as u32),
     };
     (number, format!("{number:02X}{place:08X}"))
+}
+
+pub fn request_sifted(sifted: &Sifted) -> String {
+    let (call, order) = (collection(&sifted.call), counted(&sifted.order));
+    format!("{SALVAGE}{call}{order}{:04X}{:02X}", sifted.room, sifted.fill)
+}
+
+/// What stands behind the letter; None when the line isn't a request.
+fn read_sifted(mut digits: &str) -> Option<Sifted> {
+    let call = take_collection(&mut digits)?;
+    let order = take_counted(&mut digits)?;
+    let room = take(&mut digits, 4).filter(|room| *room <= MOST_KEPT)?;
+    let fill = take(&mut digits, 2)? as u8;
+    digits.is_empty().then_some(Sifted { kind: "", call, order, room, fill, planted: Vec::new() })
+}
+
+/// What module `library` gives, and the reply line. Where the call is refused the row is as it was before.
+pub fn answer_sifted(sifted: &Sifted) -> (Result<Vec<bool>, u8>, String) {
+    let kept = salvage(&sifted.call, &sifted.order, sifted.room);
+    let number = kept.as_ref().err().copied().unwrap_or(0);
+    let mut row = vec![sifted.fill; sifted.room];
+    for (place, kept) in row.iter_mut().zip(kept.iter().flatten()) {
+        *place = u8::from(*kept);
+    }
+    let behind = hash(&[!sifted.fill; GUARD]);
+    let row = hash(&row);
+    (kept, format!("{number:02X}{row:016X}{behind:016X}"))
 }
 
 /// Each count as four bytes, the low one first.

@@ -1,9 +1,11 @@
 //! One file of a kind, for measuring and for looking at.
 
+use super::clashing::clashing;
 use super::damage::damaged;
 use super::dice::Dice;
 use super::generate::{full, many_rounds, medium, small};
 use super::long::long;
+use super::salvages::with_choice;
 use super::text;
 
 /// None when there is no such kind.
@@ -13,6 +15,11 @@ pub fn sample(kind: &str, seed: u64) -> Option<Vec<u8>> {
     let lines = match kind {
         "damaged" => damaged(dice).lines,
         "long" => long(dice).lines,
+        "clashing" => {
+            let asked = clashing(dice).1;
+            let plain = text::lines(dice, &asked);
+            with_choice(dice, &plain)
+        }
         _ => {
             let mut asked = match kind {
                 "small" => small(dice),

@@ -4,15 +4,17 @@
 use super::parts::{has_equal_ends, SELF_DEALING};
 use crate::ask::Ask;
 use crate::collection::{Collection, ConceptFact, RoleFact};
-use crate::desk::read::File;
+use crate::desk::read::{read, File};
 use crate::element::Element;
 use crate::explain::clash::{Clash, ConceptSide, What};
 use crate::explain::noted::{concept_facts, role_facts, Noted};
 use crate::explain::path::{Move, Path, Stand};
+use crate::explain::salvage::{Dropped, Typed};
 use crate::explain::{Asked, Behind, Explanation};
 use crate::model::check::{belongs, concepts, is_path, roles};
-use crate::model::known::Known;
+use crate::model::{known::Known, Model};
 use crate::numbers::{Concept, Deed};
+use crate::salvage::{with_facts, Fact};
 use std::collections::BTreeMap;
 
 /// Enough for the paths of small collections; a longer one isn't looked at.
@@ -49,7 +51,7 @@ pub fn agrees(input: &[u8], known: &Known) -> Result<Vec<&'static str>, (String,
     }
     match &explained.clash {
         Some(clash) if !clashes(clash, &explained, known) => fails("a clash that is one"),
-        Some(clash) if !sides_rest_on_their_facts(clash, &explained) => {
+        Some(clash) if !sides_rest_on_their_facts(clash, &explained.file) => {
             fails("a side that holds by its fact alone")
         }
         Some(_) if explained.asks.iter().any(|asked| asked.number != 2) => fails("no clash"),
@@ -91,6 +93,49 @@ fn steps(explained: &Explanation) -> impl Iterator<Item = &[Stand]> {
     explained.asks.iter().filter_map(path).flat_map(|path| path.stands.windows(2))
 }
 
+/// What can be shown of a dropped fact.
+pub const DROPPED: [&str; 2] =
+    ["a fact shown to clash with the rules alone", "a fact shown to clash with another"];
+
+/// Whether what is shown of each dropped fact is so: that it makes a contradiction with the facts that are named, but not without
+/// any of them, and that the clash is one of these.
+pub fn dropped_agree(input: &[u8]) -> Result<Vec<&'static str>, (String, String)> {
+    let fails = |what: &str| Err((what.to_string(), "explain shows something else".to_string()));
+    let (Ok(explained), Ok(file)) = (Explanation::of(input, 0), read(input)) else {
+        return fails("a sound file");
+    };
+    let Some(salvage) = &explained.salvage else { return fails("a salvage") };
+    let mut met = Vec::new();
+    for Dropped { fact, with, clash } in &salvage.dropped {
+        let named: Vec<Fact> = with.iter().chain([fact]).map(|(fact, _)| *fact).collect();
+        let collection = with_facts(&file.collection, &named);
+        let before = |(_, noted): &Typed| explained.file.facts().iter().any(|(_, line)| *line == noted.line);
+        if !with.iter().all(|kept| before(kept) && kept.1.line < fact.1.line) {
+            return fails("kept facts before it");
+        }
+        let is_clash = clashes(clash, &explained, &Known::of(&collection));
+        if !is_clash || !sides_rest_on_their_facts(clash, &file) {
+            return fails("a clash that is one, by facts that are named");
+        }
+        let lines: Vec<usize> = with.iter().chain([fact]).map(|(_, noted)| noted.line).collect();
+        if !clash.rests_on().iter().all(|noted| lines.contains(&noted.line)) {
+            return fails("a clash by the facts that are named");
+        }
+        for left_out in 0..with.len() {
+            let fewer: Vec<Fact> =
+                (0..named.len()).filter(|at| *at != left_out).map(|at| named[at]).collect();
+            let collection = with_facts(&file.collection, &fewer);
+            if Model::of(&Known::of(&collection)).is_ok_and(|model| model.is_contradiction()) {
+                return fails("no fact that could be left out");
+            }
+        }
+        met.push(DROPPED[usize::from(!with.is_empty())]);
+    }
+    met.sort();
+    met.dedup();
+    Ok(met)
+}
+
 /// The collection without any fact but the one that is noted there; None where there is none.
 fn with_only(file: &File, noted: Noted) -> Option<Collection> {
     let concept_facts: Vec<ConceptFact> = noted_there(concept_facts(file), noted);
@@ -119,9 +164,9 @@ fn rest_on_their_facts(explained: &Explanation) -> bool {
 }
 
 /// Likewise each side of the clash.
-fn sides_rest_on_their_facts(clash: &Clash, explained: &Explanation) -> bool {
+fn sides_rest_on_their_facts(clash: &Clash, file: &File) -> bool {
     let holds = |side: usize, noted: Noted| {
-        let Some(only) = with_only(&explained.file, noted) else { return false };
+        let Some(only) = with_only(file, noted) else { return false };
         let known = Known::of(&only);
         match &clash.what {
             What::OnElement { element, sides } => {

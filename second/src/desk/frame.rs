@@ -38,6 +38,8 @@ pub enum Frame {
     Allowance(u32),
     /// The marks of an expression; no number of them is the wrong length.
     Expression(Vec<u8>),
+    /// The file chooses salvage.
+    Salvage,
     /// An entry of the list: a mark of the sheet, and the round in which it first stands.
     Entry {
         round: u32,
@@ -103,6 +105,7 @@ fn shaped(bytes: &[u8]) -> Option<Frame> {
         [0x0C, a, b, c, d] => Frame::Allowance(u32::from_be_bytes([a, b, c, d])),
         [0x0E, first] => Frame::AskFrom(first),
         [0x0D, ref marks @ ..] => Frame::Expression(marks.to_vec()),
+        [0x0F] => Frame::Salvage,
         [0x10, a, b, c, d, from, to, concept] => {
             Frame::Entry { round: u32::from_be_bytes([a, b, c, d]), from, to, concept }
         }

@@ -11,7 +11,10 @@ use read::{Fault, File};
 
 pub fn desk(input: &[u8]) -> Vec<u8> {
     match read::read(input) {
-        Ok(file) => answers(&file),
+        Ok(mut file) => {
+            let dropped = file.salvage().into_iter().flat_map(dropped_line);
+            dropped.chain(answers(&file)).collect()
+        }
         Err(fault) => fault_line(fault),
     }
 }
@@ -22,6 +25,11 @@ pub fn fault_line(fault: Fault) -> Vec<u8> {
     let line = (fault.line as u32).to_be_bytes();
     let two = fault.line <= u16::MAX.into();
     written(&[&[0x8F], &line[if two { 2 } else { 0 }..], &[fault.number]].concat())
+}
+
+/// 92 and the line number of a dropped fact. No fact of a sound file stands beyond line 7,715.
+pub fn dropped_line(line: usize) -> Vec<u8> {
+    written(&[&[0x92], &(line as u16).to_be_bytes()[..]].concat())
 }
 
 /// A count as it is written, and a round's number: two bytes where at most 16 states are declared, else four.

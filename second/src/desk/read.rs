@@ -6,7 +6,9 @@ use crate::ask::Ask;
 use crate::collection::{Collection, ConceptFact, Counts, RoleFact};
 use crate::listing::{departure, listing, Entry};
 use crate::numbers::Deed;
+use crate::salvage::{kept, Fact};
 use crate::sheet::Mark;
+use std::collections::BTreeSet;
 
 /// Of both kinds together.
 const MOST_ASKS: usize = 256;
@@ -20,6 +22,8 @@ pub struct File {
     pub allowance: Option<u32>,
     /// Where the question is typed as an expression; its steps and finals are in the collection.
     pub expression: Option<Typed>,
+    /// The line that chooses salvage.
+    pub salvages: Option<usize>,
     /// The list that ends the file; where there is no frame 10 there is none.
     pub list: Vec<Entry>,
     pub lines: Lines,
@@ -52,6 +56,56 @@ impl File {
     pub fn allowance(&self) -> u32 {
         self.allowance.unwrap_or(self.collection.counts.most_rounds())
     }
+
+    /// The facts of both kinds in the order typed, each with its line.
+    pub fn facts(&self) -> Vec<(Fact, usize)> {
+        let concepts = self.collection.concept_facts.iter().map(|fact| Fact::Concept(*fact));
+        let roles = self.collection.role_facts.iter().map(|fact| Fact::Role(*fact));
+        let concepts = concepts.zip(self.lines.concept_facts.iter().copied());
+        let roles = roles.zip(self.lines.role_facts.iter().copied());
+        let mut facts: Vec<(Fact, usize)> = concepts.chain(roles).collect();
+        facts.sort_by_key(|(_, line)| *line);
+        facts
+    }
+
+    /// The lines of the facts that are dropped; none of a file that does not choose salvage.
+    pub fn dropped(&self) -> BTreeSet<usize> {
+        if self.salvages.is_none() {
+            return BTreeSet::new();
+        }
+        let (facts, lines): (Vec<Fact>, Vec<usize>) = self.facts().into_iter().unzip();
+        let marks = kept(&self.collection, &facts);
+        lines.into_iter().zip(marks).filter(|(_, kept)| !kept).map(|(line, _)| line).collect()
+    }
+
+    /// Takes the dropped facts out of their tables, and says on which lines they stand. What remains is what is answered.
+    pub fn salvage(&mut self) -> BTreeSet<usize> {
+        let dropped = self.dropped();
+        let (collection, lines) = (&mut self.collection, &mut self.lines);
+        take_out(&mut collection.concept_facts, &mut lines.concept_facts, &dropped);
+        take_out(&mut collection.role_facts, &mut lines.role_facts, &dropped);
+        dropped
+    }
+
+    /// The list that the list of this file must be; None in a contradiction, which a file that chooses salvage never is.
+    pub fn listing(&self) -> Option<Vec<Entry>> {
+        if self.salvages.is_none() {
+            return listing(&self.collection);
+        }
+        // Any facts that clash with nothing will do, since no mark depends on facts; these are the kept ones.
+        let dropped = self.dropped();
+        let mut collection = self.collection.clone();
+        take_out(&mut collection.concept_facts, &mut self.lines.concept_facts.clone(), &dropped);
+        take_out(&mut collection.role_facts, &mut self.lines.role_facts.clone(), &dropped);
+        listing(&collection)
+    }
+}
+
+/// Takes the records of these lines out of a table, and their lines with them.
+fn take_out<T>(table: &mut Vec<T>, lines: &mut Vec<usize>, dropped: &BTreeSet<usize>) {
+    let mut stays = lines.iter().map(|line| !dropped.contains(line));
+    table.retain(|_| stays.next().expect("each record has its line"));
+    lines.retain(|line| !dropped.contains(line));
 }
 
 /// A line ends at byte 0A; a last line of one character or more may lack it.
@@ -62,11 +116,11 @@ pub fn lines(input: &[u8]) -> impl Iterator<Item = &[u8]> {
     any.into_iter().flatten()
 }
 
-/// A file without fault. Its list, where it has one, is that of its sheet, or there is a contradiction.
+/// A file without fault. Its list, where it has one, is that of its sheet, or there is a contradiction and no salvage.
 pub fn read(input: &[u8]) -> Result<File, Fault> {
     let file = read_lines(input)?;
     let Some(first) = file.lines.list.first() else { return Ok(file) };
-    let departs = listing(&file.collection).and_then(|listing| departure(&file.list, &listing));
+    let departs = file.listing().and_then(|listing| departure(&file.list, &listing));
     match departs {
         Some(place) => Err(Fault { line: first + place, number: 15 }),
         None => Ok(file),
@@ -94,7 +148,7 @@ fn begin(numbers: [u8; 5]) -> Result<File, u8> {
     let counts = Counts::new(names, roles, individuals, states, start).ok_or(4)?;
     let collection = Collection::empty(counts);
     let (asks, list, lines) = (Vec::new(), Vec::new(), Lines::default());
-    Ok(File { collection, asks, allowance: None, expression: None, list, lines })
+    Ok(File { collection, asks, allowance: None, expression: None, salvages: None, list, lines })
 }
 
 /// One frame after the first: 11, then 5, 6, 8, 13, 12, 14 as its kind can have them.
@@ -113,6 +167,11 @@ fn take(file: &mut File, frame: Frame, at: usize) -> Result<(), u8> {
         Frame::Allowance(_) if file.allowance.is_some() => Err(11),
         Frame::Allowance(rounds) => {
             file.allowance = Some(rounds);
+            Ok(())
+        }
+        Frame::Salvage if file.salvages.is_some() => Err(11),
+        Frame::Salvage => {
+            file.salvages = Some(at);
             Ok(())
         }
         Frame::Ask(..) | Frame::AskFrom(_) => ask(file, frame, at),

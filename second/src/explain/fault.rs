@@ -4,7 +4,7 @@ use crate::desk::frame::{frame, most_characters, Frame};
 use crate::desk::question::{MOST_FINALS, MOST_STEPS};
 use crate::desk::read::{lines, read_lines, Fault, File, MOST_LISTED};
 use crate::expression::{read, Letter};
-use crate::listing::{listing, Entry};
+use crate::listing::Entry;
 use crate::numbers::MOST_STATES;
 
 pub struct Faulty {
@@ -56,8 +56,8 @@ fn characters(line: &[u8]) -> String {
     }
 }
 
-/// The kinds of frame from 01 to 0E: what they are called and how many bytes of fields they have.
-const KINDS: [(&str, &str); 14] = [
+/// The kinds of frame from 01 to 0F: what they are called and how many bytes of fields they have.
+const KINDS: [(&str, &str); 15] = [
     ("the counts", "5"),
     ("a concept rule", "2"),
     ("a concept exclusion", "2"),
@@ -73,6 +73,7 @@ const KINDS: [(&str, &str); 14] = [
     // Any number of marks is right.
     ("an expression", "any number of"),
     ("an ask of one individual", "1"),
+    ("the choice of salvage", "0"),
 ];
 
 /// The frame's kind as it is called; None when it is unknown.
@@ -103,6 +104,7 @@ fn place(input: &[u8], line: &[u8], at: usize) -> String {
         }
         (_, Ok(Frame::Counts(_))) => "frame 01 is given again".to_string(),
         (_, Ok(Frame::Allowance(_))) => "a second frame 0C".to_string(),
+        (_, Ok(Frame::Salvage)) => "a second frame 0F".to_string(),
         (_, Ok(Frame::Expression(_))) => "a second frame 0D, or one after a frame 08, 09 or 0A".to_string(),
         _ => "a frame 08, 09 or 0A after a frame 0D".to_string(),
     }
@@ -206,7 +208,7 @@ fn other_states(input: &[u8], line: &[u8]) -> String {
 
 /// What stands in the list of the sheet where the list of the file departs from it.
 fn departs(input: &[u8], at: usize) -> String {
-    let listed = |file: File| listing(&file.collection)?.get(at - file.lines.list.first()?).copied();
+    let listed = |file: File| file.listing()?.get(at - file.lines.list.first()?).copied();
     match read_lines(input).ok().and_then(listed) {
         Some(Entry { round, mark }) => {
             format!("the list is not the sheet: next is {mark}, which first stands in round {round}")

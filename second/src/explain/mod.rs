@@ -8,6 +8,7 @@ pub mod noted;
 pub mod path;
 pub mod people;
 pub mod rounds;
+pub mod salvage;
 pub mod walk;
 
 use crate::ask::Ask;
@@ -22,6 +23,7 @@ use fault::Faulty;
 use path::{unfold, Path, Spot};
 use people::People;
 use rounds::Rounds;
+use salvage::Salvage;
 use std::collections::BTreeMap;
 use walk::{Ground, Leg, Place, Walk};
 
@@ -29,7 +31,10 @@ use walk::{Ground, Leg, Place, Walk};
 pub const MOST_STEPS: usize = 200;
 
 pub struct Explanation {
+    /// Without the facts that are dropped.
     pub file: File,
+    /// Where the file chooses it.
+    pub salvage: Option<Salvage>,
     pub chains: Chains,
     pub people: People,
     pub clash: Option<Clash>,
@@ -87,13 +92,14 @@ impl Explanation {
     }
 
     pub fn of(input: &[u8], most_steps: usize) -> Result<Explanation, Faulty> {
-        let file = read(input).map_err(|fault| Faulty::of(input, fault))?;
+        let mut file = read(input).map_err(|fault| Faulty::of(input, fault))?;
         let chains = Chains::of(&file);
+        let salvage = Salvage::of(&mut file, &chains);
         let people = people::people(&file, &chains);
         let clash = Places { file: &file, chains: &chains, people: &people }.clash();
         let rounds = Rounds::of(&file);
         let asks = asks(&file, &rounds, &people, most_steps);
-        Ok(Explanation { file, chains, people, clash, rounds, asks })
+        Ok(Explanation { file, salvage, chains, people, clash, rounds, asks })
     }
 }
 

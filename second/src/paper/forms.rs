@@ -1,11 +1,11 @@
 //! The empty forms of the steps: what is known before the work stands there, and the rest is left to the pencil.
 
 use super::words::Words;
-use super::{asks, exclusions, orders, question, records, rounds, tree, ways};
+use super::{asks, exclusions, orders, question, records, rounds, salvage, tree, ways};
 use crate::explain::Explanation;
 
 /// Every form with its title, in the order of the work.
-pub const FORMS: [(&str, &str); 17] = [
+pub const FORMS: [(&str, &str); 18] = [
     ("records", "Step 1: the file"),
     ("numbers", "Step 1: the numbers"),
     ("orders", "Step 2: the orders"),
@@ -23,6 +23,7 @@ pub const FORMS: [(&str, &str); 17] = [
     ("answers", "Step 8: the answers"),
     ("copy", "The fair copy"),
     ("list", "The list of the sheet"),
+    ("salvage", "Facts that clash"),
 ];
 
 /// The empty form of a block; None where it has none.
@@ -31,6 +32,7 @@ pub fn form(block: &str, input: &[u8], explained: &Explanation, words: &Words) -
         "records" => records::records_form(input),
         "copy" => records::copy_form(input),
         "list" => records::list_form(input),
+        "salvage" => salvage::salvage_form(explained, words),
         "marks" => question::marks_form(explained),
         "places" => question::places_form(explained),
         "automaton" => question::automaton_form(explained),
@@ -54,7 +56,11 @@ pub fn form(block: &str, input: &[u8], explained: &Explanation, words: &Words) -
 
 /// All forms for a file, each with its title.
 pub fn all(input: &[u8], explained: &Explanation, words: &Words) -> String {
-    let needed = |block: &str| block != "below" || asks::is_one_asked_from(explained);
+    let needed = |block: &str| match block {
+        "below" => asks::is_one_asked_from(explained),
+        "salvage" => explained.salvage.is_some(),
+        _ => true,
+    };
     let titled = FORMS.iter().filter(|(block, _)| needed(block)).filter_map(|(block, title)| {
         let form = form(block, input, explained, words)?;
         Some(format!("## {title}\n\n{form}"))

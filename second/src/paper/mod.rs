@@ -9,6 +9,7 @@ mod orders;
 mod question;
 mod records;
 mod rounds;
+mod salvage;
 mod table;
 pub mod tree;
 mod ways;
@@ -26,6 +27,7 @@ pub fn block(name: &str, input: &[u8], explained: &Explanation, words: &Words) -
         "records" => records::records(input, words),
         "copy" => records::copy(input, words),
         "list" => records::list(input, words),
+        "salvage" => salvage::salvage(explained, words),
         "marks" => question::marks(explained, words),
         "places" => question::places(explained, words),
         "automaton" => question::automaton(explained, words),
@@ -129,6 +131,25 @@ mod tests {
         says("below", B, &["No ask is of one individual."]);
         assert!(!text("forms", B).contains("below the individuals"));
         assert_eq!(text("figures", &deed), "0\t-\t1\t2\t24\t28\t2 2\n1\t-\t0\t2\t24\t28\t2 2\n");
+    }
+
+    #[test]
+    fn facts_that_clash() {
+        let clashing = "010202020400 020040 024101 030001 0F 060000 060100 07000001 060001";
+        says("records", clashing, &["| 5 | `0F` | salvage is chosen |"]);
+        says("salvage", clashing, &["| 6 | Owner(0) | 0 has Owner, ∃signs | nothing | kept |"]);
+        says("salvage", clashing, &["| 7 | Deed(0) | 0 has Deed | Owner(0) (line 6) | dropped: `920007` |"]);
+        let joins = "0 has ∃signs; 1 has Deed, ∃(signs backward); (0, 1) has signs";
+        says("salvage", clashing, &[&format!("| 8 | signs(0, 1) | {joins} | nothing | kept |")]);
+        says("salvage", clashing, &["| signs(0, 1) (line 8) | dropped: `920009` |"]);
+        let clash = "Line 9, Owner(1). The clash: the element 1 has Owner and Deed, which line 4 excludes.";
+        let deed = "- Deed: line 8 joins it by signs backward to 0; ∃(signs backward) ≤ Deed (line 3)";
+        says("salvage", clashing, &[clash, deed]);
+        says("empty-salvage", clashing, &["| 6 | Owner(0) |  |  |  |"]);
+        says("forms", clashing, &["## Facts that clash"]);
+        says("salvage", "010101010100 030000 060000 0F", &["| the rules alone | dropped: `920003` |"]);
+        says("salvage", B, &["does not choose salvage"]);
+        assert!(!text("forms", B).contains("Facts that clash"));
     }
 
     const FACTS: &str = "010202030200 040002 030001 050103 060000 07000001 07010100 08000001 0A01 0B0001";

@@ -133,6 +133,7 @@ fn in_words(line: &[u8], words: &Words) -> String {
         Ok(Frame::AskFrom(first)) => format!("ask {}", ask(Ask::From(Individual(first)))),
         Ok(Frame::Allowance(rounds)) => format!("allowance of rounds {rounds}"),
         Ok(Frame::Expression(marks)) => format!("expression {}", words.expression(&marks)),
+        Ok(Frame::Salvage) => "salvage is chosen".to_string(),
         Ok(Frame::Entry { round, from, to, concept: has }) => {
             format!("mark ({from}, {to}, {}) of round {round}", concept(has))
         }

@@ -5,6 +5,7 @@ use crate::element::Element;
 use crate::explain::chain::{Link, Rule};
 use crate::expression::in_words;
 use crate::numbers::{Concept, Individual, Role, State};
+use crate::salvage::Fact;
 use crate::sheet::Mark;
 
 /// The words for names and roles, from number 0 on; a number without a word is written as `explain` writes it.
@@ -48,6 +49,14 @@ impl Words {
         match concept.as_neighbour() {
             Some(role) => format!("∃{}", self.bracketed(role)),
             None => self.names.get(concept.at()).cloned().unwrap_or_else(|| concept.to_string()),
+        }
+    }
+
+    /// `Owner(0)`, `signs(0, 1)`.
+    pub fn fact(&self, fact: &Fact) -> String {
+        match fact {
+            Fact::Concept(fact) => format!("{}({})", self.concept(fact.name), fact.who.0),
+            Fact::Role(fact) => format!("{}{}", self.role(fact.role), pair(fact.first, fact.second)),
         }
     }
 

@@ -11,7 +11,9 @@ use std::collections::{BTreeMap, BTreeSet};
 pub fn asks(explained: &Explanation) -> String {
     let mut text = String::from("\nASKS\n");
     if explained.asks.is_empty() {
-        text += "  none: the desk writes nothing\n";
+        let dropped = explained.salvage.as_ref().is_some_and(|salvage| !salvage.dropped.is_empty());
+        let written = if dropped { "nothing more" } else { "nothing" };
+        text += &format!("  none: the desk writes {written}\n");
     }
     for asked in &explained.asks {
         text += &ask(asked, explained);

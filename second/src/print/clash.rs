@@ -5,7 +5,12 @@ use crate::explain::clash::{Clash, ConceptSide, RoleSide, What};
 use crate::numbers::Concept;
 
 pub fn clash(clash: &Clash) -> String {
-    let mut text = String::from("\nCONTRADICTION (no round is worked)\n");
+    String::from("\nCONTRADICTION (no round is worked)\n") + &body(clash)
+}
+
+/// What is excluded and broken, and why both sides are there.
+pub fn body(clash: &Clash) -> String {
+    let mut text = String::new();
     match &clash.what {
         What::OnElement { element, sides } => {
             let [left, right] = [&sides[0], &sides[1]].map(concept_of);

@@ -3,6 +3,7 @@
 mod asks;
 mod clash;
 mod names;
+mod salvage;
 
 use crate::collection::Step;
 use crate::desk::fault_line;
@@ -45,6 +46,7 @@ pub fn explanation(explained: &Explanation) -> String {
     let mut text = String::from(NOTATION);
     text += &collection(explained);
     text += &orders(explained);
+    text += &explained.salvage.as_ref().map_or(String::new(), salvage::salvage);
     text += &people(explained);
     match &explained.clash {
         Some(clash) => text += &clash::clash(clash),

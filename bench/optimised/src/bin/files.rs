@@ -11,6 +11,7 @@ files spread KIND SIZE SEED
                          ladders; large or small, wide-large or wide-small
 files copy KIND          a file for the copyist: 4,096 role facts, random, in-order, from-the-highest, of-one-meaning or
                          of-one-record; or an expression
+files clash KIND         a file of 5,120 facts: contradiction or salvage; or, without exclusions, harmless or harmless-salvage
 files list KIND          a file with a list of 131,072 entries: full, departs or contradiction
 files plot               lines of series, size, program and instructions, parted by tabs, to an SVG
 files strip              lines of kind, size, the desk's instructions and the optimised program's, likewise";
@@ -25,6 +26,7 @@ fn main() -> ExitCode {
             seed.parse().ok().and_then(|seed| optimised::spread::make(kind, size, seed))
         }
         ["copy", kind] => optimised::copies::make(kind),
+        ["clash", kind] => optimised::clashes::make(kind),
         ["list", kind] => optimised::lists::make(kind),
         ["plot"] => drawn(optimised::plot::plot),
         ["strip"] => drawn(optimised::strip::strip),

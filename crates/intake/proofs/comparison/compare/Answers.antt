@@ -5,24 +5,25 @@ use Rattle.streams.specs.Input.{Input, left_of}
 use Rattle.intake.specs.Compared.{IsCompared}
 use Rattle.intake.specs.Next.{TakesLines}
 use Rattle.intake.proofs.Comparing.{named, whole-compared, nothing-taken, named-at, part-compared}
-use Rattle.intake.proofs.FileSheet.{well, lent-passes, is-held, broken}
+use Rattle.intake.proofs.FileSheet.{sheet-well, lent-passes, is-sheet, broken}
+use Rattle.intake.proofs.SheetLaws.{sheet-broken}
 use Rattle.intake.proofs.comparison.compare.Goals as goal
 
 pub invariant_of-checked : goal.invariant_of-checked
 invariant_of-checked g c =
     let file = c.args.file.now in
-    let its = c.collection.ensures.tables in
+    let its = c.sheet_of.ensures.tables in
     let passes =
-    lent-passes file c.requires.read c.requires.begun its.question its.is c.collection.result c.collection.ensures.counts its.are in
+    lent-passes file c.requires.read c.requires.begun its.question its.is c.sheet_of.result c.sheet_of.ensures.counts its.are in
     record { passes = passes }
 
 pub returns-in-Ok-true-clause-compared : goal.returns-in-Ok-true-clause-compared
 returns-in-Ok-true-clause-compared g c =
     let file = c.args.file.now in
-    let its = c.collection.ensures.tables in
-    let ok = well file c.requires.read c.requires.begun its.question its.is in
+    let its = c.sheet_of.ensures.tables in
+    let ok = sheet-well file c.requires.read c.requires.begun its.question its.is in
     let held =
-    is-held file c.requires.read c.requires.begun its.question its.is c.collection.result c.collection.ensures.counts its.are in
+    is-sheet file c.requires.read c.requires.begun its.question its.is c.sheet_of.result c.sheet_of.ensures.counts its.are in
     let told = rw held at c.in-Ok-true.ensures.told in
     let there = rw held at c.in-Ok-true.ensures.there in
     let named-so =
@@ -37,23 +38,21 @@ returns-in-Ok-true-clause-compared g c =
 pub returns-in-Ok-false-clause-broken : goal.returns-in-Ok-false-clause-broken
 returns-in-Ok-false-clause-broken g c =
     let file = c.args.file.now in
-    let its = c.collection.ensures.tables in
+    let its = c.sheet_of.ensures.tables in
     let held =
-    is-held file c.requires.read c.requires.begun its.question its.is c.collection.result c.collection.ensures.counts its.are in
+    is-sheet file c.requires.read c.requires.begun its.question its.is c.sheet_of.result c.sheet_of.ensures.counts its.are in
     let there = rw (c.in-Ok-false.field-0-test, held) at c.in-Ok-false.ensures.there in
-    record {
-      question = its.question;
-      is = its.is;
-      broken = broken file c.requires.read c.requires.begun its.question its.is (λ sane. false≢true (there.1 sane));
-    }
+    let none =
+    sheet-broken file its.question (broken file c.requires.read c.requires.begun its.question its.is (λ sane. false≢true (there.1 sane))) in
+    record { question = its.question; is = its.is; plain = none.0; broken = none.1 }
 
 pub returns-in-Ok-false-clause-unlooked : goal.returns-in-Ok-false-clause-unlooked
 returns-in-Ok-false-clause-unlooked g c =
     let file = c.args.file.now in
-    let its = c.collection.ensures.tables in
-    let ok = well file c.requires.read c.requires.begun its.question its.is in
+    let its = c.sheet_of.ensures.tables in
+    let ok = sheet-well file c.requires.read c.requires.begun its.question its.is in
     let held =
-    is-held file c.requires.read c.requires.begun its.question its.is c.collection.result c.collection.ensures.counts its.are in
+    is-sheet file c.requires.read c.requires.begun its.question its.is c.sheet_of.result c.sheet_of.ensures.counts its.are in
     let told = rw held at c.in-Ok-false.ensures.told in
     let there = rw (c.in-Ok-false.field-0-test, held) at c.in-Ok-false.ensures.there in
     let none = broken file c.requires.read c.requires.begun its.question its.is (λ sane. false≢true (there.1 sane)) in
@@ -67,10 +66,10 @@ returns-in-Ok-false-clause-unlooked g c =
 pub returns-in-Err-Departs-clause-compared : goal.returns-in-Err-Departs-clause-compared
 returns-in-Err-Departs-clause-compared g c =
     let file = c.args.file.now in
-    let its = c.collection.ensures.tables in
-    let ok = well file c.requires.read c.requires.begun its.question its.is in
+    let its = c.sheet_of.ensures.tables in
+    let ok = sheet-well file c.requires.read c.requires.begun its.question its.is in
     let held =
-    is-held file c.requires.read c.requires.begun its.question its.is c.collection.result c.collection.ensures.counts its.are in
+    is-sheet file c.requires.read c.requires.begun its.question its.is c.sheet_of.result c.sheet_of.ensures.counts its.are in
     let failed = rw (c.in-Err-Departs.field-0-is, held) at c.in-Err-Departs.ensures.failed in
     let named-so =
     named-at file its.question its.is ok (λ l. l.lines.ghost_name) (λ l. l.lines.now) (λ l. l.right) c.new-comparison.result

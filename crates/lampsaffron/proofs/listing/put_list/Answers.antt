@@ -9,13 +9,15 @@ use Rattle.lampsaffron.proofs.listing.put_list.Goals as goal
 pub returns-in-Err-clause-number : goal.returns-in-Err-clause-number
 returns-in-Err-clause-number c =
     rw (c.number.ensures.number, c.answer.ensures)
-    (holds c.requires.fits (holds c.requires.room (refused-number c.args.lent.now c.requires.fits c.in-Err.refusal c.in-Err.ensures.refused _)))
+    (holds c.requires.fits
+    (holds c.requires.room (refused-number c.args.lent.now c.requires.fits c.in-Err.refusal c.in-Err.ensures.refused _)))
 
 pub unreachable-requires : goal.unreachable-requires
 unreachable-requires c =
     let w = c.in-Err-tell_sheet.ensures.failed in
     let l = c.in-Ok.checked in
-    no-place put_entries (λ x. x.numbers.now) (λ x. x.told) (λ x. x.numbers.ghost_name) _ (λ x r m y k. k) (λ x r m e y k. k) c.requires.none w.3
+    no-place put_entries (λ x. x.numbers.now) (λ x. x.told) (λ x. x.numbers.ghost_name) _
+    (λ x r m y k. k) (λ x r m e y k. k) c.requires.none w.3
     (omega (arith, all_put-few put_entries 0 w.0 w.1, few-told l.lent l.passes _ w.2, c.requires.room))
 
 pub returns-in-Ok-true-clause-same : goal.returns-in-Ok-true-clause-same

@@ -7,6 +7,7 @@ use Rattle.lampsaffron.proofs.Made.{made-once, tables-once}
 use Rattle.lampsaffron.proofs.Rounds.{marks-once}
 use Rattle.lampsaffron.proofs.SameLaws.{same-once}
 use Rattle.lampsaffron.proofs.ListOnce.{giving-once, departing-once}
+use Rattle.lampsaffron.proofs.SalvageLaws.{salvaging_once}
 use Rattle.lampsaffron.proofs.theorems.unique.Goals as goal
 
 pub returns-clause-one_call : goal.returns-clause-one_call
@@ -44,3 +45,6 @@ returns-clause-one_departing c = departing-once
 
 pub returns-clause-one_comparing : goal.returns-clause-one_comparing
 returns-clause-one_comparing c = same-once
+
+pub returns-clause-one_salvaging : goal.returns-clause-one_salvaging
+returns-clause-one_salvaging c = salvaging_once

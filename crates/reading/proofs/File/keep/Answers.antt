@@ -1,6 +1,6 @@
 -- A frame of another kind than an expression passes the tests of one.
 use Rattle.reading.proofs.Rows.{passes}
-use Rattle.reading.proofs.File.keep.Goals.{in-Declared, in-ConceptRule, in-ConceptExclusion, in-RoleRule, in-RoleExclusion, in-ConceptFact, in-RoleFact, in-RoleStep, in-TestStep, in-Final, in-Ask, in-AskFrom, in-Allowance, in-ListedMark, in-Expression+in_ok-express-in-Expression}
+use Rattle.reading.proofs.File.keep.Goals.{in-Declared, in-ConceptRule, in-ConceptExclusion, in-RoleRule, in-RoleExclusion, in-ConceptFact, in-RoleFact, in-RoleStep, in-TestStep, in-Final, in-Ask, in-AskFrom, in-Allowance, in-Salvage, in-ListedMark, in-Expression+in_ok-express-in-Expression}
 use Rattle.reading.proofs.File.keep.Goals as goal
 
 pub returns-clause-judged : goal.returns-clause-judged
@@ -19,6 +19,7 @@ returns-clause-judged c few =
       | in-Ask w ↦ rw w.in-Ask.is passes
       | in-AskFrom w ↦ rw w.in-AskFrom.is passes
       | in-Allowance w ↦ rw w.in-Allowance.is passes
+      | in-Salvage w ↦ rw w.in-Salvage.is passes
       | in-ListedMark w ↦ rw w.in-ListedMark.is passes
       | in-Expression+in_ok-express-in-Expression w ↦ rw w.in-Expression.is w.in_ok-express-in-Expression.ensures.taken
     ]

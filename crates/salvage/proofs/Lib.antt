@@ -1,0 +1,9 @@
+pub mod SalvageLaws
+pub mod FactLaws
+pub mod EntryLaws
+pub mod ExcludedLaws
+pub mod LocalLaws
+pub mod TouchingLaws
+pub mod TestLaws
+pub mod SalvagedLaws
+pub mod Calculated
