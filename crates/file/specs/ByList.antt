@@ -31,8 +31,8 @@ entries_in list n = count_by (λ x. x.0 == n) list
 abbrev pub rounds_listed : List Frame → Listed → ℕ
 rounds_listed fs q = last_round (numbered_lite (collection_read fs q)) (list_in fs)
 
--- the rounds that are told of are those up to it, as far as they are allowed, and each has as many
--- marks as the list has entries with its number
+-- a text tells of each round up to that one, as far as rounds are allowed, and says of a round as
+-- many marks as the list has entries with its number
 pub record TellsByList (fs : List Frame) (q : Listed) (text : List ℕ) : Type 0 where
   pub many : rounds_in (entries asks fs) text ≡ min (rounds_listed fs q) (rounds_allowed fs)
   pub each : (k : ℕ) → k < min (rounds_listed fs q) (rounds_allowed fs)

@@ -16,7 +16,7 @@ use Rattle.file.specs.Told.{IsFaultLine}
 abbrev pub IsEntryLine : List ℕ → Type 0
 IsEntryLine line = (f : Frame) × FrameOf line (Ok f) × IsSome (entry_in f)
 
--- another input has the lines of an input but for frames 10 at its end, and no other frame 10
+-- an input ends with frames 10, and another has all its lines before these, and has no frame 10
 pub record LeavesOutList (input other : List ℕ) : Type 0 where
   pub list : List (List ℕ)
   pub lines_are : lines input ≡ lines other ++ list

@@ -53,7 +53,7 @@ pub fn list()
     ensures refused { ListRefused }
 {}
 
-// Who has an accepted list has the answers, and what is told of the rounds.
+// An accepted list determines the answers that are written, and the lines of the rounds.
 pub fn by_list()
     ensures answers { LinesSayByList }
     ensures rounds { RoundsToldByList }

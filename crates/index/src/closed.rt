@@ -12,8 +12,8 @@ use kinds::Rounds;
 use sheet::RoundListener;
 
 impl<'a> Checked<'a> {
-    // The marks of the closed sheet told, round by round, whatever the allowance. Whether there is one: a contradiction has no
-    // sheet, and nothing is told of it.
+    // Tells the listener the marks of the closed sheet, round by round, whatever the allowance is. It returns whether there is
+    // a sheet: a contradiction has none, and the listener is then told nothing.
     pub fn tell_sheet<L: RoundListener>(&self, listener: &mut L) -> Result<bool, L::Error>
         ensures there { IfOk result (λ there.
             IsTrue there ↔ (¬ Contradiction (meant self.now.lent.collection))) }

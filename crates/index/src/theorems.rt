@@ -38,7 +38,7 @@ pub fn areas()
     ensures by_answer { AnswerFixesAreas }
 {}
 
-// What a listener is told of a preparation: the marks of each round, how many they are, and what those numbers come to.
+// A listener is told one thing of a preparation: the marks of each round. Their numbers make the marks that stand in the sheet.
 pub fn told()
     ensures one_telling { (p : Preparation) → AtMostOne (MarksTold p) }
     ensures a_telling { (p : Preparation) → (rounds : List RoundMarks) × MarksTold p rounds }
@@ -49,7 +49,7 @@ pub fn told()
     ensures at_most { (p : Preparation) → ToldAtMost p }
 {}
 
-// What a listener is told of a closed sheet: its list, whatever the collection.
+// A listener is told one thing of a closed sheet: the marks of its list, round by round.
 pub fn listed()
     ensures one_telling { (c : Collection) → WellFormed c → AtMostOne (SheetTold c) }
     ensures a_list { (c : Collection) → WellFormed c → SheetIsListed c }

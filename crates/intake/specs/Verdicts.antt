@@ -29,7 +29,8 @@ pub data Accepted (fs : List Frame) : Type 0 where
   no-list : list_in fs ≡ [] → Accepted fs
   contradiction : (q : Listed) → IsQuestionOf fs q → salvages fs ≡ false
       → Contradiction (collection_read fs q) → Accepted fs
-  listing : (q : Listed) → IsQuestionOf fs q → IsListing (collection_read fs q) (list_in fs) → Accepted fs
+  listing : (q : Listed) → IsQuestionOf fs q
+      → IsListing (collection_read fs q) (list_in fs) → Accepted fs
 
 -- there is a list, they choose salvage or are no contradiction, and it departs from the listing at
 -- place k, counted from 0: there an entry of it is another than that of the listing, or one of both

@@ -46,8 +46,8 @@ CountsOk other = ⊤
 abbrev pub HasRoom : List Frame → Frame → Type 0
 HasRoom before f = (kind : Kind) → IsSome (record_in kind f) → entries kind before < most kind
 
--- not 6: each number of its record is declared, and what each role or test mark reads; a deed
--- number may be any, and so may a round
+-- not 6: each number of its record is declared, and what each role or test mark reads; this test
+-- passes any deed number, and any round of a list
 module _ (counts : Counts) where
   abbrev pub NumbersOk : Frame → Type 0
   NumbersOk (ConceptRule C D) = ConceptsDeclared counts (C, D)

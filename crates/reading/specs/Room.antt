@@ -16,7 +16,7 @@ unfoldable pub once_room : {A : Type 0} → Option A → ℕ
 once_room None = 1
 once_room (Some given) = 0
 
--- and so it is of the choice of salvage
+-- a file that has not chosen salvage may choose it once, and one that has may not again
 unfoldable pub choice_room : Bool → ℕ
 choice_room false = 1
 choice_room true = 0
