@@ -1,6 +1,6 @@
 -- What the answer means to a caller: of a collection whose numbers are declared, the marks clash exactly when its canonical model has a
 -- contradiction.
-use Rattle.std.specs.Prelude.{ℕ, ◌+◌, ◌<◌, ◌≡◌, refl, ◌⊎◌, ◌↔◌, IsTrue, List}
+use Rattle.std.specs.Prelude.{ℕ, ◌+◌, ◌/◌, ◌<◌, ◌≡◌, refl, ◌⊎◌, ◌↔◌, IsTrue, List, length}
 use Rattle.std.proofs.Common.{ap, arith, inl, inr, ⊎_elim}
 use Rattle.kinds.specs.declared.Individual.{Individual}
 use Rattle.kinds.specs.declared.SignedRole.{SignedRole}
@@ -12,7 +12,7 @@ use Rattle.kinds.specs.Kinds.{number_of, concept_of, number-concept, concept-num
 use Rattle.kinds.specs.Kinds.{ConceptDeclared}
 use Rattle.laws.specs.Member.{◌∈◌}
 use Rattle.meaning.specs.Collection.{NumbersDeclared}
-use Rattle.meaning.specs.Lent.{Tables, collection, records, rule_width}
+use Rattle.meaning.specs.Lent.{Tables, collection, records, rule_width, role_fact_width}
 use Rattle.meaning.specs.Orders.{RoleFollows, RoleLe, ConceptLe, turned}
 use Rattle.meaning.specs.Model.{IndividualHas, FactEdge as ModelEdge, Contradiction}
 use Rattle.meaning.specs.Clash.{Alive, Clash, individual-clash, unnamed-clash, fact-clash, down-clash, up-clash}
@@ -25,14 +25,11 @@ use Rattle.orders.proofs.Table.{pair_of, rules_of, rules-all, rule-in, rule-out}
 use Rattle.orders.proofs.Mean.{role-below, concept-below, all-role-rules, all-concept-rules}
 use Rattle.elements.proofs.Mean.{shown-declared, concepts-mean}
 use Rattle.elements.proofs.GeneratingMean.{generating-mean, generating-below}
-use Rattle.edges.specs.declared.FactEdge.{FactEdge}
-use Rattle.edges.specs.Edges.{IsFactEdge}
-use Rattle.edges.specs.Meant.{AreFew}
-use Rattle.edges.proofs.EdgeLaws.{edge-role, edge-from}
-use Rattle.edges.proofs.Mean.{edge-means, model-edge}
-use Rattle.clash.specs.Clashes.{BothSides, Marked, ConceptsClash, ChildClashes, PairHas, RolesClash}
+use Rattle.clash.specs.Clashes.{BothSides, Marked, ConceptsClash, ChildClashes, IsMade, HasAny, PairHas, RolesClash}
 use Rattle.clash.specs.Conflicts.{IsConcerned}
 use Rattle.clash.proofs.SeekLaws.{sides_same}
+use Rattle.clash.proofs.PastLaws.{made-role, made-from}
+use Rattle.clash.proofs.FactMean.{made-means, model-made}
 use Rattle.clash.specs.Meant.{Computed, Clashes, IsOf}
 
 -- P holds of both sides of an exclusion
@@ -86,7 +83,7 @@ turned-back : {rules : List (SignedRole × SignedRole)} (R S : SignedRole) → R
     → RoleFollows rules R (inverse S)
 turned-back R S l = rw (inverse-inverse R) at (turned l)
 
-module _ (c : Counts) (t : Tables) (fit : CountsFit c) (ok : NumbersDeclared (collection c t)) (few : AreFew t.role-facts)
+module _ (c : Counts) (t : Tables) (fit : CountsFit c) (ok : NumbersDeclared (collection c t))
     (m : Computed) (o : IsOf t m) where
   -- the row of a role, and that of the concept of an unnamed element, whether the role is declared or not
   role-le : (Q : ℕ) (S : SignedRole) → Q < role_width → SignedDeclared c S → IsTrue (m.roles Q S.0) ↔ RoleLe (collection c t) (signed Q) S
@@ -108,44 +105,44 @@ module _ (c : Counts) (t : Tables) (fit : CountsFit c) (ok : NumbersDeclared (co
       let h = generating-below l in
       (h, (o.generating.at R.0 h).1 l)
 
+  abbrev many : ℕ
+  many = length t.role-facts / role_fact_width
+
   -- the roles that facts give a pair, by edges of whatever role, are those of its edges in the model
-  record AnyPairHas (a b S : ℕ) : Type 0 where
-    edge : FactEdge
-    is : IsFactEdge t.role-facts a edge
-    to : edge.to.0 ≡ b
-    follows : IsTrue (m.roles edge.role.0 S)
+  abbrev AnyPairHas : ℕ → ℕ → ℕ → Type 0
+  AnyPairHas a = PairHas (IsMade t.role-facts many a) m.roles
 
   fact→edge : (a b : ℕ) (S : SignedRole) → SignedDeclared c S → AnyPairHas a b S.0
       → ModelEdge (collection c t) (individual a) S (individual b)
   fact→edge a b S h f =
       let e : f.edge.to ≡ individual b = ap individual f.to in
-      rw e at (edge-means c t (individual a) f.edge f.is S ((role-le f.edge.role.0 S (edge-role t.role-facts a f.edge f.is) h).0 f.follows))
+      rw e at (made-means c t (individual a) f.edge f.has S ((role-le f.edge.role.0 S (made-role t.role-facts many a f.edge f.has) h).0 f.follows))
 
   edge→fact : (a b : Individual) (S : SignedRole) → SignedDeclared c S → ModelEdge (collection c t) a S b → AnyPairHas a.0 b.0 S.0
   edge→fact a b S h e =
-      let w = model-edge c t fit ok few a b S e in
+      let w = model-made c t fit ok a b S e in
       let p = w.1 in
       record {
         edge = w.0;
-        is = p.is;
+        has = p.is;
         to = ap (λ (i : Individual). i.0) p.to;
-        follows = (role-le w.0.role.0 S (edge-role t.role-facts a.0 w.0 p.is) h).1 p.below;
+        follows = (role-le w.0.role.0 S (made-role t.role-facts many a.0 w.0 p.is) h).1 p.below;
       }
 
   -- of both sides of an exclusion, each edge is by a role that the exclusion concerns
   all→among : (a b i j : ℕ) → i < role_width → j < role_width → Listed t.role-exclusions i j ⊎ Listed t.role-exclusions j i
       → AnyPairHas a b i
-      → PairHas t.role-facts m.among m.roles a b i
+      → PairHas (HasAny t.role-facts m.among a) m.roles b i
   all→among a b i j hi hj l f =
       let w : IsConcerned t.role-exclusions m.roles f.edge.role.0 = record {
-        within = edge-role t.role-facts a f.edge f.is;
+        within = made-role t.role-facts many a f.edge f.has;
         from = j;
         row = hj;
         excluded = record { by = i; row = hi; above = f.follows; sides = l };
       } in
       record {
         edge = f.edge;
-        has = record { is = f.is; member = o.among f.edge.role.0 (rw o.role_exclusions w) };
+        has = record { is = f.has; member = o.among f.edge.role.0 (rw o.role_exclusions w) };
         to = f.to;
         follows = f.follows;
       }
@@ -223,7 +220,7 @@ module _ (c : Counts) (t : Tables) (fit : CountsFit c) (ok : NumbersDeclared (co
       let y = rw (o.role_exclusions, o.facts) at s.has.sides in
       let w = (pair-sides s.one s.has.to).0
       (sides_same _ _ _ (AnyPairHas s.one s.has.to)
-      (λ i j hi hj l f. record { edge = f.edge; is = f.has.is; to = f.to; follows = f.follows }) y) in
+      (λ i j hi hj l f. record { edge = f.edge; has = f.has.is; to = f.to; follows = f.follows }) y) in
       fact-clash (individual s.one) (individual s.has.to) w.left w.right w.listed w.has_left w.has_right
 
   by-child : (Q : ℕ) → Q < role_width → IsTrue (has m.generating Q) → ChildClashes m.role_exclusions m.roles Q → Clashes m
@@ -246,7 +243,7 @@ module _ (c : Counts) (t : Tables) (fit : CountsFit c) (ok : NumbersDeclared (co
       }))
   clash→clashes (fact-clash a b R S e f g) =
       let w = (pair-sides a.0 b.0).1 (record { left = R; right = S; listed = e; has_left = f; has_right = g }) in
-      let l = edge-from t.role-facts a.0 w.has_left.edge w.has_left.is in
+      let l = made-from t.role-facts many a.0 w.has_left.edge w.has_left.has in
       inr (inr (record {
         one = a.0;
         within = l;

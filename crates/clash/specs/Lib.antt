@@ -2,3 +2,5 @@
 pub mod Clashes
 pub mod Conflicts
 pub mod Meant
+-- What the private ones name: how far the edges of an individual are tried.
+pub mod Tried

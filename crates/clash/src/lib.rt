@@ -8,6 +8,7 @@ ghost use Rattle.clash.specs.Clashes.{ConceptsClash, RolesClash};
 ghost use Rattle.clash.specs.Conflicts.{AreConcerned};
 
 mod concepts;
+mod past;
 mod roles;
 pub mod theorems;
 
@@ -53,6 +54,7 @@ impl<'a> Exclusions<'a> {
     }
 
     /// Whether some element and its child, or two individuals, have both sides of an exclusion of roles. With no exclusion nothing is worked out.
+    /// Every fact of the table counts, also past those whose edges the list has.
     pub fn contradicts_roles(
         &self,
         roles: &RoleOrder,

@@ -4,10 +4,12 @@ ghost use Rattle.std.specs.Prelude.{◌≡◌, ◌<◌, ◌⊎◌, ◌↔◌, Is
 ghost use Rattle.kinds.specs.Kinds.{most_individuals};
 ghost use Rattle.sets.specs.Bits.{role_width, has};
 ghost use Rattle.sets.specs.Rows.{Adds, role_marks};
-ghost use Rattle.clash.specs.Clashes.{HaveBothSides, SomeBelow, SomeIn, ChildClashes, PairClashes, RolesClash};
+ghost use Rattle.edges.specs.Edges.{HasEdge};
+ghost use Rattle.edges.specs.Meant.{AreFew};
+ghost use Rattle.clash.specs.Clashes.{HaveBothSides, SomeBelow, SomeIn, ChildClashes, HasAny, PairClashes, RolesClash};
 ghost use Rattle.clash.specs.Conflicts.{BothWays, SidesListed, Joins, Raises, IsUnionBelow, Excludes, AreConcerned, AreMet, ByEdge};
 
-use edges::{FactEdge, FactEdges};
+use edges::{FactEdge, FactEdges, ROLE_FACTS};
 use kinds::{Individual, SignedRole};
 use orders::RoleOrder;
 use sets::RoleSet;
@@ -112,6 +114,13 @@ pub fn excluded_from(exclusions: Table<RolePair>, roles: &RoleOrder) -> RoleRela
     raised(&sides, roles)
 }
 
+// Whether the list has edges of every fact of the table: it has room for those of the first facts alone, as many as a table may have.
+fn has_all(edges: &FactEdges) -> bool
+    ensures { IsTrue result ↔ AreFew edges.now.facts.numbers.now }
+{
+    edges.facts.len() <= ROLE_FACTS
+}
+
 // Whether some role is in both sets.
 fn meet(x: RoleSet, y: RoleSet) -> bool
     ensures { IsTrue result ↔ AreMet (has x.0) (has y.0) }
@@ -180,8 +189,9 @@ impl<'a> RoleConflicts<'a> {
     fn may_break(&self, edges: &FactEdges, a: Individual) -> bool
         requires { Excludes self.now.exclusions.numbers.now
             (role_marks self.now.roles.now.above) (role_marks self.now.excluded) }
-        ensures { PairClashes self.now.exclusions.numbers.now edges.now.facts.numbers.now
-            edges.now.roles.0 (role_marks self.now.roles.now.above) a.0 → IsTrue result }
+        ensures { PairClashes self.now.exclusions.numbers.now
+            (HasEdge edges.now.facts.numbers.now edges.now.roles.0)
+            (role_marks self.now.roles.now.above) a.0 → IsTrue result }
     {
         let mut follow = RoleSet::EMPTY;
         let mut excluded = RoleSet::EMPTY;
@@ -194,7 +204,7 @@ impl<'a> RoleConflicts<'a> {
     }
 
     // What follows from the role of one edge more is put into the set of its pair. Whether some role of that set is excluded from it.
-    fn join_edge(&self, met: &mut [RoleSet; Individual::NUMBERS], edge: FactEdge) -> bool
+    pub(crate) fn join_edge(&self, met: &mut [RoleSet; Individual::NUMBERS], edge: FactEdge) -> bool
         requires role { edge.role.0 < role_width }
         requires to { edge.to.0 < most_individuals }
         ensures adds { Adds most_individuals role_width (role_marks met.old)
@@ -213,7 +223,7 @@ impl<'a> RoleConflicts<'a> {
         requires { Excludes self.now.exclusions.numbers.now
             (role_marks self.now.roles.now.above) (role_marks self.now.excluded) }
         ensures { IsTrue result ↔ PairClashes self.now.exclusions.numbers.now
-            edges.now.facts.numbers.now edges.now.roles.0
+            (HasEdge edges.now.facts.numbers.now edges.now.roles.0)
             (role_marks self.now.roles.now.above) a.0 }
     {
         if !self.may_break(edges, a) {
@@ -228,14 +238,15 @@ impl<'a> RoleConflicts<'a> {
         false
     }
 
-    // Whether some ordered pair of individuals has.
+    // Whether some ordered pair of individuals has, by the edges of the list.
     #[tactic(auto, using(crate::proofs::SeekLaws::past_none, crate::proofs::SeekLaws::past_more, crate::proofs::SeekLaws::past_here))]
     fn break_at_pairs(&self, edges: &FactEdges) -> bool
         requires { Excludes self.now.exclusions.numbers.now
             (role_marks self.now.roles.now.above) (role_marks self.now.excluded) }
         ensures { IsTrue result ↔ SomeBelow most_individuals
-            (PairClashes self.now.exclusions.numbers.now edges.now.facts.numbers.now
-            edges.now.roles.0 (role_marks self.now.roles.now.above)) }
+            (PairClashes self.now.exclusions.numbers.now
+            (HasEdge edges.now.facts.numbers.now edges.now.roles.0)
+            (role_marks self.now.roles.now.above)) }
     {
         for a in 0..Individual::NUMBERS {
             if self.break_from(edges, Individual(a as u16)) {
@@ -243,6 +254,22 @@ impl<'a> RoleConflicts<'a> {
             }
         }
         false
+    }
+
+    // Whether some ordered pair of individuals has, by the edges of all facts. Where the list has not all of them, the table is gone through itself.
+    fn break_at_any_pair(&self, edges: &FactEdges) -> bool
+        requires { Excludes self.now.exclusions.numbers.now
+            (role_marks self.now.roles.now.above) (role_marks self.now.excluded) }
+        ensures { IsTrue result ↔ SomeBelow most_individuals
+            (PairClashes self.now.exclusions.numbers.now
+            (HasAny edges.now.facts.numbers.now edges.now.roles.0)
+            (role_marks self.now.roles.now.above)) }
+    {
+        if has_all(edges) {
+            self.break_at_pairs(edges)
+        } else {
+            self.break_past_list(edges.facts, edges.roles)
+        }
     }
 
     // Whether some element and its child, or two individuals, have both sides of an exclusion.
@@ -253,6 +280,6 @@ impl<'a> RoleConflicts<'a> {
             (role_marks self.now.roles.now.above) generating.0
             edges.now.facts.numbers.now edges.now.roles.0 }
     {
-        self.break_at_children(generating) || self.break_at_pairs(edges)
+        self.break_at_children(generating) || self.break_at_any_pair(edges)
     }
 }

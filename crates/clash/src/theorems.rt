@@ -6,7 +6,6 @@ ghost use Rattle.meaning.specs.Collection.{WellFormed};
 ghost use Rattle.meaning.specs.Lent.{Tables, collection};
 ghost use Rattle.sets.specs.Bits.{role_width};
 ghost use Rattle.sets.specs.Rows.{RoleRows, role_marks};
-ghost use Rattle.edges.specs.Meant.{AreFew};
 ghost use Rattle.clash.specs.Meant.{Computed, Clashes, ClashMeans};
 ghost use Rattle.clash.specs.Conflicts.{AreConcerned, Excludes};
 
@@ -20,8 +19,8 @@ pub fn unique()
         → AtMostOneOf (RoleRows role_width) (λ rows. Excludes table roles (role_marks rows)) }
 {}
 
-/// Of a collection whose numbers are declared, and whose role facts are not too many.
+/// Of a collection whose numbers are declared, however many role facts it has.
 pub fn meant()
     ensures clash_means { (c : Counts) (t : Tables) → WellFormed (collection c t)
-        → AreFew t.role-facts → ClashMeans c t }
+        → ClashMeans c t }
 {}

@@ -145,7 +145,7 @@ module _ (c : code.Collection) (roles : RoleOrder) (order : ConceptOrder) (eleme
       → ((R : ℕ) → IsConcerned t.role-exclusions (role_marks roles.above) R → Has among R)
       → (OfConcepts ⊎ OfRoles facts among) ↔ Contradiction 𝓒
   clash-right facts among e w =
-      clash-mean c.counts t p.counts ok p.tables.role-facts.few
+      clash-mean c.counts t p.counts ok
       (record {
         concept_exclusions = t.concept-exclusions;
         role_exclusions = t.role-exclusions;
