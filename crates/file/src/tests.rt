@@ -63,6 +63,28 @@ impl Read for Pieces<'_> {
     }
 }
 
+// What is typed at a terminal: after the end of one part the terminal stays open, and another part may come.
+#[derive(Drop)]
+struct Typed<'a> {
+    rest: &'a [u8],
+    behind: &'a [u8],
+    is_ended: bool,
+}
+
+impl Read for Typed<'_> {
+    fn read(&mut self, buf: &mut [u8]) -> io::Result<usize> {
+        if self.rest.is_empty() && !self.is_ended {
+            self.is_ended = true;
+            self.rest = self.behind;
+            return Ok(0);
+        }
+        let n = self.rest.len().min(buf.len());
+        buf[..n].copy_from_slice(&self.rest[..n]);
+        self.rest = &self.rest[n..];
+        Ok(n)
+    }
+}
+
 const ROOM: usize = 64;
 
 // A writer that takes so many bytes at a time, each time after a signal, and fails once it has the most.
@@ -141,6 +163,20 @@ fn reads_and_writes_in_pieces(rt: HostRuntime) {
             assert!(rt; serve(Pieces::new(input, size, true), &mut sink).is_ok());
             sink.assert_holds(&rt, want);
         }
+    }
+}
+
+#[test]
+fn reads_no_more_once_the_input_has_ended(rt: HostRuntime) {
+    for input in [INPUT, &INPUT[..INPUT.len() - 1]] {
+        let source = Typed {
+            rest: input,
+            behind: FAULTY,
+            is_ended: false,
+        };
+        let mut sink = Taking::new(ROOM, ROOM);
+        assert!(rt; serve(source, &mut sink).is_ok());
+        sink.assert_holds(&rt, OUTPUT);
     }
 }
 

@@ -10,6 +10,7 @@ ghost use Rattle.std.specs.declared.io.Error.{Error};
 use std::io;
 use std::io::{ErrorKind, Read, Write};
 
+mod ending;
 pub mod lines;
 pub mod memory;
 pub mod output;
@@ -22,8 +23,8 @@ pub const LINE: usize = 130;
 // The bytes of a buffer, between a source and its lines and before a sink.
 pub const BUFFER: usize = 4096;
 
-// How often a call that a signal cuts short is made again.
-const REPEATS: usize = 100;
+// How often a call that a signal cuts short is made again: so often that no machine comes to the end of it.
+const REPEATS: usize = usize::MAX;
 
 pub trait Source {
     // The bytes that reads will give from here on, where they are known.

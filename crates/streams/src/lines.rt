@@ -5,6 +5,7 @@ ghost use Rattle.std.specs.Io.KnownBytes.{Keeps, prepend_known};
 ghost use Rattle.streams.specs.Gives.{Gives, ConsumesNext};
 ghost use Rattle.streams.specs.Input.{left_of, IsFilled};
 
+use crate::ending::Ending;
 use crate::window::Window;
 use crate::{BUFFER, LINE, Source};
 use std::io;
@@ -105,11 +106,12 @@ fn next_line<S: Source>(window: &mut Window, source: &mut S) -> io::Result<Next>
     }
 }
 
-// An input, read line by line. Callers see the bytes that are held of it, and those behind them, where these are known.
+// An input, read line by line, and no more once it has ended. Callers see the bytes that are held of it, and those behind them,
+// where these are known.
 #[derive(Drop)]
 pub struct Lines<S: Source> {
     window: Window,
-    source: S,
+    source: Ending<S>,
 }
 
 impl<S: Source> Model for Lines<S> {
@@ -117,7 +119,7 @@ impl<S: Source> Model for Lines<S> {
 
     ghost Value = { Input };
 
-    ghost view = { λ l. record { held = l.window; behind = S.remaining l.source } };
+    ghost view = { λ l. record { held = l.window; behind = l.source } };
 }
 
 impl<S: Source> Lines<S> {
@@ -126,7 +128,7 @@ impl<S: Source> Lines<S> {
     {
         Lines {
             window: Window::new(),
-            source,
+            source: Ending::new(source),
         }
     }
 
