@@ -1,6 +1,9 @@
 // Memory for the tables that walks go by, and the filled tables.
 
 ghost use Rattle.std.specs.Prelude.{◌≡◌};
+ghost use Rattle.std.specs.List.{All};
+ghost use Rattle.sets.specs.Rows.{no_states};
+ghost use Rattle.edges.specs.declared.packed.PackedEdge.{PackedEdge as TheEdge};
 ghost use Rattle.walk.specs.Covers.{Covers};
 
 use edges::{FactEdges, MOST_FACT_EDGES, PackedEdge};
@@ -18,7 +21,13 @@ pub struct Routes {
 }
 
 impl Routes {
-    pub fn new() -> Routes {
+    // Nothing stands in any table yet.
+    pub fn new() -> Routes
+        ensures list { All (λ (edge : TheEdge). edge.0 ≡ 0) result.list }
+        ensures loops { All (All (λ states. states ≡ no_states)) result.loops.rows }
+        ensures transitions { All (All (λ states. states ≡ no_states)) result.transitions }
+        ensures accepting { All (λ states. states ≡ no_states) result.accepting.rows }
+    {
         Routes {
             list: [PackedEdge::BLANK; MOST_FACT_EDGES],
             loops: Loops::NONE,

@@ -237,7 +237,7 @@ module _ (𝓒 : Collection) where
     role-base-to : (R S : SignedRole) → R ∈ signed_roles 𝓒.counts → T (role_base R S) → S ∈ signed_roles 𝓒.counts
     role-base-to R S m h = signed-in 𝓒.counts S (role-declared 𝓒 ok (role-one R S h) (signed-out 𝓒.counts R m))
 
-    role_le-out : (R S : SignedRole) → T (role_le R S) → RoleLe 𝓒 R S
+    pub role_le-out : (R S : SignedRole) → T (role_le R S) → RoleLe 𝓒 R S
     unfolding role_le
     role_le-out R S h = links-role (closed-out same_role (signed_roles 𝓒.counts) role_base role_same.is role-base-to R S h)
 
@@ -290,11 +290,16 @@ module _ (𝓒 : Collection) where
     concept-base-to : (C D : Concept) → C ∈ valid_concepts 𝓒.counts → T (concept_base C D) → D ∈ valid_concepts 𝓒.counts
     concept-base-to C D m h = concept-in 𝓒.counts D (concept-declared 𝓒 ok (concept-one C D h) (concept-out 𝓒.counts C m))
 
+    pub concept_le-out : (C D : Concept) → T (concept_le C D) → ConceptLe 𝓒 C D
+    unfolding concept_le
+    concept_le-out C D h =
+        links-concept (closed-out same_concept (valid_concepts 𝓒.counts) concept_base concept-same.is concept-base-to C D h)
+
     pub concept_le-is : (C D : Concept) → ConceptDeclared 𝓒.counts C → IsTrue (concept_le C D) ↔ ConceptLe 𝓒 C D
     unfolding concept_le
     concept_le-is C D d =
         let concepts = valid_concepts 𝓒.counts in
-        test-of (concept_le C D) (λ h. links-concept (closed-out same_concept concepts concept_base concept-same.is concept-base-to C D h))
+        test-of (concept_le C D) (concept_le-out C D)
         (λ l.
         closed_in same_concept concepts concept_base concept-same.is concept-base-to C D (concept-in 𝓒.counts C d) (concept-links l d))
 

@@ -52,13 +52,20 @@ abbrev pub InversesOrdered : Type 0
 InversesOrdered = (𝓒 : Collection) (R S : SignedRole)
     → RoleLe 𝓒 R S ↔ RoleLe 𝓒 (inverse R) (inverse S)
 
--- a test computes each, from what is declared
+-- a test computes a relation: what it says is so, whatever is declared, and of what is declared it
+-- says all that is so
+pub record Computes {A : Type 0} (IsDeclared : A → Type 0) (f : A → A → Type 0)
+    (test : A → A → Bool) : Type 0 where
+  pub only : (x y : A) → IsTrue (test x y) → f x y
+  pub each : (x y : A) → IsDeclared x → f x y → IsTrue (test x y)
+
+-- there is one for each
 abbrev pub RolesComputed : Type 0
 RolesComputed = (𝓒 : Collection) → NumbersDeclared 𝓒
     → (test : SignedRole → SignedRole → Bool)
-    × ((R S : SignedRole) → SignedDeclared 𝓒.counts R → IsTrue (test R S) ↔ RoleLe 𝓒 R S)
+    × Computes (SignedDeclared 𝓒.counts) (RoleLe 𝓒) test
 
 abbrev pub ConceptsComputed : Type 0
 ConceptsComputed = (𝓒 : Collection) → NumbersDeclared 𝓒
     → (test : Concept → Concept → Bool)
-    × ((C D : Concept) → ConceptDeclared 𝓒.counts C → IsTrue (test C D) ↔ ConceptLe 𝓒 C D)
+    × Computes (ConceptDeclared 𝓒.counts) (ConceptLe 𝓒) test

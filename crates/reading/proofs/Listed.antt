@@ -1,6 +1,6 @@
--- Each refusal has one of the listed numbers, 4 to 15 but never 7, and no line is refused with 15.
-use Rattle.std.specs.Prelude.{ℕ, ◌≤◌, List, Result, Err}
-use Rattle.std.proofs.Common.{arith}
+-- Each refusal has one of the listed numbers, 4 to 15 but never 7, and no other has it; no line is refused with 15.
+use Rattle.std.specs.Prelude.{ℕ, ◌≡◌, refl, ◌-◌, ◌≤◌, List, [], ◌∷◌, Result, Err, get_or}
+use Rattle.std.proofs.Common.{sym, ap, ◌∙◌, arith}
 use Rattle.laws.specs.First.{First, fails, holds}
 use Rattle.frames.specs.declared.Frame.{Frame}
 use Rattle.frames.specs.declared.Misread.{Misread}
@@ -25,6 +25,31 @@ refusals-listed NoExpression = (omega arith, omega arith, λ e. omega arith)
 refusals-listed TooDeep = (omega arith, omega arith, λ e. omega arith)
 refusals-listed AnotherShape = (omega arith, omega arith, λ e. omega arith)
 refusals-listed NotTheSheet = (omega arith, omega arith, λ e. omega arith)
+
+-- the refusal is read back from its number
+named : ℕ → Refusal
+named n =
+    get_or
+    (BadCount ∷ BadTable ∷ BadNumber ∷ OutOfPlace ∷ BadAsk ∷ BadLine ∷ BadFrame ∷ OutOfPlace ∷ NoExpression ∷ TooDeep ∷ AnotherShape ∷ [])
+    (n - 4) NotTheSheet
+
+named-number : (r : Refusal) → named (refusal_number r) ≡ r
+unfolding named
+named-number BadCount = refl
+named-number BadTable = refl
+named-number BadNumber = refl
+named-number BadAsk = refl
+named-number BadLine = refl
+named-number BadFrame = refl
+named-number OutOfPlace = refl
+named-number NoExpression = refl
+named-number TooDeep = refl
+named-number AnotherShape = refl
+named-number NotTheSheet = refl
+
+-- THEOREM: so two refusals with one number are one refusal
+pub refusal-once : (r q : Refusal) → refusal_number r ≡ refusal_number q → r ≡ q
+refusal-once r q e = sym (named-number r) ∙ ap named e ∙ named-number q
 
 -- what a test answers where it is the first to fail is small, and so is what the tests after it answer
 first-small : {P : Type 0} {q : Refusal} {Rest : Result (Unit {0}) Refusal → Type 0} {r : Refusal} → refusal_number q ≤ 14

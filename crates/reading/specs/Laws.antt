@@ -42,6 +42,10 @@ IsListed number = (4 ≤ number) × (number ≤ 15) × (number ≢ 7)
 abbrev pub RefusalsListed : Type 0
 RefusalsListed = (r : Refusal) → IsListed (refusal_number r)
 
+-- two refusals with one number are one refusal
+abbrev pub RefusalOnce : Type 0
+RefusalOnce = (r q : Refusal) → refusal_number r ≡ refusal_number q → r ≡ q
+
 -- and 15 refuses no line by itself
 abbrev pub LinesRefused : Type 0
 LinesRefused = (before : List Frame) (line : List ℕ) (r : Refusal)

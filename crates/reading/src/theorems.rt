@@ -1,6 +1,6 @@
 // Laws of reading a file. The functions here have nothing to do: each clause is a law.
 ghost use Rattle.reading.specs.Laws.{JudgedOnce, FindsOnce, ReadingOnce, ReadsOnce};
-ghost use Rattle.reading.specs.Laws.{RefusalsListed, LinesRefused, ReadingTaken, TakenAccepted, WholeAccepted};
+ghost use Rattle.reading.specs.Laws.{RefusalsListed, RefusalOnce, LinesRefused, ReadingTaken, TakenAccepted, WholeAccepted};
 ghost use Rattle.reading.specs.Laws.{QuestionOnce, LentOnce};
 ghost use Rattle.reading.specs.Laws.{TakenWithin, LinesBounded, StartAlike, StartDecides};
 ghost use Rattle.reading.specs.Laws.{SoundExtends, ListLast, ListOnly, ListCounted, ListBegins, EntryTaken, EntriesHeld};
@@ -23,6 +23,7 @@ pub fn once()
 // What is refused has one of the listed numbers; what is taken, the library does not refuse.
 pub fn accepted()
     ensures listed { RefusalsListed }
+    ensures one_refusal { RefusalOnce }
     ensures lines { LinesRefused }
     ensures reading { ReadingTaken }
     ensures taken { TakenAccepted }

@@ -38,7 +38,10 @@ impl Closing {
     ghost use Rattle.sheet.specs.Telling.{ToldIn};
 
     /// A sheet with no mark, before any round.
-    pub fn new() -> Closing {
+    pub fn new() -> Closing
+        ensures sheet { Blank result.sheet.rows }
+        ensures delta { Blank result.delta.marks.rows }
+    {
         Closing {
             sheet: Marks::none(),
             delta: Delta::none(),

@@ -22,7 +22,9 @@ pub struct Delta {
 }
 
 impl Delta {
-    pub(crate) fn none() -> Delta {
+    pub(crate) fn none() -> Delta
+        ensures { Blank result.marks.rows }
+    {
         Delta {
             marks: Marks::none(),
             many: 0,

@@ -1,7 +1,8 @@
 -- R ≤ S: by its constructors, its inverse, and the test that computes it.
+use Rattle.laws.specs.Search.{passed}
 use Rattle.meaning.specs.Orders.{same, then, rule, turned}
 use Rattle.meaning.proofs.RoleTurned.{inverses-follow}
-use Rattle.meaning.proofs.LiteTests.{role_le, role_le-is}
+use Rattle.meaning.proofs.LiteTests.{role_le, role_le-out, role_le-is}
 use Rattle.meaning.proofs.orders.roles.Goals as goal
 
 pub returns : goal.returns
@@ -13,6 +14,11 @@ returns c = record {
     inverses = λ R S l. turned l;
   };
   inverses = λ 𝓒 R S. inverses-follow 𝓒;
-  roles_computed = λ 𝓒 ok.
-      (role_le 𝓒, role_le-is 𝓒 ok);
+  roles_computed = λ 𝓒 ok. (
+    role_le 𝓒,
+    record {
+      only = λ R S h. role_le-out 𝓒 ok R S (passed (role_le 𝓒 R S) h);
+      each = λ R S d l. (role_le-is 𝓒 ok R S d).1 l;
+    },
+  );
 }
