@@ -7,4 +7,4 @@ pub mod theorems;
 mod transposed;
 
 pub use concepts::{ConceptOrder, ConceptRelation, mark_pairs};
-pub use roles::RoleOrder;
+pub use roles::{RoleOrder, close_roles};

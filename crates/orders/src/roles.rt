@@ -106,6 +106,18 @@ fn close(m: RoleMatrix, sides: Sides) -> RoleMatrix
     out
 }
 
+/// The smallest reflexive and transitive relation that holds m, whatever it marks.
+pub fn close_roles(m: RoleMatrix) -> RoleMatrix
+    ensures { Closes role_width (mark m) (mark result) }
+{
+    let every = RoleSet(u64::MAX);
+    let sides = Sides {
+        left: every,
+        right: every,
+    };
+    close(m, sides)
+}
+
 // The mark of one pair; a pair with a number out of range is passed over.
 #[tactic(auto, using(crate::proofs::MarkLaws::marks))]
 fn mark_pair(m: &mut RoleMatrix, left: SignedRole, right: SignedRole)
