@@ -116,7 +116,8 @@ module _ (c : Counts) (t : Tables) (fit : CountsFit c) (ok : NumbersDeclared (co
       → ModelEdge (collection c t) (individual a) S (individual b)
   fact→edge a b S h f =
       let e : f.edge.to ≡ individual b = ap individual f.to in
-      rw e at (made-means c t (individual a) f.edge f.has S ((role-le f.edge.role.0 S (made-role t.role-facts many a f.edge f.has) h).0 f.follows))
+      let row = made-role t.role-facts many a f.edge f.has in
+      rw e at (made-means c t (individual a) f.edge f.has S ((role-le f.edge.role.0 S row h).0 f.follows))
 
   edge→fact : (a b : Individual) (S : SignedRole) → SignedDeclared c S → ModelEdge (collection c t) a S b → AnyPairHas a.0 b.0 S.0
   edge→fact a b S h e =

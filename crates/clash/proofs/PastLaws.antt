@@ -214,8 +214,12 @@ module _ (table facts : List ℕ) (among : ℕ) (roles : ℕ → ℕ → Bool) (
   pub facts_start : Tried table roles (HasMade facts 0 among a) (replicate most_individuals no_roles)
   facts_start = tried_start table roles (HasMade facts 0 among a) (none_made facts among a)
 
-  pub facts_end : (k : ℕ) (met : List RoleSet) → length facts / role_fact_width ≤ k → Tried table roles (HasMade facts k among a) met
+  -- how many whole records the table has
+  abbrev many : ℕ
+  many = length facts / role_fact_width
+
+  pub facts_end : (k : ℕ) (met : List RoleSet) → many ≤ k → Tried table roles (HasMade facts k among a) met
       → PairClashes table (HasAny facts among) roles a → ⊥
   facts_end k met l t =
-      tried_end table roles (HasAny facts among) a (HasMade facts k among a) met (λ e h. made-to facts (length facts / role_fact_width) a e h.is)
-      (later facts among a (length facts / role_fact_width) k l) t
+      tried_end table roles (HasAny facts among) a (HasMade facts k among a) met (λ e h. made-to facts many a e h.is)
+      (later facts among a many k l) t

@@ -197,6 +197,16 @@ module _ (table facts : List ℕ) (among : ℕ) (roles : ℕ → ℕ → Bool) (
     is : HasEdge facts among a edge
     is = made edge (Contains-push given edge)
 
+    role : edge.role.0 < role_width
+    role = edge-role facts a edge is.is
+
+    -- the edges that were given, and those with this one
+    abbrev Given : FactEdge → Type 0
+    Given = Contains given
+
+    abbrev WithThis : FactEdge → Type 0
+    WithThis = Contains (given ++ edge ∷ [])
+
     kept : (e : FactEdge) → Contains given e → Contains (given ++ edge ∷ []) e
     kept e m = Contains-append_left given (edge ∷ []) e m
 
@@ -209,11 +219,11 @@ module _ (table facts : List ℕ) (among : ℕ) (roles : ℕ → ℕ → Bool) (
 
     pub listed_here : AreMet (excluded edge.role.0) (role_marks new edge.to.0) → PairClashes table (HasEdge facts among) roles a
     listed_here m =
-        tried_here table roles ⊤ (Contains given) (Contains (given ++ edge ∷ [])) edge met new excluded t c (edge-role facts a edge is.is) kept
+        tried_here table roles ⊤ Given WithThis edge met new excluded t c role kept
         (λ o. Contains-push given edge) from always (HasEdge facts among) a made (edge-to facts a edge is.is) (record { on = tt; are = m })
 
     pub listed_more : length new ≡ most_individuals → (AreMet (excluded edge.role.0) (role_marks new edge.to.0) → ⊥)
         → Tried table roles (Contains (given ++ edge ∷ [])) new
     listed_more l never =
-        tried_more table roles ⊤ (Contains given) (Contains (given ++ edge ∷ [])) edge met new excluded t c (edge-role facts a edge is.is) kept
+        tried_more table roles ⊤ Given WithThis edge met new excluded t c role kept
         (λ o. Contains-push given edge) from always l (λ m. never m.are)
